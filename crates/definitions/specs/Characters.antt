@@ -1,0 +1,37 @@
+-- Classes of characters, by their code points.
+use Rattle.std.specs.Prelude.{ℕ, Bool, false, ◌&&◌, ◌||◌, ◌==◌, nat_le, List, [], ◌∷◌}
+use Rattle.std.specs.List.{list_all}
+
+-- the code point lies between these two, both included
+abbrev pub is_between : ℕ → ℕ → ℕ → Bool
+is_between low high c = nat_le low c && nat_le c high
+
+-- XML 1.0, 2.3 S: space, tab or line feed (line ends have become line feeds)
+abbrev pub is_blank : ℕ → Bool
+is_blank c = c == 32 || (c == 9 || c == 10)
+
+-- XML 1.0, 2.2 Char, without the carriage return that the handling of line ends takes away
+abbrev pub is_character : ℕ → Bool
+is_character c = (c == 9 || c == 10) || (is_between 32 0xd7ff c || (is_between 0xe000 0xfffd c || is_between 0x10000 0x10ffff c))
+
+abbrev pub is_digit : ℕ → Bool
+is_digit c = is_between 48 57 c
+
+abbrev pub is_lower_letter : ℕ → Bool
+is_lower_letter c = is_between 97 122 c
+
+abbrev pub is_letter : ℕ → Bool
+is_letter c = is_lower_letter c || is_between 65 90 c
+
+-- our own, wider than XML 1.0, 2.3 NameStartChar: an ASCII letter, `_`, `:` or a character from U+0080
+abbrev pub is_name_start : ℕ → Bool
+is_name_start c = (is_letter c || (c == 95 || c == 58)) || (nat_le 128 c && is_character c)
+
+-- our own, wider than XML 1.0, 2.3 NameChar: also a digit, `-` or `.`
+abbrev pub is_name_character : ℕ → Bool
+is_name_character c = is_name_start c || (is_digit c || (c == 45 || c == 46))
+
+-- XML 1.0, 2.3 Name
+abbrev pub is_name : List ℕ → Bool
+is_name [] = false
+is_name (first ∷ rest) = is_name_start first && list_all is_name_character rest

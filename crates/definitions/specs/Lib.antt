@@ -1,0 +1,6 @@
+pub mod Characters
+pub mod Documents
+pub mod Dump
+pub mod Items
+pub mod Nodes
+pub mod Thin
