@@ -1,8 +1,8 @@
 -- Rows that fit are the rows of the forest that they spell.
-use Rattle.std.proofs.Common.{◌≡◌, ℕ, zero, suc, ◌+◌, ◌-◌, ◌<◌, ◌≤◌, ◌⊎◌, inl, inr, List, [], ◌∷◌, ◌++◌, length, get_or, length-append, refl, ◌∙◌, sym, ap, subst, append-nil, zero-add, arith}
+use Rattle.std.proofs.Common.{◌≡◌, ℕ, zero, suc, ◌+◌, ◌<◌, ◌≤◌, ◌⊎◌, inl, inr, List, [], ◌∷◌, ◌++◌, length, length-append, refl, ◌∙◌, sym, ap, subst, append-nil, zero-add, arith}
 use Rattle.std.specs.Prelude.{IsTrue}
 use Rattle.std.proofs.lemmas.Bool.Decides.{nat_tests}
-use Rattle.forest.specs.Forest.{Forest, Empty, Tree}
+use Rattle.forest.specs.Forest.{Forest, Empty}
 use Rattle.plain_types.specs.Building.{accepts_node, is_whole, depth_after, Fits, bound_after, AreDeep, HasOneRoot, IsSoundNode, AreSoundNodes, IsBuilding}
 use Rattle.plain_types.specs.Rows.{row, rows, at_depth, put, waiting, forest_of, IsSpelled}
 use Rattle.plain_types.specs.Tree.{HasDistinctNames, AreSound, IsOne}

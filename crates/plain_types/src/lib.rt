@@ -1,14 +1,42 @@
 //! The plain types that every crate shares, each with a copy that equals its source.
+//!
+//! - Texts, lists and paths, which contracts see as lists (`text`, `list`, `path`), the answer for want
+//!   of memory (`memory`), and copies (`duplicate`).
+//! - Documents: nodes with their attributes (`node`, `attr`), and trees of them with their builder
+//!   (`tree`, `tree_builder`). A tree is seen as the forest of its root, `specs/Tree.antt`; code walks
+//!   it in tree order, `specs/Rows.antt`.
+//! - Style sheets as they are read (`selector`, `declaration`, `counter_style`, `sheet`), and styles as
+//!   the cascade makes them (`style`, `content`), in the terms of the CSS modules.
+//! - Counters and boxes (`count`, `counter`, `box_id`, `box_kind`), and edits (`edit`).
+//!
+//! ```text
+//! let mut builder = TreeBuilder::new(alloc);
+//! builder.start(Text::from_str(alloc, "ol")?, List::new(alloc))?;
+//! builder.end();
+//! let tree = builder.finish();    // the tree of `<ol/>`
+//! ```
 #![tactic(auto)]
 
 pub mod attr;
+pub mod box_id;
 pub mod box_kind;
+pub mod content;
+pub mod count;
+pub mod counter;
+pub mod counter_style;
+pub mod declaration;
 pub mod duplicate;
+pub mod edit;
 pub mod list;
 pub mod memory;
 pub mod node;
 pub mod path;
 pub mod row;
+pub mod selector;
+pub mod selector_parts;
+pub mod sheet;
+pub mod style;
+pub mod style_ref;
 pub mod text;
 pub mod tree;
 pub mod tree_builder;

@@ -1,0 +1,162 @@
+//! Computed styles, as far as generated texts need them.
+
+use crate::content::Content;
+use crate::count::Count;
+use crate::duplicate::Duplicate;
+use crate::list::List;
+use crate::memory::Memory;
+use crate::style_ref::StyleRef;
+use crate::text::Text;
+use std::alloc::Global;
+
+/// The value of `display` (CSS Display 3, 2): `none`, `list-item`, or any other.
+#[derive(Clone, Copy, Debug, PartialEq, Eq)]
+pub enum Display {
+    /// `none`.
+    Absent,
+    ListItem,
+    Plain,
+}
+
+impl Duplicate for Display {
+    fn duplicate(&self, _alloc: Global) -> Result<Display, Memory> {
+        Ok(*self)
+    }
+}
+
+/// The value of `list-style-type` (CSS Lists 3, 3.3): a string, or a counter style.
+#[derive(Drop)]
+pub enum ListType {
+    Chars(Text),
+    Style(StyleRef),
+}
+
+impl Duplicate for ListType {
+    fn duplicate(&self, alloc: Global) -> Result<ListType, Memory> {
+        match self {
+            ListType::Chars(text) => Ok(ListType::Chars(text.duplicate(alloc)?)),
+            ListType::Style(style) => Ok(ListType::Style(style.duplicate(alloc)?)),
+        }
+    }
+}
+
+/// A pair of quotation marks.
+#[derive(Drop)]
+pub struct Pair {
+    pub left: Text,
+    pub right: Text,
+}
+
+impl Duplicate for Pair {
+    fn duplicate(&self, alloc: Global) -> Result<Pair, Memory> {
+        Ok(Pair {
+            left: self.left.duplicate(alloc)?,
+            right: self.right.duplicate(alloc)?,
+        })
+    }
+}
+
+/// The value of `quotes` (CSS Generated Content 3, 3.1).
+#[derive(Drop)]
+pub enum Quotes {
+    /// `none`.
+    Nothing,
+    Auto,
+    /// From the outermost in.
+    Pairs(List<Pair>),
+}
+
+impl Duplicate for Quotes {
+    fn duplicate(&self, alloc: Global) -> Result<Quotes, Memory> {
+        match self {
+            Quotes::Nothing => Ok(Quotes::Nothing),
+            Quotes::Auto => Ok(Quotes::Auto),
+            Quotes::Pairs(pairs) => Ok(Quotes::Pairs(pairs.duplicate(alloc)?)),
+        }
+    }
+}
+
+/// An entry of `counter-reset` (CSS Lists 3, 4.1). A reversed counter may have no value: it then starts so
+/// that it counts down to 1.
+#[derive(Drop)]
+pub struct ResetOp {
+    pub name: Text,
+    pub reversed: bool,
+    pub value: Option<Count>,
+}
+
+impl Duplicate for ResetOp {
+    fn duplicate(&self, alloc: Global) -> Result<ResetOp, Memory> {
+        Ok(ResetOp {
+            name: self.name.duplicate(alloc)?,
+            reversed: self.reversed,
+            value: self.value,
+        })
+    }
+}
+
+/// An entry of `counter-increment` or `counter-set` (CSS Lists 3, 4.2).
+#[derive(Drop)]
+pub struct CounterOp {
+    pub name: Text,
+    pub value: Count,
+}
+
+impl Duplicate for CounterOp {
+    fn duplicate(&self, alloc: Global) -> Result<CounterOp, Memory> {
+        Ok(CounterOp {
+            name: self.name.duplicate(alloc)?,
+            value: self.value,
+        })
+    }
+}
+
+/// The properties that make generated texts, of an element or of one of its pseudo-elements.
+#[derive(Drop)]
+pub struct Style {
+    pub display: Display,
+    pub content: Content,
+    /// `counter-reset`.
+    pub resets: List<ResetOp>,
+    /// `counter-increment`.
+    pub increments: List<CounterOp>,
+    /// `counter-set`.
+    pub assigns: List<CounterOp>,
+    /// `list-style-type`.
+    pub list_type: ListType,
+    pub quotes: Quotes,
+}
+
+impl Duplicate for Style {
+    fn duplicate(&self, alloc: Global) -> Result<Style, Memory> {
+        Ok(Style {
+            display: self.display,
+            content: self.content.duplicate(alloc)?,
+            resets: self.resets.duplicate(alloc)?,
+            increments: self.increments.duplicate(alloc)?,
+            assigns: self.assigns.duplicate(alloc)?,
+            list_type: self.list_type.duplicate(alloc)?,
+            quotes: self.quotes.duplicate(alloc)?,
+        })
+    }
+}
+
+/// The styles of an element and of its pseudo-elements `::marker`, `::before` and `::after`.
+#[derive(Drop)]
+pub struct ElementStyle {
+    pub own: Style,
+    pub marker: Style,
+    pub before: Style,
+    pub after: Style,
+}
+
+impl Duplicate for ElementStyle {
+    fn duplicate(&self, alloc: Global) -> Result<ElementStyle, Memory> {
+        Ok(ElementStyle {
+            own: self.own.duplicate(alloc)?,
+            marker: self.marker.duplicate(alloc)?,
+            before: self.before.duplicate(alloc)?,
+            after: self.after.duplicate(alloc)?,
+        })
+    }
+}
