@@ -1,0 +1,5 @@
+pub mod CauseLemmas
+pub mod GrownLemmas
+mod FetchLemmas
+mod NameLemmas
+mod PutLemmas

@@ -1,0 +1,5 @@
+pub mod Causes
+pub mod Devices
+pub mod Fetches
+pub mod Files
+pub mod Grown

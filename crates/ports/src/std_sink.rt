@@ -1,0 +1,42 @@
+//! A writer of the system.
+
+use crate::failed::Failed;
+use crate::sink::Sink;
+use std::io::Write;
+
+/// A writer, as standard output or standard error. It tells nothing of what was written.
+#[derive(Drop)]
+pub struct StdSink<W> {
+    inner: W,
+    faults: u64,
+}
+
+impl<W: Write> StdSink<W> {
+    /// A sink that writes to this writer.
+    pub fn new(inner: W) -> StdSink<W> {
+        StdSink { inner, faults: 0 }
+    }
+}
+
+impl<W: Write> Sink for StdSink<W> {
+    ghost use Rattle.std.specs.Prelude.{None};
+
+    ghost out = { λ sink. None };
+
+    ghost faults = { λ sink. sink.faults };
+
+    fn put(&mut self, bytes: &[u8]) -> Result<usize, Failed> {
+        match self.inner.write(bytes) {
+            Ok(count) => {
+                if count == 0 && !bytes.is_empty() {
+                    self.faults = self.faults.saturating_add(1);
+                }
+                Ok(count)
+            }
+            Err(_) => {
+                self.faults = self.faults.saturating_add(1);
+                Err(Failed)
+            }
+        }
+    }
+}
