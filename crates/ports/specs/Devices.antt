@@ -1,4 +1,4 @@
--- What contracts see of the shelves and sinks in memory. A call has a number, from 0 on.
+-- What contracts see of the shelves and sinks. A call has a number, from 0 on.
 use Rattle.std.specs.Prelude.{ℕ, List}
 use Rattle.ports.specs.declared.named_file.NamedFile.{NamedFile}
 
@@ -36,3 +36,8 @@ pub record FixedBytes : Type 0 where
   pub bytes : List ℕ
   pub room : ℕ
   pub faults : ℕ
+
+-- of a `FileShelf`: how many calls failed, and how many bytes were answered
+pub record ReadCounts : Type 0 where
+  pub faults : ℕ
+  pub taken : ℕ

@@ -1,11 +1,12 @@
 //! The files of the system.
 
-ghost use Rattle.std.specs.Prelude.{◌≤◌, length, IfOk};
+ghost use Rattle.std.specs.Prelude.{◌≡◌, ◌≤◌, length, IfOk};
 
 use crate::failed::Failed;
 use crate::shelf::Shelf;
 use std::fs;
 use std::io::{self, Read, Seek, SeekFrom};
+use std::marker::Model;
 use std::rt::Files;
 
 /// The files of the system, by their paths. It tells nothing of them: what they hold, and whether they
@@ -17,9 +18,20 @@ pub struct FileShelf<'a, R> {
     taken: u64,
 }
 
+impl<'a, R> Model for FileShelf<'a, R> {
+    ghost use Rattle.ports.specs.Devices.{ReadCounts};
+
+    ghost Value = { ReadCounts };
+
+    ghost view = { λ s. record { faults = s.faults; taken = s.taken } };
+}
+
 impl<'a, R: Files> FileShelf<'a, R> {
     /// A shelf that reads with this runtime.
-    pub fn new(rt: &'a R) -> FileShelf<'a, R> {
+    pub fn new(rt: &'a R) -> FileShelf<'a, R>
+        ensures faults { result.faults ≡ 0 }
+        ensures taken { result.taken ≡ 0 }
+    {
         FileShelf {
             rt,
             faults: 0,

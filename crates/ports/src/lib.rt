@@ -42,7 +42,9 @@ pub mod honest_shelf;
 pub mod memory_shelf;
 pub mod memory_sink;
 pub mod named_file;
-pub mod room;
+mod room;
 pub mod shelf;
 pub mod sink;
 pub mod std_sink;
+#[cfg(test)]
+mod tests;

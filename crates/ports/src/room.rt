@@ -8,7 +8,7 @@ use std::marker::Model;
 
 /// Bytes in a room of fixed size, which is taken when it is made.
 #[derive(Drop)]
-pub struct Room {
+pub(crate) struct Room {
     bytes: Vec<u8>,
     used: usize,
 }
@@ -26,7 +26,7 @@ impl Model for Room {
 
 impl Room {
     /// A room for so many bytes that holds none yet. It takes memory of that size.
-    pub fn new(alloc: Global, size: usize) -> Result<Room, Memory>
+    pub(crate) fn new(alloc: Global, size: usize) -> Result<Room, Memory>
         ensures empty { IfOk result (λ room. room.bytes ≡ []) }
         ensures size { IfOk result (λ room. room.size ≡ size) }
     {
@@ -37,7 +37,7 @@ impl Room {
     }
 
     /// What it holds.
-    pub fn bytes(&self) -> &[u8]
+    pub(crate) fn bytes(&self) -> &[u8]
         ensures bytes { result.now ≡ self.now.bytes }
         ensures fit { length result.now ≤ self.now.size }
     {
@@ -45,7 +45,7 @@ impl Room {
     }
 
     /// Appends a front of the bytes, as long as fits, and answers its length.
-    pub fn append(&mut self, bytes: &[u8]) -> usize
+    pub(crate) fn append(&mut self, bytes: &[u8]) -> usize
         ensures count { result ≡ min (length bytes.now) (self.old.size - length self.old.bytes) }
         ensures bytes { self.new.bytes ≡ self.old.bytes ++ take result bytes.now }
         ensures size { self.new.size ≡ self.old.size }

@@ -1,19 +1,33 @@
 //! A writer of the system.
 
+ghost use Rattle.std.specs.Prelude.{◌≡◌};
+
 use crate::failed::Failed;
 use crate::sink::Sink;
 use std::io::Write;
+use std::marker::Model;
 
-/// A writer, as standard output or standard error. It tells nothing of what was written.
+/// A writer, as standard output or standard error. It tells nothing of what was written: contracts see
+/// how many calls failed.
 #[derive(Drop)]
 pub struct StdSink<W> {
     inner: W,
     faults: u64,
 }
 
+impl<W> Model for StdSink<W> {
+    ghost use Rattle.std.specs.Prelude.{ℕ};
+
+    ghost Value = { ℕ };
+
+    ghost view = { λ sink. sink.faults };
+}
+
 impl<W: Write> StdSink<W> {
     /// A sink that writes to this writer.
-    pub fn new(inner: W) -> StdSink<W> {
+    pub fn new(inner: W) -> StdSink<W>
+        ensures faults { result ≡ 0 }
+    {
         StdSink { inner, faults: 0 }
     }
 }
@@ -23,7 +37,7 @@ impl<W: Write> Sink for StdSink<W> {
 
     ghost out = { λ sink. None };
 
-    ghost faults = { λ sink. sink.faults };
+    ghost faults = { λ sink. sink };
 
     fn put(&mut self, bytes: &[u8]) -> Result<usize, Failed> {
         match self.inner.write(bytes) {
