@@ -1,8 +1,8 @@
 //! A whole file.
 
-ghost use Rattle.std.specs.Prelude.{◌≡◌, ◌≤◌, IfSome, IsErrOf};
+ghost use Rattle.std.specs.Prelude.{◌≡◌, ◌≤◌, length, IfOk, IfSome, IsErrOf};
 ghost use Rattle.std.specs.Str.{chars};
-ghost use Rattle.ports.specs.Causes.{Rose, RoseAbove};
+ghost use Rattle.ports.specs.Causes.{Raises, Rose, RoseAbove};
 ghost use Rattle.ports.specs.Fetches.{Fetches};
 ghost use Rattle.ports.specs.declared.fetch.FetchFault.TheVariants as fault;
 
@@ -46,6 +46,7 @@ impl From<Failed> for FetchFault {
 /// and memory linear in them. After a fault the shelf is as the reads so far left it.
 pub fn fetch<S: Shelf>(alloc: Global, shelf: &mut S, name: &str) -> Result<List<u8>, FetchFault>
     ensures told { IfSome (S.held shelf.old) (λ files. Fetches (S.honest shelf.old) (files (chars name.now)) result) }
+    ensures came { IfOk result (λ bytes. Raises (S.taken shelf.old) (S.taken shelf.new) (length bytes)) }
     ensures failed { IsErrOf result fault.Failed → Rose (S.faults shelf.old) (S.faults shelf.new) }
     ensures large { IsErrOf result fault.TooLarge → RoseAbove 16777216 (S.taken shelf.old) (S.taken shelf.new) }
     ensures faults { S.faults shelf.old ≤ S.faults shelf.new }

@@ -1,6 +1,8 @@
 //! The files of the system.
 
-ghost use Rattle.std.specs.Prelude.{◌≡◌, ◌≤◌, length, IfOk};
+ghost use Rattle.std.specs.Prelude.{◌≡◌, ◌≤◌, length, IfOk, OnOk, OnErr};
+ghost use Rattle.ports.specs.Causes.{HasCause, Raises, one_more};
+ghost use Rattle.ports.specs.Files.{answered};
 
 use crate::failed::Failed;
 use crate::shelf::Shelf;
@@ -63,7 +65,15 @@ impl<R: Files> Shelf for FileShelf<'_, R> {
 
     ghost tells = { Prim.search rules };
 
-    fn read_at(&mut self, name: &str, at: u64, buf: &mut [u8]) -> Result<usize, Failed> {
+    fn read_at(&mut self, name: &str, at: u64, buf: &mut [u8]) -> Result<usize, Failed>
+        ensures bound { IfOk result (λ count. count ≤ length buf.new) }
+        ensures taken { Raises self.old.taken self.new.taken (answered result) }
+        ensures cause { HasCause self.old.faults self.new.faults result }
+
+        // Beyond the trait: the count rises at each failed call, and at no other.
+        ensures no_fault { OnOk result (self.new.faults ≡ self.old.faults) }
+        ensures fault { OnErr result (self.new.faults ≡ one_more self.old.faults) }
+    {
         match read_file(self.rt, name, at, buf) {
             Ok(count) => {
                 self.taken = self.taken.saturating_add(count as u64);

@@ -1,6 +1,7 @@
 //! A writer of the system.
 
-ghost use Rattle.std.specs.Prelude.{◌≡◌};
+ghost use Rattle.std.specs.Prelude.{◌≡◌, ◌⊎◌, ◌≤◌, ◌<◌, length, IfOk, OnErr};
+ghost use Rattle.ports.specs.Causes.{HasCause, one_more};
 
 use crate::failed::Failed;
 use crate::sink::Sink;
@@ -39,7 +40,16 @@ impl<W: Write> Sink for StdSink<W> {
 
     ghost faults = { λ sink. sink };
 
-    fn put(&mut self, bytes: &[u8]) -> Result<usize, Failed> {
+    fn put(&mut self, bytes: &[u8]) -> Result<usize, Failed>
+        ensures bound { IfOk result (λ count. count ≤ length bytes.now) }
+        ensures cause { HasCause self.old self.new result }
+
+        // Beyond the trait: the count rises at each failed call, at an answer 0 for a piece that isn't
+        // empty, and at no other call.
+        ensures fault { OnErr result (self.new ≡ one_more self.old) }
+        ensures stuck { IfOk result (λ count. count ≡ 0 → 0 < length bytes.now → self.new ≡ one_more self.old) }
+        ensures no_fault { IfOk result (λ count. 0 < count ⊎ (length bytes.now ≡ 0) → self.new ≡ self.old) }
+    {
         match self.inner.write(bytes) {
             Ok(count) => {
                 if count == 0 && !bytes.is_empty() {
