@@ -1,5 +1,6 @@
 pub mod CauseLemmas
 pub mod GrownLemmas
+pub mod PieceLemmas
 mod FetchLemmas
 mod NameLemmas
 mod PutLemmas
