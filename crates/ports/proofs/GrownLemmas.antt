@@ -32,6 +32,11 @@ front_none now bytes = record { front = []; rest = bytes; parts = refl; went_out
 pub front_whole : (before now : Option (List ℕ)) (bytes : List ℕ) → now ≡ grown before bytes → GrowsByFront before now bytes
 front_whole before now bytes written = record { front = bytes; rest = []; parts = append-nil bytes; went_out = written }
 
+-- the same bytes in another form
+pub front_same : {before now : Option (List ℕ)} {bytes others : List ℕ}
+    → bytes ≡ others → GrowsByFront before now bytes → GrowsByFront before now others
+front_same {before} {now} same grows = subst (λ bs. GrowsByFront before now bs) same grows
+
 -- a front of bytes is a front of more bytes
 pub front_more : {now after : Option (List ℕ)} {bytes : List ℕ} (rest : List ℕ)
     → GrowsByFront now after bytes → GrowsByFront now after (bytes ++ rest)

@@ -1,0 +1,4 @@
+pub mod DumpLemmas
+pub mod EncodedLemmas
+mod LineLemmas
+mod RunLemmas
