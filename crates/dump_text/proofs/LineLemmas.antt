@@ -1,5 +1,5 @@
 -- The bytes of the parts of a line.
-use Rattle.std.proofs.Common.{◌≡◌, ◌==◌, ℕ, true, false, append_assoc, List, [], ◌∷◌, ◌++◌, refl, sym, ◌∙◌, ap, encode_utf8_all, lit<, length, arith}
+use Rattle.std.proofs.Common.{◌≡◌, ◌==◌, ℕ, false, append_assoc, List, [], ◌∷◌, ◌++◌, refl, sym, ◌∙◌, ap, encode_utf8_all, lit<, length}
 use Rattle.std.proofs.lemmas.Str.{encode_ascii, encodes-append, encodes-IsAscii}
 use Rattle.std.proofs.Math.Utf8.{encode}
 use Rattle.std.specs.Fmt.{decimal}

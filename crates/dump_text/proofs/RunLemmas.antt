@@ -1,5 +1,5 @@
 -- Runs of bytes between two escapes.
-use Rattle.std.proofs.Common.{◌≡◌, ℕ, ◌+◌, ◌-◌, ◌<◌, ◌≤◌, true, false, List, [], ◌∷◌, ◌++◌, length, get_or, take, drop, sym, ◌∙◌, ap, append-nil, append_assoc, cond, arith, refl, get_or-drop, length-drop, take_all}
+use Rattle.std.proofs.Common.{◌≡◌, ℕ, ◌+◌, ◌-◌, ◌<◌, ◌≤◌, true, false, List, [], ◌∷◌, ◌++◌, length, get_or, take, drop, sym, ◌∙◌, ap, append-nil, append_assoc, cond, arith, get_or-drop, length-drop, take_all}
 use Rattle.std.proofs.lemmas.List.{take_more, get_or_default}
 use Rattle.std.specs.List.{flat_map}
 use Rattle.definitions.specs.Dump.{escape, is_escaped, shown}

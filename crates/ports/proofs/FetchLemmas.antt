@@ -1,7 +1,6 @@
-use Rattle.std.proofs.Common.{◌≡◌, ℕ, ◌+◌, ◌-◌, ◌<◌, ◌≤◌, ◌^◌, min, length, take, drop, take-add, take_all, List, [], ◌++◌, Bool, IsTrue, Option, Result, IfSome, OnErr, refl, sym, ◌∙◌, ap, subst, arith, length-take, length-drop, length-append}
-use Rattle.std.specs.Prelude.{Some, None, Ok, Err}
-use Rattle.ports.specs.Files.{Files, IsRead, Reads}
-use Rattle.ports.specs.Fetches.{Fetches, IsLonger}
+use Rattle.std.proofs.Common.{◌≡◌, ℕ, ◌+◌, ◌≤◌, min, length, take, take-add, List, [], ◌++◌, Option, IfSome, refl, sym, ◌∙◌, ap, arith, length-take, length-append}
+use Rattle.std.specs.Prelude.{Some, None}
+use Rattle.ports.specs.Files.{Files, Reads}
 
 -- these bytes are a front of the file; of no file nothing was read
 abbrev pub HasFront : Option (List ℕ) → List ℕ → Type 0
@@ -23,19 +22,6 @@ front_more (Some file) bytes buffer count front read fits =
           ∙ ap (λ n. take n file) (sym all),
       omega arith,
     )
-
--- the end was read
-pub front_whole : (honest : Bool) (file : Option (List ℕ)) (bytes buffer : List ℕ) (count : ℕ) → HasFront file bytes → Reads file (length bytes) buffer count
-    → count ≡ 0 → 0 < length buffer → length bytes ≤ 16777216 → Fetches honest file (Ok bytes)
-front_whole honest None bytes buffer count front read none some short = absurd read
-front_whole honest (Some file) bytes buffer count front read none some short =
-    (ap Some (sym (front.0 ∙ take_all (length bytes) file (read.end none some))), short)
-
--- too many came
-pub front_longer : (file : Option (List ℕ)) (bytes buffer : List ℕ) (count : ℕ) → HasFront file bytes → Reads file (length bytes) buffer count
-    → length bytes ≤ 16777216 → 16777216 - length bytes < count → IsLonger 16777216 file
-front_longer None bytes buffer count front read short much = absurd read
-front_longer (Some file) bytes buffer count front read short much = let within = read.within in omega arith
 
 -- nothing was read yet
 front_of_none : (file : Option (List ℕ)) → HasFront file []

@@ -1,6 +1,6 @@
 //! Files in memory, where some calls fail.
 
-ghost use Rattle.std.specs.Prelude.{◌≡◌, ◌⊎◌, ◌↔◌, ◌≤◌, length, IsTrue, IfSome, IfOk, OnOk, IsErr, OnErr, None, Contains};
+ghost use Rattle.std.specs.Prelude.{◌≡◌, ◌⊎◌, ◌↔◌, ◌≤◌, length, IfOk, OnOk, IsErr, OnErr, None, Contains};
 ghost use Rattle.std.specs.Str.{chars};
 ghost use Rattle.ports.specs.Causes.{HasCause, Raises, one_more};
 ghost use Rattle.ports.specs.Files.{HasDistinctNames, Reads, answered, look_up};
@@ -50,7 +50,7 @@ impl MemoryShelf {
 }
 
 impl Shelf for MemoryShelf {
-    ghost use Rattle.std.specs.Prelude.{Some, [], ◌==◌, length};
+    ghost use Rattle.std.specs.Prelude.{Some, ◌==◌, length};
     ghost use Rattle.std.proofs.Common.{rules};
     ghost use Rattle.ports.specs.Files.{look_up};
 

@@ -1,8 +1,7 @@
 //! Bytes in memory, where some calls fail.
 
 ghost use Rattle.std.specs.Prelude.{◌≡◌, ◌++◌, ◌⊎◌, ◌↔◌, ◌-◌, ◌≤◌, ◌<◌, [], length, take, min, IfOk, OnOk, IsErr, OnErr, Contains};
-ghost use Rattle.ports.specs.Causes.{HasCause, Rose, one_more};
-ghost use Rattle.ports.specs.Grown.{grown};
+ghost use Rattle.ports.specs.Causes.{HasCause, one_more};
 
 use crate::failed::Failed;
 use crate::room::Room;

@@ -1,4 +1,4 @@
-use Rattle.std.proofs.Common.{◌≡◌, ◌∷◌, [], ◌∙◌, ap, sym, refl, encode_utf8_all, rules, arith}
+use Rattle.std.proofs.Common.{◌∷◌, ◌∙◌, ap, sym, encode_utf8_all, rules, arith}
 use Rattle.std.proofs.lemmas.List.{get_or_default}
 use Rattle.std.specs.Fmt.{decimal}
 use Rattle.ports.specs.Grown.{grown}

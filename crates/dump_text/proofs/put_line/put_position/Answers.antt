@@ -1,4 +1,4 @@
-use Rattle.std.proofs.Common.{◌≡◌, ◌∷◌, [], ◌∙◌, ap, refl, encode_utf8_all}
+use Rattle.std.proofs.Common.{◌∷◌, [], ◌∙◌, ap, refl}
 use Rattle.std.proofs.lemmas.Result.{on_err_weaker, on_ok_weaker}
 use Rattle.ports.specs.Grown.{grown}
 use Rattle.ports.proofs.GrownLemmas.{front_last, front_same, front_step, grown_after, on_err}

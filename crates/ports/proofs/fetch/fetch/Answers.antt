@@ -1,6 +1,5 @@
-use Rattle.std.proofs.Common.{rules, arith, ap, ◌∙◌, length, length-append, length-take, ℕ}
+use Rattle.std.proofs.Common.{rules, arith, ap, length}
 use Rattle.std.specs.Str.{chars}
-use Rattle.ports.specs.Causes.{Raises}
 use Rattle.ports.proofs.CauseLemmas.{raises_none, raises_more}
 use Rattle.ports.proofs.FetchLemmas.{front_none, length_more, told_more}
 use Rattle.ports.proofs.fetch.fetch.Goals as goal

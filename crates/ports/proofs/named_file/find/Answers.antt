@@ -1,4 +1,3 @@
-use Rattle.std.proofs.Common.{rules}
 use Rattle.std.specs.Str.{chars}
 use Rattle.ports.proofs.NameLemmas.{look_found, look_on}
 use Rattle.ports.proofs.named_file.find.Goals as goal

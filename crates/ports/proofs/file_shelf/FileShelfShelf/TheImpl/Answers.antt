@@ -1,4 +1,4 @@
-use Rattle.std.proofs.Common.{ℕ, Result, OnErr, rules}
+use Rattle.std.proofs.Common.{ℕ, Result, rules}
 use Rattle.std.specs.Prelude.{Ok, Err, IfOk}
 use Rattle.ports.proofs.GrownLemmas.{on_err}
 use Rattle.ports.proofs.file_shelf.FileShelfShelf.TheImpl.Goals as goal
