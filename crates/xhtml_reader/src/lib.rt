@@ -1,0 +1,7 @@
+//! Reads documents.
+#![tactic(auto)]
+
+mod open_tree;
+mod plain;
+mod text;
+mod thin;
