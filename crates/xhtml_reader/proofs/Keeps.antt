@@ -200,9 +200,9 @@ closed_rows all f frames here keeps = rows_here all (f ∷ frames) here keeps �
     regroup =
         append_assoc (rows_before frames) (rows (length frames) f.before ++ row (length frames) (Element f.name f.attrs) ∷ []) (rows (length (f ∷ frames)) here)
         ∙ ap (λ (t : List Row). rows_before frames ++ t)
-            (append_assoc (rows (length frames) f.before) (row (length frames) (Element f.name f.attrs) ∷ []) (rows (length (f ∷ frames)) here)
-            ∙ ap (λ (d : ℕ). rows (length frames) f.before ++ row (length frames) (Element f.name f.attrs) ∷ rows d here) deep
-            ∙ sym (rows-then_tree (length frames) f.before (Element f.name f.attrs) here))
+        (append_assoc (rows (length frames) f.before) (row (length frames) (Element f.name f.attrs) ∷ []) (rows (length (f ∷ frames)) here)
+        ∙ ap (λ (d : ℕ). rows (length frames) f.before ++ row (length frames) (Element f.name f.attrs) ∷ rows d here) deep
+        ∙ sym (rows-then_tree (length frames) f.before (Element f.name f.attrs) here))
 
 closed_keeps : (built : Building) (names : List (List ℕ)) (frames : List Frame) (nodes : Forest Node) → names ≡ names_of frames → built ≡ built_of (rows_before frames ++ rows (length frames) nodes) (length frames)
     → ends_in_text nodes ≡ false → nodes ≢ Empty → Keeps (kept_of built names) (closed_in frames nodes)
@@ -222,8 +222,7 @@ added_end all (inside f frames here) name front keeps e names =
     let inside_was : all.built.inside ≡ length (f ∷ frames) = ap (λ (built : Building). built.inside) keeps.built_is in
     let inside_now : all.built.inside - 1 ≡ length frames = omega arith in
     let built_now : record (with_text all.built all.waiting) { inside = all.built.inside - 1 } ≡ built_of (rows_before frames ++ rows (length frames) (then_element f.before f.name f.attrs here)) (length frames)
-        = (λ i. built_of (closed_rows all f frames here keeps i).rows (inside_now i)) in
-    (
+    = (λ i. built_of (closed_rows all f frames here keeps i).rows (inside_now i)) in (
       closed_in frames (then_element f.before f.name f.attrs here),
       rw equal refl,
       closed_keeps _ front frames (then_element f.before f.name f.attrs here) last.0 built_now (no_text_after f.before f.name f.attrs here) (not_empty_after f.before (Element f.name f.attrs) here),

@@ -10,3 +10,4 @@ pub mod Keeps
 pub mod Advances
 pub mod Words
 pub mod ThinTrees
+pub mod Progress

@@ -132,7 +132,11 @@ impl<'a> OpenTree<'a> {
 
     /// Adds what the text goes on with, a tag or characters, if it may come now, and gives the text
     /// after it.
-    pub(crate) fn advance(&mut self, alloc: Global, text: &'a str) -> Result<Option<&'a str>, Memory>
+    pub(crate) fn advance(
+        &mut self,
+        alloc: Global,
+        text: &'a str,
+    ) -> Result<Option<&'a str>, Memory>
         ensures advances { IfOk result (λ after. Advances thin_document (kept self.old) (chars text.now) (chars_of after) (kept self.new)) }
         ensures shorter { IfOk result (λ after. IfSome after (λ rest. length (chars rest.now) < length (chars text.now))) }
         ensures text { IfOk result (λ after. IfSome after (λ rest. IsUtf8 rest.now)) }

@@ -61,7 +61,11 @@ fn past<'a>(wanted: char, tag: Tag<'a>, text: &'a str) -> Option<(Tag<'a>, &'a s
     ensures text { IfSome result (λ read. IsUtf8 read.1.now) }
 {
     let (c, after) = first_char(text)?;
-    if c == wanted { Some((tag, after)) } else { None }
+    if c == wanted {
+        Some((tag, after))
+    } else {
+        None
+    }
 }
 
 fn after_name<'a>(name: &'a str, text: &'a str) -> Option<(Tag<'a>, &'a str)>
