@@ -1,5 +1,5 @@
 -- What the text goes on with.
-use Rattle.std.proofs.Common.{◌≡◌, ◌≢◌, ℕ, ◌+◌, ◌<◌, Bool, true, false, cond, eqb, List, [], ◌∷◌, ◌++◌, length, map, ◌⊎◌, inl, inr, Option, Some, None, refl, sym, ap, subst, ◌∙◌, arith}
+use Rattle.std.proofs.Common.{◌≡◌, ◌≢◌, ℕ, ◌<◌, Bool, true, false, eqb, List, [], ◌∷◌, ◌++◌, length, map, inl, inr, Some, refl, ap, subst, ◌∙◌, arith}
 use Rattle.std.specs.List.{list_all}
 use Rattle.std.specs.Str.{chars}
 use Rattle.std.proofs.lemmas.Bool.{and_parts, cases_Bool}
@@ -8,7 +8,7 @@ use Rattle.definitions.specs.Items.{Item, ArePieces, plain_character}
 use Rattle.definitions.specs.Thin.{SpellsPlainly, is_plain}
 use Rattle.xhtml_reader.specs.Keeping.{Kept, Keeps, Adds, AddsCharacters, Leads, Stops}
 use Rattle.xhtml_reader.specs.Lexing.{span, item_at, markup_at}
-use Rattle.xhtml_reader.specs.Machine.{Kind, State, some_state, step, run}
+use Rattle.xhtml_reader.specs.Machine.{Kind, State}
 use Rattle.xhtml_reader.proofs.PlainItems.{item_again}
 use Rattle.xhtml_reader.proofs.Places.{Leads-one}
 use Rattle.xhtml_reader.proofs.Texts.{empty_chars}

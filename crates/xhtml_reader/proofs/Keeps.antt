@@ -1,5 +1,5 @@
 -- What is kept of a state, when an item is added to both.
-use Rattle.std.proofs.Common.{◌≡◌, ◌≢◌, ℕ, zero, suc, ◌+◌, ◌-◌, ◌<◌, ◌≤◌, Bool, true, false, ◌||◌, ◌&&◌, cond, eqb, nat_lt, IsTrue, List, [], ◌∷◌, ◌++◌, length, map, ◌⊎◌, inl, inr, Option, Some, None, refl, sym, ap, subst, ◌∙◌, append_assoc, append-nil, arith, add-one, not, Bor, take, get_or}
+use Rattle.std.proofs.Common.{◌≡◌, ◌≢◌, ℕ, suc, ◌+◌, ◌-◌, ◌<◌, Bool, true, false, ◌||◌, ◌&&◌, eqb, nat_lt, IsTrue, List, [], ◌∷◌, ◌++◌, length, map, ◌⊎◌, inl, inr, Some, None, refl, sym, ap, subst, ◌∙◌, append_assoc, append-nil, arith, not, Bor, take, get_or}
 use Rattle.std.specs.Str.{chars, encode_utf8_all, bytes_eq, IsUtf8}
 use Rattle.std.proofs.lemmas.Bool.{cases_Bool, and_parts, eqb-true}
 use Rattle.std.proofs.lemmas.Bool.Decides.{nat_tests}
@@ -19,7 +19,6 @@ use Rattle.definitions.specs.Nodes.{then_element, then_characters}
 use Rattle.xhtml_reader.specs.Machine.{Kind, thin_document, Frame, frame, State, at_start, after_doctype, in_text, inside, at_end, some_state, closed_in, step, run}
 use Rattle.xhtml_reader.specs.Keeping.{Kept, built_of, with_text, accepts_element, ends_in_text, names_of, rows_before, text_rows, KeepsInside, Keeps}
 use Rattle.xhtml_reader.proofs.Nodes.{then_characters-append, no_text_after, not_empty_after, rows-then_tree, rows-then_characters}
-use Rattle.xhtml_reader.proofs.Machine.{same_name}
 use Rattle.xhtml_reader.proofs.Texts.{with_no_text}
 
 -- ---- lists

@@ -1,5 +1,5 @@
 -- Trees that grow at their end, and their rows.
-use Rattle.std.proofs.Common.{◌≡◌, ◌≢◌, ℕ, ◌+◌, Bool, true, false, List, [], ◌∷◌, ◌++◌, length, refl, sym, ap, ◌∙◌, append_assoc, append-nil}
+use Rattle.std.proofs.Common.{◌≡◌, ◌≢◌, ℕ, ◌+◌, false, List, [], ◌∷◌, ◌++◌, refl, sym, ap, ◌∙◌, append_assoc, append-nil}
 use Rattle.forest.specs.Forest.{Forest, Empty, Tree, then_tree}
 use Rattle.plain_types.specs.Rows.{row, rows}
 use Rattle.plain_types.specs.declared.attr.Attr.{Attr}

@@ -1,10 +1,9 @@
 -- Where reading stops there is no document, and where it ends there is one.
-use Rattle.std.proofs.Common.{◌≡◌, ◌≢◌, ℕ, ◌+◌, ◌<◌, ◌≤◌, Bool, true, false, List, [], ◌∷◌, ◌++◌, length, ◌⊎◌, inl, inr, Option, Some, None, refl, sym, ap, subst, ◌∙◌, append_assoc, append-nil, arith, IsTrue}
+use Rattle.std.proofs.Common.{◌≡◌, ◌≢◌, ℕ, ◌<◌, ◌≤◌, true, false, List, [], ◌∷◌, ◌++◌, length, ◌⊎◌, inl, inr, Option, Some, None, refl, sym, ap, ◌∙◌, append_assoc, append-nil, arith}
 use Rattle.std.proofs.lemmas.List.{length-append, nil_from_length}
-use Rattle.forest.specs.Forest.{Forest, Empty, Tree}
+use Rattle.forest.specs.Forest.{Forest}
 use Rattle.plain_types.specs.declared.attr.Attr.{Attr}
 use Rattle.plain_types.specs.declared.node.Node.{Node}
-use Rattle.plain_types.specs.declared.node.Node.TheVariants.{Element}
 use Rattle.definitions.specs.Documents.{IsElement, empty_element, whole_element}
 use Rattle.definitions.specs.Items.{Item, ArePieces}
 use Rattle.definitions.specs.Thin.{SpellsPlainly, IsThinDocument, is_thin}

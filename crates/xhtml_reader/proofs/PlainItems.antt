@@ -1,9 +1,9 @@
 -- The first item that reading gives is spelled there, and an item that is spelled there is given.
-use Rattle.std.proofs.Common.{◌≡◌, ℕ, Bool, true, false, cond, not, ◌&&◌, ◌||◌, IsTrue, eqb, List, [], ◌∷◌, ◌++◌, ◌⊎◌, inl, inr, Option, Some, None, refl, sym, ap, subst, ◌∙◌, append_assoc, arith}
+use Rattle.std.proofs.Common.{◌≡◌, ℕ, Bool, true, false, cond, eqb, List, [], ◌∷◌, ◌++◌, inl, inr, Option, Some, None, refl, sym, ap, ◌∙◌, append_assoc, arith}
 use Rattle.std.specs.List.{list_all}
 use Rattle.std.proofs.lemmas.Bool.{and_parts, eqb-true, cases_Bool}
 use Rattle.std.proofs.lemmas.Bool.Decides.{nat_tests}
-use Rattle.definitions.specs.Characters.{is_lower_letter, is_digit}
+use Rattle.definitions.specs.Characters.{is_lower_letter}
 use Rattle.definitions.specs.Items.{Item, doctype, comment, instruction, start_tag, empty_tag, end_tag, reference, section, plain_character}
 use Rattle.definitions.specs.Thin.{is_plain, is_plain_name, SpellsPlainly}
 use Rattle.xhtml_reader.specs.Lexing.{span, goes_on, name_at, past, after_name, start_at, end_at, tag_at, item_at}

@@ -1,5 +1,5 @@
 -- What the loop over a text keeps.
-use Rattle.std.proofs.Common.{◌≡◌, ◌≢◌, ℕ, List, [], ◌∷◌, ◌++◌, Bool, true, false, Option, Some, None, refl, sym, ap, subst, ◌∙◌, append_assoc, append-nil}
+use Rattle.std.proofs.Common.{◌≡◌, ◌≢◌, ℕ, List, [], ◌++◌, true, false, Some, None, refl, sym, ap, subst, ◌∙◌, append_assoc, append-nil}
 use Rattle.forest.specs.Forest.{Forest}
 use Rattle.plain_types.specs.declared.node.Node.{Node}
 use Rattle.definitions.specs.Thin.{IsThinDocument, is_thin}

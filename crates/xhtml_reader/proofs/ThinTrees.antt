@@ -1,5 +1,5 @@
 -- A tree is thin where its rows are.
-use Rattle.std.proofs.Common.{◌≡◌, ◌≢◌, ℕ, suc, ◌+◌, ◌-◌, ◌<◌, ◌≤◌, Bool, true, false, not, ◌&&◌, eqb, List, [], ◌∷◌, ◌++◌, length, take, drop, get_or, refl, sym, ap, subst, ◌∙◌, append_assoc, append-nil, add-one, arith, Bor}
+use Rattle.std.proofs.Common.{◌≡◌, ℕ, suc, ◌+◌, ◌-◌, ◌<◌, ◌≤◌, Bool, true, false, not, ◌&&◌, List, [], ◌∷◌, ◌++◌, length, take, drop, get_or, refl, sym, ap, subst, ◌∙◌, append_assoc, append-nil, add-one, arith, Bor}
 use Rattle.std.specs.Bool.{beq}
 use Rattle.std.specs.Prelude.{codes}
 use Rattle.std.specs.Str.{bytes_eq, chars, encode_utf8_all}
@@ -16,7 +16,7 @@ use Rattle.plain_types.specs.declared.node.Node.TheVariants.{Element, Text}
 use Rattle.plain_types.specs.declared.node.NodeView.{NodeView}
 use Rattle.plain_types.specs.declared.node.NodeView.TheVariants as view
 use Rattle.plain_types.specs.declared.row.Row.{Row}
-use Rattle.definitions.specs.Thin.{is_styled, is_same, may_stand_in, are_thin, is_thin}
+use Rattle.definitions.specs.Thin.{is_same, are_thin, is_thin}
 use Rattle.xhtml_reader.specs.ThinRows.{last_flag, is_ol, is_thin_node, are_thin_rows}
 
 -- ---- flags
@@ -53,6 +53,16 @@ gathered true true d r all rest e f = rw (e, f) refl
 gathered true false d r all rest e f = rw e refl
 gathered false c d r all rest e f = refl
 
+told_with : (parent : List ℕ) (depth : ℕ) (name : List ℕ) (attrs : List Attr) (children after : Forest Node) (flags : List Bool) (rest : List Row) (mid end : List Bool)
+    → last_flag (take depth flags) ≡ bytes_eq parent (codes "ol")
+    → are_thin_rows (take depth flags ++ bytes_eq name (codes "ol") ∷ []) (rows (depth + 1) children ++ (rows depth after ++ rest)) ≡ (are_thin name children && are_thin_rows mid (rows depth after ++ rest))
+    → are_thin_rows mid (rows depth after ++ rest) ≡ (are_thin parent after && are_thin_rows end rest)
+    → are_thin_rows flags (rows depth (Tree (Element name attrs) children after) ++ rest) ≡ (are_thin parent (Tree (Element name attrs) children after) && are_thin_rows end rest)
+told_with parent depth name attrs children after flags rest mid end says inner beside =
+    ap (λ (t : List Row). are_thin_rows flags (row depth (Element name attrs) ∷ t)) (append_assoc (rows (depth + 1) children) (rows depth after) rest)
+    ∙ gathered (is_thin_node (last_flag (take depth flags)) (Element name attrs)) (are_thin name children) (are_thin parent after) (are_thin_rows end rest) _ (are_thin_rows mid (rows depth after ++ rest)) inner beside
+    ∙ ap (λ (in_ol : Bool). (is_thin_node in_ol (Element name attrs) && (are_thin name children && are_thin parent after)) && are_thin_rows end rest) says
+
 -- the flags after the rows of a forest, and what they say of the rows
 record Walked (parent : List ℕ) (depth : ℕ) (forest : Forest Node) (flags : List Bool) (rest : List Row) : Type 0 where
   after : List Bool
@@ -60,41 +70,57 @@ record Walked (parent : List ℕ) (depth : ℕ) (forest : Forest Node) (flags : 
   deep : depth ≤ length after
   told : are_thin_rows flags (rows depth forest ++ rest) ≡ (are_thin parent forest && are_thin_rows after rest)
 
+pushed_long : (above : List Bool) (flag : Bool) → length (above ++ flag ∷ []) ≡ length above + 1
+pushed_long above flag = omega (arith, length-append above (flag ∷ []))
+
+-- what stands above is still there, behind one flag more
+kept_above : (depth : ℕ) (flags after : List Bool) (flag : Bool) → depth ≤ length flags → take (depth + 1) after ≡ take (depth + 1) (take depth flags ++ flag ∷ []) → take depth after ≡ take depth flags
+kept_above depth flags after flag deep same =
+    let long : length (take depth flags) ≡ depth = length-take-le depth flags deep in
+    sym (take-take depth (depth + 1) after (omega arith)) ∙ ap (take depth) same ∙ take-take depth (depth + 1) (take depth flags ++ flag ∷ []) (omega arith)
+    ∙ take-append-le depth (take depth flags) (flag ∷ []) (omega arith) ∙ take_all depth (take depth flags) (omega arith)
+
+last_above : (depth : ℕ) (flags : List Bool) (flag : Bool) → depth ≤ length flags → last_flag (take (depth + 1) (take depth flags ++ flag ∷ [])) ≡ flag
+last_above depth flags flag deep =
+    let long : length (take depth flags) ≡ depth = length-take-le depth flags deep in
+    ap last_flag (take_all (depth + 1) (take depth flags ++ flag ∷ []) (omega (arith, pushed_long (take depth flags) flag))) ∙ last_pushed (take depth flags) flag
+
+deep_above : (depth : ℕ) (flags : List Bool) (flag : Bool) → depth ≤ length flags → depth + 1 ≤ length (take depth flags ++ flag ∷ [])
+deep_above depth flags flag deep = omega (arith, length-take-le depth flags deep, pushed_long (take depth flags) flag)
+
+element_walked : (parent : List ℕ) (depth : ℕ) (name : List ℕ) (attrs : List Attr) (children after : Forest Node) (flags : List Bool) (rest : List Row)
+    → last_flag (take depth flags) ≡ bytes_eq parent (codes "ol") → depth ≤ length flags
+    → (inner : Walked name (depth + 1) children (take depth flags ++ bytes_eq name (codes "ol") ∷ []) (rows depth after ++ rest)) → Walked parent depth after inner.after rest
+    → Walked parent depth (Tree (Element name attrs) children after) flags rest
+element_walked parent depth name attrs children after flags rest says deep inner beside = record {
+  after = beside.after;
+  same = beside.same ∙ kept_above depth flags inner.after (bytes_eq name (codes "ol")) deep inner.same;
+  deep = beside.deep;
+  told = told_with parent depth name attrs children after flags rest inner.after beside.after says inner.told beside.told;
+}
+
+text_walked : (parent : List ℕ) (depth : ℕ) (characters : List ℕ) (children after : Forest Node) (flags : List Bool) (rest : List Row) → depth ≤ length flags → children ≡ Empty
+    → Walked parent depth after (take depth flags ++ false ∷ []) rest → Walked parent depth (Tree (Text characters) children after) flags rest
+text_walked parent depth characters children after flags rest deep none beside = record {
+  after = beside.after;
+  same = beside.same ∙ kept_above depth flags (take depth flags ++ false ∷ []) false deep refl;
+  deep = beside.deep;
+  told = ap (λ (t : Forest Node). are_thin_rows flags ((row depth (Text characters) ∷ (rows (depth + 1) t ++ rows depth after)) ++ rest)) none ∙ beside.told;
+}
+
 walked : (forest : Forest Node) → AreSound forest → (parent : List ℕ) (depth : ℕ) (flags : List Bool) (rest : List Row) → last_flag (take depth flags) ≡ bytes_eq parent (codes "ol") → depth ≤ length flags
     → Walked parent depth forest flags rest
 walked Empty sound parent depth flags rest says deep = record { after = flags; same = refl; deep = deep; told = refl }
 walked (Tree (Element name attrs) children after) sound parent depth flags rest says deep =
-    let above = take depth flags in
     let flag = bytes_eq name (codes "ol") in
-    let pushed = above ++ flag ∷ [] in
-    let above_long : length above ≡ depth = length-take-le depth flags deep in
-    let pushed_long : length pushed ≡ depth + 1 = omega (arith, length-append above (flag ∷ [])) in
-    let all : take (depth + 1) pushed ≡ pushed = take_all (depth + 1) pushed (omega arith) in
-    let inner : Walked name (depth + 1) children pushed (rows depth after ++ rest) = walked children sound.1 name (depth + 1) pushed (rows depth after ++ rest) (ap last_flag all ∙ last_pushed above flag) (omega arith) in
-    let kept : take depth inner.after ≡ above =
-    sym (take-take depth (depth + 1) inner.after (omega arith)) ∙ ap (take depth) (inner.same ∙ all) ∙ take-append-le depth above (flag ∷ []) (omega arith) ∙ take_all depth above (omega arith) in
-    let beside : Walked parent depth after inner.after rest = walked after sound.2 parent depth inner.after rest (ap last_flag kept ∙ says) (omega (arith, inner.deep)) in
-    record {
-      after = beside.after;
-      same = beside.same ∙ kept;
-      deep = beside.deep;
-      told =
-          ap (λ (t : List Row). are_thin_rows flags (row depth (Element name attrs) ∷ t)) (append_assoc (rows (depth + 1) children) (rows depth after) rest)
-          ∙ gathered (is_thin_node (last_flag above) (Element name attrs)) (are_thin name children) (are_thin parent after) (are_thin_rows beside.after rest) _ (are_thin_rows inner.after (rows depth after ++ rest)) inner.told beside.told
-          ∙ ap (λ (in_ol : Bool). (is_thin_node in_ol (Element name attrs) && (are_thin name children && are_thin parent after)) && are_thin_rows beside.after rest) says;
-    }
+    let inner : Walked name (depth + 1) children (take depth flags ++ flag ∷ []) (rows depth after ++ rest) =
+    walked children sound.1 name (depth + 1) (take depth flags ++ flag ∷ []) (rows depth after ++ rest) (last_above depth flags flag deep) (deep_above depth flags flag deep) in
+    element_walked parent depth name attrs children after flags rest says deep inner
+    (walked after sound.2 parent depth inner.after rest (ap last_flag (kept_above depth flags inner.after flag deep inner.same) ∙ says) (omega (arith, inner.deep)))
 walked (Tree (Text characters) children after) sound parent depth flags rest says deep =
-    let above = take depth flags in
-    let pushed = above ++ false ∷ [] in
-    let above_long : length above ≡ depth = length-take-le depth flags deep in
-    let kept : take depth pushed ≡ above = take-append-le depth above (false ∷ []) (omega arith) ∙ take_all depth above (omega arith) in
-    let beside : Walked parent depth after pushed rest = walked after sound.1 parent depth pushed rest (ap last_flag kept ∙ says) (omega (arith, length-append above (false ∷ []))) in
-    record {
-      after = beside.after;
-      same = beside.same ∙ kept;
-      deep = beside.deep;
-      told = ap (λ (t : Forest Node). are_thin_rows flags ((row depth (Text characters) ∷ (rows (depth + 1) t ++ rows depth after)) ++ rest)) sound.0 ∙ beside.told;
-    }
+    text_walked parent depth characters children after flags rest deep sound.0
+    (walked after sound.1 parent depth (take depth flags ++ false ∷ []) rest
+    (ap last_flag (kept_above depth flags (take depth flags ++ false ∷ []) false deep refl) ∙ says) (omega (arith, deep_above depth flags false deep)))
 
 pub thin_told : (tree : Forest Node) → IsTree tree → is_thin tree ≡ are_thin_rows [] (rows 0 tree)
 thin_told tree is =

@@ -1,4 +1,15 @@
-//! Reads documents.
+//! Reads documents: from a text to its tree.
+//!
+//! In goes a text, out comes the tree that it spells, or word that it spells none. So far it reads thin
+//! documents: plain lists without attributes and references. Which texts these are, and of which trees,
+//! is `IsThinDocument` of the definitions, by the grammar of XML 1.0, 3 (elements).
+//!
+//! The text is read once, item by item, with a list of the open elements, and no call recurses: a
+//! document may be of any depth. It takes time and memory linear in the text.
+//!
+//! ```text
+//! let tree = read_thin(alloc, "<ol><li>a</li></ol>")?;
+//! ```
 #![tactic(auto)]
 
 mod open_tree;
@@ -18,7 +29,9 @@ use plain_types::tree::Tree;
 use std::alloc::Global;
 pub use thin::is_thin;
 
-/// The tree of a thin document, in time linear in the text; None where the text is none.
+/// The tree of a thin document, or None where the text is no thin document.
+///
+/// It takes time and memory linear in the text.
 pub fn read_thin(alloc: Global, text: &str) -> Result<Option<Tree>, Memory>
     ensures found { IfOk result (λ answer. IfSome answer (IsThinDocument (chars text.now))) }
     ensures none { IfOk result (λ answer. IfNone answer ((tree : Forest Node) → IsThinDocument (chars text.now) tree → ⊥)) }
@@ -67,7 +80,7 @@ mod tests {
 
     #[test]
     fn none(rt: HostRuntime) {
-        for text in [
+        let texts = [
             "",
             " <a/>",
             "<a/> ",
@@ -80,8 +93,34 @@ mod tests {
             "<li/>",
             "<ul/>",
             "<ol><b/></ol>",
-        ] {
+        ];
+        for text in texts {
             assert_eq!(rt; nodes(&rt, text), 0);
         }
+    }
+
+    /// No call recurses on the document.
+    #[test]
+    fn deep(rt: HostRuntime) -> Result<(), Fail> {
+        let mut text = String::new(rt.alloc());
+        for _ in 0..100_000 {
+            text.push_str("<a>")?;
+        }
+        for _ in 0..100_000 {
+            text.push_str("</a>")?;
+        }
+        assert_eq!(rt; nodes(&rt, &text), 100_000);
+        Ok(())
+    }
+
+    #[test]
+    fn long(rt: HostRuntime) -> Result<(), Fail> {
+        let mut text = String::from_str(rt.alloc(), "<a>")?;
+        for _ in 0..1_000_000 {
+            text.push_str("0123456789abcdef")?;
+        }
+        text.push_str("</a>")?;
+        assert_eq!(rt; nodes(&rt, &text), 2);
+        Ok(())
     }
 }

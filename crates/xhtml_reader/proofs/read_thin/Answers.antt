@@ -1,4 +1,4 @@
-use Rattle.std.proofs.Common.{◌≡◌, ◌∙◌, sym}
+use Rattle.std.proofs.Common.{◌∙◌, sym}
 use Rattle.std.specs.Str.{chars}
 use Rattle.xhtml_reader.specs.Keeping.{kept}
 use Rattle.xhtml_reader.specs.Machine.{thin_document}

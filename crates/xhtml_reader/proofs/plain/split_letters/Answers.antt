@@ -1,4 +1,4 @@
-use Rattle.std.proofs.Common.{◌≡◌, ◌∷◌, ◌-◌, [], Bool, true, false, length, take, drop, refl, sym, ◌∙◌, ap}
+use Rattle.std.proofs.Common.{◌≡◌, [], false, refl, sym, ◌∙◌}
 use Rattle.std.specs.Str.{chars}
 use Rattle.xhtml_reader.specs.Lexing.{goes_on}
 use Rattle.xhtml_reader.specs.Lexing.{span}

@@ -1,4 +1,4 @@
-use Rattle.std.proofs.Common.{◌∙◌, ap, sym, refl}
+use Rattle.std.proofs.Common.{◌∙◌, ap, sym}
 use Rattle.xhtml_reader.specs.ThinRows.{is_ol}
 use Rattle.xhtml_reader.proofs.ThinTrees.{element_shown, name_written}
 use Rattle.xhtml_reader.proofs.Words.{ol_told}

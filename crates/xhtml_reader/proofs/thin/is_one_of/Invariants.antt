@@ -1,4 +1,4 @@
-use Rattle.std.proofs.Common.{◌≡◌, ℕ, List, drop, Bor}
+use Rattle.std.proofs.Common.{◌≡◌, drop}
 use Rattle.xhtml_reader.proofs.Words.{is_any}
 use Rattle.xhtml_reader.proofs.thin.is_one_of.Given as goal
 

@@ -1,4 +1,4 @@
-use Rattle.std.proofs.Common.{◌≡◌, ◌∙◌, ◌≤◌, ◌<◌, ◌+◌, ◌++◌, ◌∷◌, [], drop, ap, sym, length, take, Bool, arith}
+use Rattle.std.proofs.Common.{◌≡◌, ◌∙◌, ◌≤◌, ◌<◌, ◌+◌, ◌++◌, ◌∷◌, [], drop, ap, sym, length, take, arith}
 use Rattle.plain_types.specs.Rows.{rows}
 use Rattle.xhtml_reader.specs.ThinRows.{are_thin_rows, is_thin_node, last_flag}
 use Rattle.xhtml_reader.proofs.ThinTrees.{refuses, goes_on, thin_told, drop_end}

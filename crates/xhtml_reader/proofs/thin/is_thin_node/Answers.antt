@@ -1,4 +1,4 @@
-use Rattle.std.proofs.Common.{◌≡◌, ◌∙◌, ap, sym, refl, not, true, false}
+use Rattle.std.proofs.Common.{◌≡◌, ◌∙◌, ap, sym, true, false}
 use Rattle.xhtml_reader.specs.ThinRows.{is_thin_node}
 use Rattle.xhtml_reader.proofs.ThinTrees.{element_shown, name_written, not_false, passes}
 use Rattle.xhtml_reader.proofs.Words.{li_told}

@@ -1,4 +1,4 @@
-use Rattle.std.proofs.Common.{◌≡◌, sym, ◌∙◌}
+use Rattle.std.proofs.Common.{sym, ◌∙◌}
 use Rattle.xhtml_reader.proofs.Texts.{empty_same, third}
 use Rattle.xhtml_reader.proofs.open_tree.OpenTree.accepts_element.Goals as goal
 

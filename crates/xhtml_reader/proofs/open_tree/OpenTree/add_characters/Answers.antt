@@ -1,4 +1,4 @@
-use Rattle.std.proofs.Common.{◌≡◌, sym, ◌∙◌, subst}
+use Rattle.std.proofs.Common.{sym, ◌∙◌, subst}
 use Rattle.std.specs.Str.{chars}
 use Rattle.xhtml_reader.specs.Keeping.{kept, Keeps}
 use Rattle.xhtml_reader.proofs.Keeps.{added_characters}

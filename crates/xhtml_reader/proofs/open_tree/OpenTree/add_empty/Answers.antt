@@ -1,10 +1,10 @@
-use Rattle.std.proofs.Common.{◌≡◌, ◌++◌, ◌∷◌, ◌-◌, [], sym, ◌∙◌, refl, ap}
-use Rattle.std.specs.Str.{chars, encode_utf8_all}
+use Rattle.std.proofs.Common.{◌≡◌, ◌-◌, sym, ◌∙◌, ap}
+use Rattle.std.specs.Str.{chars}
 use Rattle.plain_types.specs.Building.{Building}
 use Rattle.definitions.specs.Items.{empty_tag}
 use Rattle.xhtml_reader.specs.Keeping.{kept, with_text}
 use Rattle.xhtml_reader.specs.Machine.{thin_document}
-use Rattle.xhtml_reader.proofs.Keeps.{added_empty, ends_again, kept_of, moved, with_element}
+use Rattle.xhtml_reader.proofs.Keeps.{added_empty, ends_again, moved, with_element}
 use Rattle.xhtml_reader.proofs.open_tree.OpenTree.add_empty.Goals as goal
 
 pub returns : goal.returns

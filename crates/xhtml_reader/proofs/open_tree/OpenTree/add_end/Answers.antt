@@ -1,11 +1,11 @@
-use Rattle.std.proofs.Common.{◌≡◌, ◌++◌, ◌∷◌, ◌-◌, [], sym, ◌∙◌, refl, ap, subst, length, take}
+use Rattle.std.proofs.Common.{◌≡◌, ◌++◌, ◌∷◌, ◌-◌, [], sym, ◌∙◌, ap, length, take}
 use Rattle.std.specs.Str.{chars, encode_utf8_all}
 use Rattle.std.proofs.lemmas.Str.{encodes-chars}
 use Rattle.plain_types.specs.Building.{Building}
 use Rattle.definitions.specs.Items.{end_tag}
 use Rattle.xhtml_reader.specs.Keeping.{kept, with_text}
 use Rattle.xhtml_reader.specs.Machine.{thin_document}
-use Rattle.xhtml_reader.proofs.Keeps.{added_end, refused_end, kept_of, moved, names_last, names_popped, name_bytes, not_same, is_same}
+use Rattle.xhtml_reader.proofs.Keeps.{added_end, refused_end, moved, names_last, names_popped, name_bytes, not_same, is_same}
 use Rattle.xhtml_reader.proofs.open_tree.OpenTree.add_end.Goals as goal
 
 pub returns-then-ne : goal.returns-then-ne

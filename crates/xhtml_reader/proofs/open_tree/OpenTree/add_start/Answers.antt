@@ -1,10 +1,9 @@
-use Rattle.std.proofs.Common.{◌≡◌, ◌++◌, ◌∷◌, [], sym, ◌∙◌, refl, ap}
-use Rattle.std.specs.Str.{chars, encode_utf8_all}
-use Rattle.plain_types.specs.Building.{Building}
+use Rattle.std.proofs.Common.{◌≡◌, sym, ◌∙◌}
+use Rattle.std.specs.Str.{chars}
 use Rattle.definitions.specs.Items.{start_tag}
 use Rattle.xhtml_reader.specs.Keeping.{kept, with_text}
 use Rattle.xhtml_reader.specs.Machine.{thin_document}
-use Rattle.xhtml_reader.proofs.Keeps.{added_start, kept_of, moved, names_pushed, with_element}
+use Rattle.xhtml_reader.proofs.Keeps.{added_start, moved, names_pushed, with_element}
 use Rattle.xhtml_reader.proofs.open_tree.OpenTree.add_start.Goals as goal
 
 pub returns : goal.returns

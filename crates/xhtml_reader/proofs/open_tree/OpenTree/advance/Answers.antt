@@ -1,4 +1,4 @@
-use Rattle.std.proofs.Common.{◌≡◌, [], sym, ◌∙◌, ap, inl}
+use Rattle.std.proofs.Common.{sym, ◌∙◌, inl}
 use Rattle.std.specs.Str.{chars}
 use Rattle.definitions.specs.Thin.{is_plain}
 use Rattle.xhtml_reader.specs.Keeping.{kept}

@@ -1,4 +1,4 @@
-use Rattle.std.proofs.Common.{◌≡◌, sym, ◌∙◌, ap}
+use Rattle.std.proofs.Common.{sym, ◌∙◌, ap}
 use Rattle.xhtml_reader.specs.Keeping.{kept}
 use Rattle.xhtml_reader.specs.Machine.{at_end}
 use Rattle.xhtml_reader.proofs.Keeps.{finished, not_finished}

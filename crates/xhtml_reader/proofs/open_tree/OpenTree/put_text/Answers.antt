@@ -1,5 +1,4 @@
-use Rattle.std.proofs.Common.{◌≡◌, sym, ◌∙◌, refl, ap, append-nil, [], true}
-use Rattle.xhtml_reader.specs.Keeping.{with_text}
+use Rattle.std.proofs.Common.{sym, ◌∙◌}
 use Rattle.xhtml_reader.proofs.Texts.{none_there, with_no_text}
 use Rattle.xhtml_reader.proofs.open_tree.OpenTree.put_text.Goals as goal
 
