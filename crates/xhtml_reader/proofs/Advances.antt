@@ -5,7 +5,8 @@ use Rattle.std.specs.Str.{chars}
 use Rattle.std.proofs.lemmas.Bool.{and_parts, cases_Bool}
 use Rattle.std.proofs.lemmas.List.{length-append}
 use Rattle.definitions.specs.Items.{Item, ArePieces, plain_character}
-use Rattle.definitions.specs.Thin.{SpellsPlainly, is_plain}
+use Rattle.definitions.specs.Characters.{is_plain}
+use Rattle.definitions.specs.Thin.{SpellsPlainly}
 use Rattle.xhtml_reader.specs.Keeping.{Kept, Keeps, Adds, AddsCharacters, Leads, Stops}
 use Rattle.xhtml_reader.specs.Lexing.{span, item_at, markup_at}
 use Rattle.xhtml_reader.specs.Machine.{Kind, State}

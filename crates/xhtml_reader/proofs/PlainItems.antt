@@ -3,9 +3,9 @@ use Rattle.std.proofs.Common.{◌≡◌, ℕ, Bool, true, false, cond, eqb, List
 use Rattle.std.specs.List.{list_all}
 use Rattle.std.proofs.lemmas.Bool.{and_parts, eqb-true, cases_Bool}
 use Rattle.std.proofs.lemmas.Bool.Decides.{nat_tests}
-use Rattle.definitions.specs.Characters.{is_lower_letter}
+use Rattle.definitions.specs.Characters.{is_lower_letter, is_plain}
 use Rattle.definitions.specs.Items.{Item, doctype, comment, instruction, start_tag, empty_tag, end_tag, reference, section, plain_character}
-use Rattle.definitions.specs.Thin.{is_plain, is_plain_name, SpellsPlainly}
+use Rattle.definitions.specs.Thin.{is_plain_name, SpellsPlainly}
 use Rattle.xhtml_reader.specs.Lexing.{span, goes_on, name_at, past, after_name, start_at, end_at, tag_at, item_at}
 use Rattle.xhtml_reader.proofs.Lists.{chosen}
 

@@ -2,9 +2,8 @@
 use Rattle.std.specs.Prelude.{◌≡◌, ℕ, Bool, if◌then◌else◌, ◌==◌, ◌||◌, List, [], ◌∷◌, Option, Some, None}
 use Rattle.std.specs.Str.{chars}
 use Rattle.std.specs.Borrow.{Bor}
-use Rattle.definitions.specs.Characters.{is_lower_letter, is_digit}
+use Rattle.definitions.specs.Characters.{is_digit, is_lower_letter, is_plain}
 use Rattle.definitions.specs.Items.{Item, start_tag, empty_tag, end_tag, plain_character}
-use Rattle.definitions.specs.Thin.{is_plain}
 use Rattle.xhtml_reader.specs.declared.plain.Tag.{Tag}
 use Rattle.xhtml_reader.specs.declared.plain.Tag.TheVariants.{Start, Empty, End}
 

@@ -3,7 +3,7 @@
 ghost use Rattle.std.specs.Prelude.{◌≡◌, ◌∷◌, ◌++◌, [], MatchOption, IfSome};
 ghost use Rattle.std.specs.Char.{encode_utf8};
 ghost use Rattle.std.specs.Str.{chars, IsUtf8};
-ghost use Rattle.definitions.specs.Thin.{is_plain};
+ghost use Rattle.definitions.specs.Characters.{is_plain};
 ghost use Rattle.xhtml_reader.specs.Lexing.{cut_view, span};
 
 /// The first character, and the text after it.

@@ -1,6 +1,6 @@
 use Rattle.std.proofs.Common.{◌≡◌, [], false, refl, sym, ◌∙◌}
 use Rattle.std.specs.Str.{chars}
-use Rattle.definitions.specs.Thin.{is_plain}
+use Rattle.definitions.specs.Characters.{is_plain}
 use Rattle.xhtml_reader.specs.Lexing.{span}
 use Rattle.xhtml_reader.proofs.Cuts.{Cut-boundary, shorter, Spans-more, Spans-end}
 use Rattle.xhtml_reader.proofs.text.split_characters.Goals as goal

@@ -2,7 +2,7 @@ use Rattle.std.proofs.Common.{length}
 use denote.Text.{Utf8}
 use denote.Shadow.{shadow}
 use Rattle.std.specs.Str.{chars}
-use Rattle.definitions.specs.Thin.{is_plain}
+use Rattle.definitions.specs.Characters.{is_plain}
 use Rattle.xhtml_reader.proofs.Cuts.{Spans}
 use Rattle.xhtml_reader.proofs.text.split_characters.Given as goal
 

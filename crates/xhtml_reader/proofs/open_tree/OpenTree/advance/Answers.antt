@@ -1,6 +1,6 @@
 use Rattle.std.proofs.Common.{sym, ◌∙◌, inl}
 use Rattle.std.specs.Str.{chars}
-use Rattle.definitions.specs.Thin.{is_plain}
+use Rattle.definitions.specs.Characters.{is_plain}
 use Rattle.xhtml_reader.specs.Keeping.{kept}
 use Rattle.xhtml_reader.specs.Lexing.{item_of}
 use Rattle.xhtml_reader.specs.Machine.{thin_document}
