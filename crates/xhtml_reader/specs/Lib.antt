@@ -1,0 +1,4 @@
+pub mod Machine
+pub mod Keeping
+pub mod Lexing
+pub mod ThinRows
