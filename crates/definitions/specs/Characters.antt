@@ -1,5 +1,5 @@
 -- Classes of characters, by their code points.
-use Rattle.std.specs.Prelude.{ℕ, Bool, false, ◌&&◌, ◌||◌, ◌==◌, nat_le, List, [], ◌∷◌}
+use Rattle.std.specs.Prelude.{ℕ, Bool, false, ◌&&◌, ◌||◌, not, ◌==◌, nat_le, List, [], ◌∷◌}
 use Rattle.std.specs.List.{list_all}
 
 -- the code point lies between these two, both included
@@ -14,8 +14,20 @@ is_blank c = c == 32 || (c == 9 || c == 10)
 abbrev pub is_character : ℕ → Bool
 is_character c = (c == 9 || c == 10) || (is_between 32 0xd7ff c || (is_between 0xe000 0xfffd c || is_between 0x10000 0x10ffff c))
 
+-- XML 1.0, 2.4 CharData: a character that stands for itself, any but `<` and `&`; our own: also where
+-- it ends `]]>`
+abbrev pub is_plain : ℕ → Bool
+is_plain c = is_character c && (not (c == 60) && not (c == 38))
+
+-- a double or a single quote
+abbrev pub is_quote : ℕ → Bool
+is_quote c = c == 34 || c == 39
+
 abbrev pub is_digit : ℕ → Bool
 is_digit c = is_between 48 57 c
+
+abbrev pub is_hexadecimal_digit : ℕ → Bool
+is_hexadecimal_digit c = is_digit c || (is_between 97 102 c || is_between 65 70 c)
 
 abbrev pub is_lower_letter : ℕ → Bool
 is_lower_letter c = is_between 97 122 c

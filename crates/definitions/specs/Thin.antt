@@ -8,7 +8,8 @@ use Rattle.forest.specs.Places.{Place, places}
 use Rattle.plain_types.specs.declared.box_kind.BoxKind.TheVariants.{Marker}
 use Rattle.plain_types.specs.declared.node.Node.{Node}
 use Rattle.plain_types.specs.declared.node.Node.TheVariants.{Element, Text}
-use Rattle.definitions.specs.Characters.{is_character, is_digit, is_lower_letter}
+use Rattle.definitions.specs.Characters.{is_digit, is_lower_letter}
+pub use Rattle.definitions.specs.Characters.{is_plain}
 use Rattle.definitions.specs.Documents.{IsElement}
 use Rattle.definitions.specs.Dump.{Line}
 use Rattle.definitions.specs.Items.{Item, ArePieces, doctype, comment, instruction, start_tag, empty_tag, end_tag, reference, section, plain_character}
@@ -50,10 +51,6 @@ is_thin tree = are_thin [] tree
 abbrev pub is_plain_name : List ℕ → Bool
 is_plain_name [] = false
 is_plain_name (first ∷ rest) = is_lower_letter first && list_all (λ c. is_lower_letter c || is_digit c) rest
-
--- a character that stands for itself
-abbrev pub is_plain : ℕ → Bool
-is_plain c = is_character c && (not (c == 60) && not (c == 38))
 
 -- the characters spell this item plainly: a tag without attributes or blanks, or a character
 abbrev pub SpellsPlainly : List ℕ → Item → Type 0
