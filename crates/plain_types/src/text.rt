@@ -1,6 +1,6 @@
 //! Owned text.
 
-ghost use Rattle.std.specs.Prelude.{◌≡◌, ◌++◌, [], IfOk, OnOk, OnErr, encode_utf8_all};
+ghost use Rattle.std.specs.Prelude.{◌≡◌, ◌++◌, ◌∷◌, [], IfOk, OnOk, OnErr, encode_utf8_all};
 ghost use Rattle.std.specs.Str.{chars};
 
 use crate::duplicate::Duplicate;
@@ -57,6 +57,15 @@ impl Text {
         ensures err { OnErr result (self.new ≡ self.old) }
     {
         self.inner.push_str(s)?;
+        Ok(())
+    }
+
+    /// Appends the character, in amortized constant time.
+    pub fn push(&mut self, character: char) -> Result<(), Memory>
+        ensures ok { OnOk result (self.new ≡ self.old ++ character ∷ []) }
+        ensures err { OnErr result (self.new ≡ self.old) }
+    {
+        self.inner.push(character)?;
         Ok(())
     }
 }
