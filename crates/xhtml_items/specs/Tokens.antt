@@ -1,0 +1,36 @@
+-- What the functions that read a text return, seen on lists of characters.
+use Rattle.std.specs.Prelude.{◌≡◌, ℕ, List, Option, Some, None}
+use Rattle.std.specs.Str.{chars}
+use Rattle.std.specs.Borrow.{Bor}
+use Rattle.definitions.specs.Items.{Item, doctype, comment, instruction, start_tag, empty_tag, end_tag, reference, section, plain_character}
+use Rattle.xhtml_items.specs.declared.token.Token.{Token}
+use Rattle.xhtml_items.specs.declared.token.Token.TheVariants.{Doctype, Comment, Instruction, StartTag, EmptyTag, EndTag, Reference, Section, Character}
+
+-- what was returned, seen by `view`, is what reading gives
+abbrev pub Reads : {X Y : Type 0} → (X → Y) → Option X → Option Y → Type 0
+Reads view None read = read ≡ None
+Reads view (Some x) read = read ≡ Some (view x)
+
+-- the item for which a token stands
+abbrev pub item_of : Token → Item
+item_of Doctype = doctype
+item_of Comment = comment
+item_of Instruction = instruction
+item_of (StartTag name attrs) = start_tag (chars name.now) attrs
+item_of (EmptyTag name attrs) = empty_tag (chars name.now) attrs
+item_of (EndTag name) = end_tag (chars name.now)
+item_of (Reference character) = reference character
+item_of (Section characters) = section (chars characters.now)
+item_of (Character character) = plain_character character
+
+abbrev pub text_view : Bor (List ℕ) → List ℕ
+text_view text = chars text.now
+
+abbrev pub two_texts : Bor (List ℕ) × Bor (List ℕ) → List ℕ × List ℕ
+two_texts x = (chars x.0.now, chars x.1.now)
+
+abbrev pub character_view : ℕ × Bor (List ℕ) → ℕ × List ℕ
+character_view x = (x.0, chars x.1.now)
+
+abbrev pub token_view : Token × Bor (List ℕ) → Item × List ℕ
+token_view x = (item_of x.0, chars x.1.now)

@@ -1,0 +1,5 @@
+//! Items of documents.
+#![tactic(auto)]
+
+pub mod token;
+mod text;
