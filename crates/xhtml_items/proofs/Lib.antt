@@ -1,3 +1,6 @@
 pub mod RunLaws
 pub mod Steps
+pub mod References
+pub mod Attributes
+pub mod Tags
 pub mod Try
