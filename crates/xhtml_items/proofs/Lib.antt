@@ -3,4 +3,6 @@ pub mod Steps
 pub mod References
 pub mod Attributes
 pub mod Tags
+pub mod Markup
+pub mod Items
 pub mod Try
