@@ -5,4 +5,5 @@ pub mod Attributes
 pub mod Tags
 pub mod Markup
 pub mod Items
-pub mod Try
+pub mod Cuts
+pub mod Texts

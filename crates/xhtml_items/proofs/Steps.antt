@@ -7,7 +7,7 @@ use Rattle.std.proofs.lemmas.Bool.{and_parts, eqb-true}
 use Rattle.std.proofs.lemmas.Bool.Decides.{nat_tests}
 use Rattle.definitions.specs.Characters.{is_blank, is_character, is_name, is_name_start, is_name_character}
 use Rattle.definitions.specs.Spelling.{are_some, AreBlanks, AreSomeBlanks, IsName, AreUpTo}
-use Rattle.xhtml_items.specs.Reading.{◌then◌, either_way, span, past, past_word, past_capital, past_capitals, skip_blanks, past_blanks, name_at, with_first, up_to}
+use Rattle.xhtml_items.specs.Reading.{◌then◌, either_way, span, past, past_word, past_capital, past_capitals, skip_blanks, past_blanks, name_at, with_first, split_once, if_allowed, up_to}
 
 -- which way a test went
 pub chosen : {A : Type 0} (b : Bool) (x y z : A) → cond b x y ≡ z → ((b ≡ true) × (x ≡ z)) ⊎ ((b ≡ false) × (y ≡ z))
@@ -168,44 +168,63 @@ front_of (x ∷ xs) (s ∷ stop) rest w e le =
     let more = front_of xs stop rest w tail (omega arith) in
     (more.0, rw head (ap (λ (t : List ℕ). s ∷ t) more.1))
 
-pub up_to_takes : (stop cs : List ℕ) (x : List ℕ × List ℕ) → up_to stop cs ≡ Some x → AreUpTo stop x.0 × (cs ≡ x.0 ++ (stop ++ x.1))
-unfolding up_to
-up_to_takes stop [] x e = absurd cc
-up_to_takes stop (c ∷ cs) x e = elim (either_cases (past_word stop (c ∷ cs)) (λ (rest : List ℕ). Some ([], rest)) _ _ e) [
+-- the word stands behind these characters, and nowhere before
+abbrev pub IsFirst : List ℕ → List ℕ → Type 0
+IsFirst stop inside = (before after : List ℕ) → inside ++ stop ≡ before ++ stop ++ after → after ≡ []
+
+split_takes : (stop cs : List ℕ) (x : List ℕ × List ℕ) → split_once stop cs ≡ Some x → IsFirst stop x.0 × (cs ≡ x.0 ++ (stop ++ x.1))
+unfolding split_once
+split_takes stop [] x e = absurd cc
+split_takes stop (c ∷ cs) x e = elim (either_cases (past_word stop (c ∷ cs)) (λ (rest : List ℕ). Some ([], rest)) _ _ e) [
   | inl w ↦ (
       let is : ([], w.0) ≡ x = (let h = w.2 in cc) in
-      rw (← is) (record { allowed = refl; first = λ before after e. nothing_after stop before after e }, past_word_takes stop (c ∷ cs) w.0 w.1))
-  | inr w ↦ elim (chosen (is_character c) _ _ _ w.1) [
-    | inl v ↦ (
-        let t = then_some (up_to stop cs) (λ (text : List ℕ × List ℕ). with_first c text) x v.1 in
-        let is : (c ∷ t.0.0, t.0.1) ≡ x = (let h = t.2 in cc) in
-        let more = up_to_takes stop cs t.0 t.1 in
-        rw (← is) (record { allowed = rw (v.0, more.0.allowed) refl; first = λ before after e. later stop c cs t.0.0 t.0.1 w.0 more.0 more.1 before after e }, ap (λ (r : List ℕ). c ∷ r) more.1))
-    | inr v ↦ absurd (let h = v.1 in cc)
-    ]
+      rw (← is) ((λ before after e. nothing_after stop before after e), past_word_takes stop (c ∷ cs) w.0 w.1))
+  | inr w ↦ (
+      let t = then_some (split_once stop cs) (λ (text : List ℕ × List ℕ). with_first c text) x w.1 in
+      let is : (c ∷ t.0.0, t.0.1) ≡ x = (let h = t.2 in cc) in
+      let more = split_takes stop cs t.0 t.1 in
+      rw (← is) ((λ before after e. later t.0.0 t.0.1 w.0 more.0 more.1 before after e), ap (λ (r : List ℕ). c ∷ r) more.1))
 ] where
-  later : (stop : List ℕ) (c : ℕ) (cs inside rest : List ℕ) → past_word stop (c ∷ cs) ≡ None → AreUpTo stop inside → cs ≡ inside ++ (stop ++ rest)
+  later : (inside rest : List ℕ) → past_word stop (c ∷ cs) ≡ None → IsFirst stop inside → cs ≡ inside ++ (stop ++ rest)
       → (before after : List ℕ) → (c ∷ inside) ++ stop ≡ before ++ stop ++ after → after ≡ []
-  later stop c cs inside rest none up parts [] after e =
+  later inside rest none first parts [] after e =
       let whole : c ∷ cs ≡ stop ++ (after ++ rest) =
           ap (λ (r : List ℕ). c ∷ r) (parts ∙ sym (append_assoc inside stop rest)) ∙ ap (λ (r : List ℕ). r ++ rest) e ∙ append_assoc stop after rest in
       let again : past_word stop (c ∷ cs) ≡ Some (after ++ rest) = rw whole (past_word_again stop (after ++ rest)) in
       absurd cc
-  later stop c cs inside rest none up parts (b ∷ before) after e = up.first before after cc
+  later inside rest none first parts (b ∷ before) after e = first before after cc
 
-pub up_to_again : (stop inside rest : List ℕ) → 0 < length stop → AreUpTo stop inside → up_to stop (inside ++ (stop ++ rest)) ≡ Some (inside, rest)
-unfolding up_to
-up_to_again [] [] rest filled up = absurd (omega arith)
-up_to_again (s ∷ stop) [] rest filled up = rw (past_word_again (s ∷ stop) rest) refl
-up_to_again stop (c ∷ inside) rest filled up =
+pub split_again : (stop inside rest : List ℕ) → 0 < length stop → IsFirst stop inside → split_once stop (inside ++ (stop ++ rest)) ≡ Some (inside, rest)
+unfolding split_once
+split_again [] [] rest filled first = absurd (omega arith)
+split_again (s ∷ stop) [] rest filled first = rw (past_word_again (s ∷ stop) rest) refl
+split_again stop (c ∷ inside) rest filled first =
     let none : past_word stop (c ∷ (inside ++ (stop ++ rest))) ≡ None = none_from _ (λ w e. earlier w (past_word_takes stop _ w e)) in
-    let p = and_parts (is_character c) (list_all is_character inside) up.allowed in
-    let more : AreUpTo stop inside = record { allowed = p.1; first = λ before after e. up.first (c ∷ before) after (ap (λ (r : List ℕ). c ∷ r) e) } in
-    rw (none, p.0, up_to_again stop inside rest filled more) refl
+    rw (none, split_again stop inside rest filled (λ before after e. first (c ∷ before) after (ap (λ (r : List ℕ). c ∷ r) e))) refl
   where
     earlier : (w : List ℕ) → c ∷ (inside ++ (stop ++ rest)) ≡ stop ++ w → ⊥
     earlier w e =
         let whole : (c ∷ inside ++ stop) ++ rest ≡ stop ++ w = append_assoc (c ∷ inside) stop rest ∙ e in
         let f = front_of (c ∷ inside ++ stop) stop rest w whole (omega (arith, length-append (c ∷ inside) stop)) in
-        let nil : f.0 ≡ [] = up.first [] f.0 f.1 in
+        let nil : f.0 ≡ [] = first [] f.0 f.1 in
         omega (arith, length-append (c ∷ inside) stop, ap length f.1, length-append stop f.0, ap length nil)
+
+-- without the word nothing is split
+pub split_none : (stop cs : List ℕ) → ((before after : List ℕ) → cs ≢ before ++ (stop ++ after)) → split_once stop cs ≡ None
+split_none stop cs h = none_from _ (λ x e. h x.0 x.1 (split_takes stop cs x e).1)
+
+pub up_to_takes : (stop cs : List ℕ) (x : List ℕ × List ℕ) → up_to stop cs ≡ Some x → AreUpTo stop x.0 × (cs ≡ x.0 ++ (stop ++ x.1))
+unfolding up_to
+up_to_takes stop cs x e =
+    let t = then_some (split_once stop cs) (λ (text : List ℕ × List ℕ). if_allowed text) x e in
+    elim (chosen (list_all is_character t.0.0) _ _ _ t.2) [
+      | inl w ↦ (
+          let is : t.0 ≡ x = (let h = w.1 in cc) in
+          let parts = split_takes stop cs t.0 t.1 in
+          rw (← is) (record { allowed = w.0; first = parts.0 }, parts.1))
+      | inr w ↦ absurd (let h = w.1 in cc)
+    ]
+
+pub up_to_again : (stop inside rest : List ℕ) → 0 < length stop → AreUpTo stop inside → up_to stop (inside ++ (stop ++ rest)) ≡ Some (inside, rest)
+unfolding up_to
+up_to_again stop inside rest filled up = rw (split_again stop inside rest filled up.first, up.allowed) refl

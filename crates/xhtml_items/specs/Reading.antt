@@ -2,7 +2,7 @@
 -- the front, and the characters after it.
 use Rattle.std.specs.Prelude.{◌≡◌, ℕ, Bool, true, ◌&&◌, not, ◌==◌, if◌then◌else◌, List, [], ◌∷◌, Option, Some, None, codes}
 use Rattle.std.specs.Char.{to_ascii_uppercase}
-use Rattle.std.specs.List.{list_any}
+use Rattle.std.specs.List.{list_all, list_any}
 use Rattle.std.specs.Str.{bytes_eq}
 use Rattle.std.specs.Str.Parse.{digits_value}
 use Rattle.plain_types.specs.declared.attr.Attr.{Attr}
@@ -62,12 +62,17 @@ name_at (c ∷ cs) = if is_name_start c then Some (span is_name_character (c ∷
 abbrev pub with_first : ℕ → List ℕ × List ℕ → Option (List ℕ × List ℕ)
 with_first c text = Some (c ∷ text.0, text.1)
 
+-- what stands before the first of these words, and what stands after it
+unfoldable pub split_once : List ℕ → List ℕ → Option (List ℕ × List ℕ)
+split_once stop [] = None
+split_once stop (c ∷ cs) = either_way (past_word stop (c ∷ cs)) (λ rest. Some ([], rest)) (split_once stop cs then λ text. with_first c text)
+
+abbrev pub if_allowed : List ℕ × List ℕ → Option (List ℕ × List ℕ)
+if_allowed text = if list_all is_character text.0 then Some text else None
+
 -- the characters up to the first of these words, and those after that word
 unfoldable pub up_to : List ℕ → List ℕ → Option (List ℕ × List ℕ)
-up_to stop [] = None
-up_to stop (c ∷ cs) =
-    either_way (past_word stop (c ∷ cs)) (λ rest. Some ([], rest))
-    (if is_character c then (up_to stop cs then λ text. with_first c text) else None)
+up_to stop cs = split_once stop cs then λ text. if_allowed text
 
 -- References.
 

@@ -1,5 +1,6 @@
 //! Items of documents.
 #![tactic(auto)]
 
-pub mod token;
+mod characters;
 mod text;
+pub mod token;
