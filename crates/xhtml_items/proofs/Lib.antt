@@ -1,9 +1,10 @@
 pub mod RunLaws
-pub mod Steps
-pub mod References
-pub mod Attributes
-pub mod Tags
-pub mod Markup
-pub mod Items
+pub mod StepLaws
+pub mod ReferenceLaws
+pub mod AttributeLaws
+pub mod TagLaws
+pub mod MarkupLaws
+pub mod ItemLaws
 pub mod Cuts
 pub mod Texts
+pub mod Numbers

@@ -1,19 +1,23 @@
 -- What std says of the bytes of a text, said of its characters.
-use Rattle.std.proofs.Common.{◌≡◌, ◌≢◌, ℕ, ◌+◌, ◌-◌, ◌<◌, ◌≤◌, Bool, true, false, ◌&&◌, ltb, IsTrue, Bor, List, [], ◌∷◌, ◌++◌, length, take, drop, Option, Some, None, MatchOption, IfSome, get_or, drop-cons, add-one, ◌⊎◌, inl, inr, refl, sym, ap, ◌∙◌, append_assoc, arith}
+use Rattle.std.proofs.Common.{◌≡◌, ◌≢◌, ℕ, ◌+◌, ◌-◌, ◌<◌, ◌≤◌, Bool, true, false, ◌&&◌, ltb, IsTrue, Bor, List, [], ◌∷◌, ◌++◌, length, take, drop, Option, Some, None, MatchOption, IfSome, get_or, drop-cons, add-one, map, ◌⊎◌, inl, inr, refl, sym, ap, ◌∙◌, append_assoc, arith}
 use Rattle.std.proofs.Math.ListN.{drop_of_length-le}
 use Rattle.std.specs.List.{list_all}
-use Rattle.std.specs.Str.{chars, encode_utf8_all, IsUtf8, IsAscii}
+use Rattle.std.specs.Str.{chars, encode_utf8_all, bytes_eq, IsUtf8, IsAscii}
 use Rattle.std.specs.Str.Pattern.{FindsText, FindsTextPrefix, StripsPrefix, SplitsAroundMatch}
 use Rattle.std.proofs.lemmas.Bool.{and_parts, cases_lt}
 use Rattle.std.proofs.lemmas.Bool.Decides.{nat_tests}
 use Rattle.std.proofs.lemmas.List.{length-append, nil_from_length, drop_at}
 use Rattle.std.proofs.lemmas.Str.{chars-append, chars-IsAscii, encodes-IsAscii, encodes-chars, encodes-append, IsUtf8-from_ascii, length-le-encodes}
+use Rattle.std.specs.Map.{lookup}
+use Rattle.std.proofs.lemmas.Bool.Decides.{same_from_decides}
+use Rattle.std.proofs.lemmas.Slice.Eq.{bytes_eq-Decides}
+use Rattle.definitions.specs.Spelling.{entities, entity}
 use Rattle.std.proofs.lemmas.Str.Ascii.{IsAscii-nil, IsAscii-cons}
 use Rattle.std.proofs.lemmas.Str.Pattern.{split_text_parts}
 use Rattle.xhtml_items.specs.Classes.{is_ascii}
 use Rattle.xhtml_items.specs.Reading.{past_word, past_capital, past_capitals, split_once}
-use Rattle.xhtml_items.specs.Tokens.{Reads, text_view, two_texts}
-use Rattle.xhtml_items.proofs.Steps.{none_from, past_word_takes, past_word_again, IsFirst, split_again, split_none}
+use Rattle.xhtml_items.specs.Tokens.{Reads, text_view, two_texts, entry}
+use Rattle.xhtml_items.proofs.StepLaws.{none_from, past_word_takes, past_word_again, IsFirst, split_again, split_none}
 
 pub IsAscii-from_test : (bytes : List ℕ) → is_ascii bytes ≡ true → IsAscii bytes
 IsAscii-from_test [] h = IsAscii-nil
@@ -92,3 +96,38 @@ capitals_none word i cs lt e = rw (drop-cons word i 0, e) refl
 
 pub capitals_end : (word : List ℕ) (i : ℕ) (cs : List ℕ) → length word ≤ i → past_capitals (drop i word) cs ≡ Some cs
 capitals_end word i cs le = rw (drop_of_length-le word le) refl
+
+-- A table by names of ASCII, searched by bytes.
+
+same_name : (bs name : List ℕ) → IsUtf8 bs → is_ascii name ≡ true → bytes_eq bs name ≡ bytes_eq (chars bs) name
+same_name bs name utf8 small = same_from_decides (bytes_eq bs name) (bytes_eq (chars bs) name) (bytes_eq-Decides bs name) (to_characters, to_bytes)
+  where
+    ascii : IsAscii name
+    ascii = IsAscii-from_test name small
+
+    to_characters : bytes_eq (chars bs) name ≡ true → bs ≡ name
+    to_characters e = sym (encodes-chars bs utf8) ∙ ap encode_utf8_all ((bytes_eq-Decides (chars bs) name).0 e) ∙ encodes-IsAscii name ascii
+
+    to_bytes : bs ≡ name → bytes_eq (chars bs) name ≡ true
+    to_bytes e = (bytes_eq-Decides (chars bs) name).1 (ap chars e ∙ chars-IsAscii name ascii)
+
+same_lookup : (table : List (List ℕ × ℕ)) (bs : List ℕ) → IsUtf8 bs → list_all (λ (e : List ℕ × ℕ). is_ascii e.0) table ≡ true
+    → lookup (bytes_eq (chars bs)) table ≡ lookup (bytes_eq bs) table
+same_lookup [] bs utf8 all = refl
+same_lookup (entry ∷ table) bs utf8 all =
+    let p = and_parts (is_ascii entry.0) (list_all (λ (e : List ℕ × ℕ). is_ascii e.0) table) all in
+    rw (same_name bs entry.0 utf8 p.0, same_lookup table bs utf8 p.1) refl
+
+pub entity_by_bytes : (name : List ℕ) → IsUtf8 name → entity (chars name) ≡ lookup (bytes_eq name) entities
+unfolding entities
+entity_by_bytes name utf8 = same_lookup entities name utf8 refl
+
+-- A table, entry by entry.
+
+pub look_on : (table : List (Bor (List ℕ) × ℕ)) (name : List ℕ) (i : ℕ) (d : Bor (List ℕ) × ℕ) → i < length table → bytes_eq name (get_or table i d).0.now ≡ false
+    → lookup (bytes_eq name) (map entry (drop i table)) ≡ lookup (bytes_eq name) (map entry (drop (i + 1) table))
+look_on table name i d lt e = rw (add-one, drop-cons table i d, e) refl
+
+pub look_here : (table : List (Bor (List ℕ) × ℕ)) (name : List ℕ) (i : ℕ) (d : Bor (List ℕ) × ℕ) → i < length table → bytes_eq name (get_or table i d).0.now ≡ true
+    → lookup (bytes_eq name) (map entry (drop i table)) ≡ Some (get_or table i d).1
+look_here table name i d lt e = rw (drop-cons table i d, e) refl

@@ -1,5 +1,6 @@
 -- Classes of characters, as the code names them.
 use Rattle.std.specs.Prelude.{ℕ, Bool, ◌&&◌, not, ◌==◌, nat_lt, List}
+use Rattle.std.specs.Char.{digit_value}
 use Rattle.std.specs.List.{list_all}
 use Rattle.definitions.specs.Characters.{is_blank, is_character, is_digit, is_hexadecimal_digit, is_name_character}
 use Rattle.xhtml_items.specs.declared.characters.Class.{Class}
@@ -15,3 +16,7 @@ is_in (Literal quote) = λ c. is_character c && not (c == quote)
 -- the bytes are ASCII, each a character
 abbrev pub is_ascii : List ℕ → Bool
 is_ascii bytes = list_all (λ byte. nat_lt byte 128) bytes
+
+-- the characters are digits of this base
+abbrev pub are_digits : ℕ → List ℕ → Bool
+are_digits base characters = list_all (λ c. nat_lt (digit_value c) base) characters

@@ -8,7 +8,7 @@ use Rattle.std.specs.Str.Parse.{digits_value}
 use Rattle.plain_types.specs.declared.attr.Attr.{Attr}
 use Rattle.definitions.specs.Characters.{is_blank, is_character, is_plain, is_quote, is_digit, is_hexadecimal_digit, is_name_start, is_name_character}
 use Rattle.definitions.specs.Items.{Item, doctype, comment, instruction, start_tag, empty_tag, end_tag, reference, section, plain_character}
-use Rattle.definitions.specs.Spelling.{are_some, is_legal, entity, as_read}
+use Rattle.definitions.specs.Spelling.{is_legal, entity, as_read}
 use Rattle.xhtml_items.specs.Runs.{run_at}
 
 -- Steps.
@@ -76,14 +76,14 @@ up_to stop cs = split_once stop cs then λ text. if_allowed text
 
 -- References.
 
-abbrev pub legal : ℕ → List ℕ → Option (ℕ × List ℕ)
-legal c rest = if is_legal c then Some (c, rest) else None
+-- the character of this number, in digits of a base
+abbrev pub numbered : ℕ → List ℕ → Option ℕ
+numbered base [] = None
+numbered base (first ∷ rest) = if is_legal (digits_value base (first ∷ rest)) then Some (digits_value base (first ∷ rest)) else None
 
 -- the digits of a number, and `;`
 unfoldable pub number_at : (ℕ → Bool) → ℕ → List ℕ → Option (ℕ × List ℕ)
-number_at test base cs =
-    past 59 (span test cs).1 then λ rest.
-    if are_some test (span test cs).0 then legal (digits_value base (span test cs).0) rest else None
+number_at test base cs = past 59 (span test cs).1 then λ rest. numbered base (span test cs).0 then λ c. Some (c, rest)
 
 -- what stands behind `&#`
 unfoldable pub numeric_at : List ℕ → Option (ℕ × List ℕ)

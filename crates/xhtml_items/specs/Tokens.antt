@@ -29,6 +29,10 @@ text_view text = chars text.now
 abbrev pub two_texts : Bor (List ℕ) × Bor (List ℕ) → List ℕ × List ℕ
 two_texts x = (chars x.0.now, chars x.1.now)
 
+-- an entry of a table: a name, and its character
+abbrev pub entry : Bor (List ℕ) × ℕ → List ℕ × ℕ
+entry x = (x.0.now, x.1)
+
 abbrev pub character_view : ℕ × Bor (List ℕ) → ℕ × List ℕ
 character_view x = (x.0, chars x.1.now)
 

@@ -2,5 +2,6 @@
 #![tactic(auto)]
 
 mod characters;
+mod references;
 mod text;
 pub mod token;

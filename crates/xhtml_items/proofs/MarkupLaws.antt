@@ -8,8 +8,8 @@ use Rattle.definitions.specs.Characters.{is_blank, is_character, is_quote, is_na
 use Rattle.definitions.specs.Items.{Item, doctype, instruction}
 use Rattle.definitions.specs.Spelling.{are_some, AreBlanks, AreSomeBlanks, IsName, AreUpTo, IsInstruction, bare_instruction, instruction_text, IsLiteral, literal, IsExternalId, no_identifier, system_identifier, public_identifier, both_identifiers, IsDoctype}
 use Rattle.xhtml_items.specs.Reading.{◌then◌, either_way, span, past, past_word, past_capitals, past_blanks, skip_blanks, name_at, up_to, found, instruction_text_at, instruction_at, past_literal, past_second, past_system, past_public, past_identifier, past_external, doctype_at}
-use Rattle.xhtml_items.proofs.Steps.{chosen, then_some, either_cases, past_takes, past_again, past_none, past_word_takes, past_word_again, past_capitals_takes, past_capitals_again, span_takes, span_again, past_blanks_takes, past_blanks_again, past_blanks_none, name_takes, name_again, skip_takes, skip_again, up_to_takes, up_to_again}
-use Rattle.xhtml_items.proofs.Attributes.{name_before, blanks_before}
+use Rattle.xhtml_items.proofs.StepLaws.{chosen, then_some, either_cases, past_takes, past_again, past_none, past_word_takes, past_word_again, past_capitals_takes, past_capitals_again, span_takes, span_again, past_blanks_takes, past_blanks_again, past_blanks_none, name_takes, name_again, skip_takes, skip_again, up_to_takes, up_to_again}
+use Rattle.xhtml_items.proofs.AttributeLaws.{name_before, blanks_before}
 
 -- Instructions.
 

@@ -9,30 +9,39 @@ use Rattle.std.proofs.lemmas.Bool.Decides.{nat_tests}
 use Rattle.std.proofs.lemmas.Slice.Eq.{bytes_eq-Decides}
 use Rattle.definitions.specs.Characters.{is_digit, is_hexadecimal_digit, is_name, is_name_start, is_name_character}
 use Rattle.definitions.specs.Spelling.{are_some, is_legal, entities, entity, IsName, IsReference, decimal_reference, hexadecimal_reference, entity_reference}
-use Rattle.xhtml_items.specs.Reading.{◌then◌, either_way, span, past, name_at, legal, number_at, numeric_at, entity_at, reference_at}
-use Rattle.xhtml_items.proofs.Steps.{chosen, then_some, either_cases, past_takes, past_again, past_none, span_takes, span_again, all_from_some, name_takes, name_again, name_first}
+use Rattle.xhtml_items.specs.Reading.{◌then◌, either_way, span, past, name_at, numbered, number_at, numeric_at, entity_at, reference_at}
+use Rattle.xhtml_items.proofs.StepLaws.{chosen, then_some, either_cases, past_takes, past_again, past_none, span_takes, span_again, all_from_some, name_takes, name_again, name_first}
+
+numbered_takes : (test : ℕ → Bool) (base : ℕ) (digits : List ℕ) (c : ℕ) → list_all test digits ≡ true → numbered base digits ≡ Some c
+    → IsTrue (are_some test digits) × IsTrue (is_legal (digits_value base digits)) × (c ≡ digits_value base digits)
+numbered_takes test base [] c all e = absurd cc
+numbered_takes test base (first ∷ rest) c all e = elim (chosen (is_legal (digits_value base (first ∷ rest))) _ _ _ e) [
+  | inl w ↦ (all, w.0, let h = w.1 in cc)
+  | inr w ↦ absurd (let h = w.1 in cc)
+]
+
+numbered_again : (test : ℕ → Bool) (base : ℕ) (digits : List ℕ) → are_some test digits ≡ true → is_legal (digits_value base digits) ≡ true
+    → numbered base digits ≡ Some (digits_value base digits)
+numbered_again test base [] some allowed = absurd cc
+numbered_again test base (first ∷ rest) some allowed = rw allowed refl
 
 number_takes : (test : ℕ → Bool) (base : ℕ) (cs : List ℕ) (x : ℕ × List ℕ) → number_at test base cs ≡ Some x
     → (digits : List ℕ) × IsTrue (are_some test digits) × IsTrue (is_legal (digits_value base digits)) × (x.0 ≡ digits_value base digits) × (cs ≡ digits ++ 59 ∷ x.1)
 unfolding number_at
 number_takes test base cs x e =
     let digits = (span test cs).0 in
-    let t = then_some (past 59 (span test cs).1) (λ (rest : List ℕ). cond (are_some test digits) (legal (digits_value base digits) rest) None) x e in
-    elim (chosen (are_some test digits) _ _ _ t.2) [
-      | inl w ↦ elim (chosen (is_legal (digits_value base digits)) _ _ _ w.1) [
-        | inl v ↦ (
-            let is : (digits_value base digits, t.0) ≡ x = (let h = v.1 in cc) in
-            let parts : cs ≡ digits ++ 59 ∷ t.0 = (span_takes test cs).1 ∙ ap (λ (r : List ℕ). digits ++ r) (past_takes 59 (span test cs).1 t.0 t.1) in
-            rw (← is) (digits, w.0, v.0, refl, parts))
-        | inr v ↦ absurd (let h = v.1 in cc)
-        ]
-      | inr w ↦ absurd (let h = w.1 in cc)
-    ]
+    let t = then_some (past 59 (span test cs).1) (λ (rest : List ℕ). numbered base digits then λ c. Some (c, rest)) x e in
+    let n = then_some (numbered base digits) (λ (c : ℕ). Some (c, t.0)) x t.2 in
+    let is : (n.0, t.0) ≡ x = (let h = n.2 in cc) in
+    let s = span_takes test cs in
+    let r = numbered_takes test base digits n.0 s.0 n.1 in
+    rw (← is) (digits, r.0, r.1, r.2, s.1 ∙ ap (λ (r : List ℕ). digits ++ r) (past_takes 59 (span test cs).1 t.0 t.1))
 
 number_again : (test : ℕ → Bool) (base : ℕ) (digits rest : List ℕ) → test 59 ≡ false → are_some test digits ≡ true → is_legal (digits_value base digits) ≡ true
     → number_at test base (digits ++ 59 ∷ rest) ≡ Some (digits_value base digits, rest)
 unfolding number_at
-number_again test base digits rest stops some allowed = rw (span_again test digits 59 rest (all_from_some test digits some) stops, some, allowed) refl
+number_again test base digits rest stops some allowed =
+    rw (span_again test digits 59 rest (all_from_some test digits some) stops, numbered_again test base digits some allowed) refl
 
 decimal_is : (digits : List ℕ) (c : ℕ) → IsTrue (are_some is_digit digits) → IsTrue (is_legal (digits_value 10 digits)) → c ≡ digits_value 10 digits
     → IsReference (38 ∷ 35 ∷ (digits ++ 59 ∷ [])) c
@@ -82,6 +91,7 @@ looked_up test (entry ∷ table) name c all e =
     ]
 
 entity_named : (name : List ℕ) (c : ℕ) → entity name ≡ Some c → IsName name
+unfolding entities
 entity_named name c e = looked_up is_name entities name c refl e
 
 -- a reference that is spelled is read, behind its `&`

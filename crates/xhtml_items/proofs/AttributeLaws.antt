@@ -10,8 +10,8 @@ use Rattle.definitions.specs.Items.{ArePieces}
 use Rattle.definitions.specs.Spelling.{are_some, as_read, AreBlanks, AreSomeBlanks, IsName, IsReference, decimal_reference, hexadecimal_reference, entity_reference, IsValuePart, written_character, referred_character, IsAttribute}
 use Rattle.xhtml_items.specs.Runs.{run_at}
 use Rattle.xhtml_items.specs.Reading.{◌then◌, span, past, past_blanks, skip_blanks, name_at, reference_at, value_part_at, past_value, quoted_at, attribute, attribute_at}
-use Rattle.xhtml_items.proofs.Steps.{chosen, then_some, past_takes, past_again, name_takes, name_again, name_first, skip_takes, skip_again, past_blanks_takes, past_blanks_again, some_filled}
-use Rattle.xhtml_items.proofs.References.{reference_takes, reference_again, Referred}
+use Rattle.xhtml_items.proofs.StepLaws.{chosen, then_some, past_takes, past_again, name_takes, name_again, name_first, skip_takes, skip_again, past_blanks_takes, past_blanks_again, some_filled}
+use Rattle.xhtml_items.proofs.ReferenceLaws.{reference_takes, reference_again, Referred}
 use Rattle.xhtml_items.proofs.RunLaws.{IsReader, Run-takes, Run-again, run_at-is, run_at-Run}
 
 -- Parts of values.

@@ -10,11 +10,11 @@ use Rattle.definitions.specs.Characters.{is_plain, is_name_start, is_name_charac
 use Rattle.definitions.specs.Items.{Item, doctype, comment, instruction, start_tag, empty_tag, end_tag, reference, section, plain_character}
 use Rattle.definitions.specs.Spelling.{IsName, AreUpTo, IsReference, IsTag, IsComment, comment_text, IsSection, section_text, IsDoctype, IsInstruction, Spells}
 use Rattle.xhtml_items.specs.Reading.{◌then◌, either_way, past_word, past_capital, past_capitals, up_to, reference_at, found, tag_end_at, tag_at, end_tag_at, instruction_at, doctype_at, declaration_at, markup_at, item_at}
-use Rattle.xhtml_items.proofs.Steps.{chosen, then_some, either_cases, past_word_takes, up_to_takes, up_to_again, name_first}
+use Rattle.xhtml_items.proofs.StepLaws.{chosen, then_some, either_cases, past_word_takes, up_to_takes, up_to_again, name_first}
 use Rattle.xhtml_items.proofs.RunLaws.{IsReader, shorter}
-use Rattle.xhtml_items.proofs.References.{reference_takes, reference_again}
-use Rattle.xhtml_items.proofs.Tags.{Behind, tag_takes, tag_again, end_tag_takes, end_tag_again}
-use Rattle.xhtml_items.proofs.Markup.{instruction_takes, instruction_again, doctype_takes, doctype_again}
+use Rattle.xhtml_items.proofs.ReferenceLaws.{reference_takes, reference_again}
+use Rattle.xhtml_items.proofs.TagLaws.{Behind, tag_takes, tag_again, end_tag_takes, end_tag_again}
+use Rattle.xhtml_items.proofs.MarkupLaws.{instruction_takes, instruction_again, doctype_takes, doctype_again}
 
 as_doctype : (characters : List ℕ) (item : Item) → item ≡ doctype → IsDoctype characters → Spells characters item
 as_doctype characters item e s = rw e s

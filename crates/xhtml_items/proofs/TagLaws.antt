@@ -15,8 +15,8 @@ use Rattle.definitions.specs.Items.{Item, ArePieces, start_tag, empty_tag, end_t
 use Rattle.definitions.specs.Spelling.{are_some, AreBlanks, AreSomeBlanks, IsName, IsAttribute, IsTag, IsEndTag, Spells}
 use Rattle.xhtml_items.specs.Runs.{run_at}
 use Rattle.xhtml_items.specs.Reading.{◌then◌, either_way, past, past_word, past_blanks, skip_blanks, name_at, attribute_at, are_distinct, found, tag_end_at, attributes_at, tag_at, end_tag_at}
-use Rattle.xhtml_items.proofs.Steps.{chosen, then_some, either_cases, past_takes, past_word_takes, past_blanks_again, past_blanks_none, name_takes, name_again, skip_takes, skip_again}
-use Rattle.xhtml_items.proofs.Attributes.{name_before, attribute_reader}
+use Rattle.xhtml_items.proofs.StepLaws.{chosen, then_some, either_cases, past_takes, past_word_takes, past_blanks_again, past_blanks_none, name_takes, name_again, skip_takes, skip_again}
+use Rattle.xhtml_items.proofs.AttributeLaws.{name_before, attribute_reader}
 use Rattle.xhtml_items.proofs.RunLaws.{Run-takes, Run-again, run_at-is, run_at-Run}
 
 -- Distinct names.
