@@ -2,6 +2,7 @@
 use Rattle.std.specs.Prelude.{◌≡◌, ℕ, List, Option, Some, None}
 use Rattle.std.specs.Str.{chars}
 use Rattle.std.specs.Borrow.{Bor}
+use Rattle.plain_types.specs.declared.attr.Attr.{Attr}
 use Rattle.definitions.specs.Items.{Item, doctype, comment, instruction, start_tag, empty_tag, end_tag, reference, section, plain_character}
 use Rattle.xhtml_items.specs.declared.token.Token.{Token}
 use Rattle.xhtml_items.specs.declared.token.Token.TheVariants.{Doctype, Comment, Instruction, StartTag, EmptyTag, EndTag, Reference, Section, Character}
@@ -35,6 +36,15 @@ entry x = (x.0.now, x.1)
 
 abbrev pub character_view : ℕ × Bor (List ℕ) → ℕ × List ℕ
 character_view x = (x.0, chars x.1.now)
+
+abbrev pub value_view : List ℕ × Bor (List ℕ) → List ℕ × List ℕ
+value_view x = (x.0, chars x.1.now)
+
+abbrev pub attribute_view : Attr × Bor (List ℕ) → Attr × List ℕ
+attribute_view x = (x.0, chars x.1.now)
+
+abbrev pub attributes_view : List Attr × Bor (List ℕ) → List Attr × List ℕ
+attributes_view x = (x.0, chars x.1.now)
 
 abbrev pub token_view : Token × Bor (List ℕ) → Item × List ℕ
 token_view x = (item_of x.0, chars x.1.now)

@@ -1,6 +1,7 @@
 //! Items of documents.
 #![tactic(auto)]
 
+mod attributes;
 mod characters;
 mod references;
 mod text;

@@ -46,9 +46,11 @@ fn numbered(base: u32, digits: &str) -> Option<char>
     let Ok(number) = u32::from_str_radix(digits, base) else {
         return None;
     };
-    match char::from_u32(number) {
-        Some(character) if is_legal(character) => Some(character),
-        _ => None,
+    let character = char::from_u32(number)?;
+    if is_legal(character) {
+        Some(character)
+    } else {
+        None
     }
 }
 
