@@ -8,3 +8,4 @@ pub mod ItemLaws
 pub mod Cuts
 pub mod Texts
 pub mod Numbers
+pub mod Names

@@ -3,7 +3,7 @@
 ghost use Rattle.std.specs.Prelude.{◌≡◌, IfSome, IfOk};
 ghost use Rattle.std.specs.Str.{chars, IsUtf8};
 ghost use Rattle.xhtml_items.specs.Runs.{run_at};
-ghost use Rattle.xhtml_items.specs.Reading.{value_part_at, quoted_at, attribute_at};
+ghost use Rattle.xhtml_items.specs.Reading.{value_part_at, quoted_at, attribute_at, are_distinct};
 ghost use Rattle.xhtml_items.specs.Tokens.{Reads, character_view, value_view, attribute_view, attributes_view};
 
 use crate::characters::{as_read, is_plain, is_quote};
@@ -14,6 +14,7 @@ use plain_types::list::List;
 use plain_types::memory::Memory;
 use plain_types::text::Text;
 use std::alloc::Global;
+use std::collections::BTreeSet;
 
 /// A part of a value between two of these quotes: the character that it reads as.
 #[tactic(auto, unfolding(crate::specs::Reading::value_part_at))]
@@ -98,4 +99,18 @@ pub(crate) fn attributes(alloc: Global, text: &str) -> Result<(List<Attr>, &str)
         rest = after;
     }
     Ok((attrs, rest))
+}
+
+/// Whether no two of the attributes have one name, in time n log n.
+pub(crate) fn are_distinct(alloc: Global, attrs: &[Attr]) -> Result<bool, Memory>
+    ensures { IfOk result (λ distinct. distinct ≡ are_distinct attrs.now) }
+{
+    let mut seen = BTreeSet::new(alloc);
+    for attr in attrs {
+        let is_new = seen.insert(attr.name.as_str())?;
+        if !is_new {
+            return Ok(false);
+        }
+    }
+    Ok(true)
 }
