@@ -98,13 +98,15 @@ system_takes cs rest e =
     (s.0, l.0, s.1, l.1, s.2 ∙ ap (λ (r : List ℕ). s.0 ++ r) l.2)
 
 -- what a second literal leaves: it was there, or nothing was passed
-second_takes : (cs rest : List ℕ) → past_second cs ≡ Some rest
-    → (rest ≡ cs) ⊎ ((after : List ℕ) × (text : List ℕ) × AreSomeBlanks after × IsLiteral text × (cs ≡ after ++ (text ++ rest)))
-unfolding past_second past_system
-second_takes cs rest e = elim (either_cases (past_blanks cs then λ start. past_literal start) (λ (rest : List ℕ). Some rest) (Some cs) _ e) [
-  | inl w ↦ (let same : w.0 ≡ rest = (let h = w.2 in cc) in inr (system_takes cs rest (rw same at w.1)))
-  | inr w ↦ inl (let h = w.1 in cc)
-]
+second_takes : (cs : List ℕ)
+    → (past_second cs ≡ cs) ⊎ ((after : List ℕ) × (text : List ℕ) × AreSomeBlanks after × IsLiteral text × (cs ≡ after ++ (text ++ past_second cs)))
+unfolding past_second
+second_takes cs = go (past_system cs) refl
+  where
+    go : (o : Option (List ℕ)) → past_system cs ≡ o
+        → (either_way o (λ rest. rest) cs ≡ cs) ⊎ ((after : List ℕ) × (text : List ℕ) × AreSomeBlanks after × IsLiteral text × (cs ≡ after ++ (text ++ either_way o (λ rest. rest) cs)))
+    go (Some rest) e = inr (system_takes cs rest e)
+    go None e = inl refl
 
 external_takes : (cs rest : List ℕ) → past_external cs ≡ Some rest → (front : List ℕ) × IsExternalId front × (cs ≡ front ++ rest)
 unfolding past_external past_identifier past_public
@@ -115,17 +117,15 @@ external_takes cs rest e = elim (either_cases (past_blanks cs) (λ (start : List
   public_takes : (before start : List ℕ) → AreSomeBlanks before → cs ≡ before ++ (codes "PUBLIC" ++ start) → past_public start ≡ Some rest
       → (front : List ℕ) × IsExternalId front × (cs ≡ front ++ rest)
   public_takes before start some parts e =
-      let b = then_some (past_blanks start) (λ (from : List ℕ). past_literal from then λ rest. past_second rest) rest e in
-      let s = past_blanks_takes start b.0 b.1 in
-      let l = then_some (past_literal b.0) (λ (more : List ℕ). past_second more) rest b.2 in
-      let t = literal_takes b.0 l.0 l.1 in
-      let whole : cs ≡ before ++ (codes "PUBLIC" ++ (s.0 ++ (t.0 ++ l.0))) =
-          parts ∙ ap (λ (r : List ℕ). before ++ (codes "PUBLIC" ++ r)) (s.2 ∙ ap (λ (r : List ℕ). s.0 ++ r) t.2) in
-      elim (second_takes l.0 rest l.2) [
-        | inl same ↦ (before ++ codes "PUBLIC" ++ s.0 ++ t.0, public_identifier before s.0 some s.1 t.1, 
-            whole ∙ ap (λ (r : List ℕ). before ++ (codes "PUBLIC" ++ (s.0 ++ (t.0 ++ r)))) (sym same) ∙ sym (simp append_assoc))
-        | inr w ↦ (before ++ codes "PUBLIC" ++ s.0 ++ t.0 ++ w.0 ++ w.1, both_identifiers before s.0 w.0 some s.1 t.1 w.2 w.3,
-            whole ∙ ap (λ (r : List ℕ). before ++ (codes "PUBLIC" ++ (s.0 ++ (t.0 ++ r)))) w.4 ∙ sym (simp append_assoc))
+      let l = then_some (past_system start) (λ (more : List ℕ). Some (past_second more)) rest e in
+      let t = system_takes start l.0 l.1 in
+      let is : past_second l.0 ≡ rest = (let h = l.2 in cc) in
+      let whole : cs ≡ before ++ (codes "PUBLIC" ++ (t.0 ++ (t.1 ++ l.0))) = parts ∙ ap (λ (r : List ℕ). before ++ (codes "PUBLIC" ++ r)) t.4 in
+      elim (second_takes l.0) [
+        | inl same ↦ (before ++ codes "PUBLIC" ++ t.0 ++ t.1, public_identifier before t.0 some t.2 t.3,
+            whole ∙ ap (λ (r : List ℕ). before ++ (codes "PUBLIC" ++ (t.0 ++ (t.1 ++ r)))) (sym same ∙ is) ∙ sym (simp append_assoc))
+        | inr w ↦ (before ++ codes "PUBLIC" ++ t.0 ++ t.1 ++ w.0 ++ w.1, both_identifiers before t.0 w.0 some t.2 t.3 w.2 w.3,
+            whole ∙ ap (λ (r : List ℕ). before ++ (codes "PUBLIC" ++ (t.0 ++ (t.1 ++ r)))) (w.4 ∙ ap (λ (r : List ℕ). w.0 ++ (w.1 ++ r)) is) ∙ sym (simp append_assoc))
       ]
 
   identifier_takes : (before start : List ℕ) → AreSomeBlanks before → cs ≡ before ++ start → past_identifier cs start ≡ Some rest
@@ -144,8 +144,8 @@ external_takes cs rest e = elim (either_cases (past_blanks cs) (λ (start : List
   ]
 
 -- nothing more is passed before the end of a doctype
-no_second : (blanks rest : List ℕ) → AreBlanks blanks → past_second (blanks ++ 62 ∷ rest) ≡ Some (blanks ++ 62 ∷ rest)
-unfolding past_second past_literal
+no_second : (blanks rest : List ℕ) → AreBlanks blanks → past_second (blanks ++ 62 ∷ rest) ≡ blanks ++ 62 ∷ rest
+unfolding past_second past_system past_literal
 no_second [] rest blank = refl
 no_second (b ∷ blanks) rest blank = rw (past_blanks_again (b ∷ blanks) 62 rest blank refl) refl
 
@@ -167,7 +167,7 @@ external_again (public_identifier before between {public} some parted text) blan
     let end = blanks ++ 62 ∷ rest in
     let whole : (before ++ codes "PUBLIC" ++ between ++ public) ++ end ≡ before ++ (codes "PUBLIC" ++ (between ++ (public ++ end))) = simp append_assoc in
     let l = literal_again between parted text end in
-    ap past_external whole ∙ rw (past_blanks_again before 80 (85 ∷ 66 ∷ 76 ∷ 73 ∷ 67 ∷ (between ++ (public ++ end))) some refl, l.0, l.1) (no_second blanks rest blank)
+    ap past_external whole ∙ rw (past_blanks_again before 80 (85 ∷ 66 ∷ 76 ∷ 73 ∷ 67 ∷ (between ++ (public ++ end))) some refl, l.0, l.1, no_second blanks rest blank) refl
 external_again (both_identifiers before between after {public} {system} some parted text apart other) blanks rest blank =
     let end = blanks ++ 62 ∷ rest in
     let whole : (before ++ codes "PUBLIC" ++ between ++ public ++ after ++ system) ++ end ≡ before ++ (codes "PUBLIC" ++ (between ++ (public ++ (after ++ (system ++ end))))) = simp append_assoc in

@@ -166,15 +166,17 @@ unfoldable pub past_literal : List ℕ → Option (List ℕ)
 past_literal [] = None
 past_literal (quote ∷ cs) = if is_quote quote then past quote (span (λ c. is_character c && not (c == quote)) cs).1 else None
 
--- after a second literal, if there is one
-unfoldable pub past_second : List ℕ → Option (List ℕ)
-past_second cs = either_way (past_blanks cs then λ start. past_literal start) (λ rest. Some rest) (Some cs)
-
+-- after blanks and a literal
 unfoldable pub past_system : List ℕ → Option (List ℕ)
 past_system cs = past_blanks cs then λ start. past_literal start
 
+-- after a second literal, if there is one
+unfoldable pub past_second : List ℕ → List ℕ
+past_second cs = either_way (past_system cs) (λ rest. rest) cs
+
+-- after blanks, a literal and maybe a second one
 unfoldable pub past_public : List ℕ → Option (List ℕ)
-past_public cs = past_blanks cs then λ start. past_literal start then λ rest. past_second rest
+past_public cs = past_system cs then λ rest. Some (past_second rest)
 
 unfoldable pub past_identifier : List ℕ → List ℕ → Option (List ℕ)
 past_identifier cs start =
@@ -193,11 +195,19 @@ doctype_at cs =
 
 -- The first item.
 
+-- a comment behind its `<!--`
+abbrev pub comment_at : List ℕ → Option (Item × List ℕ)
+comment_at cs = up_to (codes "-->") cs then λ text. found comment text.1
+
+-- a section behind its `<![CDATA[`
+abbrev pub section_at : List ℕ → Option (Item × List ℕ)
+section_at cs = up_to (codes "]]>") cs then λ text. found (section text.0) text.1
+
 -- what stands behind `<!`
 unfoldable pub declaration_at : List ℕ → Option (Item × List ℕ)
 declaration_at cs =
-    either_way (past_word (codes "--") cs) (λ rest. up_to (codes "-->") rest then λ text. found comment text.1)
-    (either_way (past_word (codes "[CDATA[") cs) (λ rest. up_to (codes "]]>") rest then λ text. found (section text.0) text.1)
+    either_way (past_word (codes "--") cs) (λ rest. comment_at rest)
+    (either_way (past_word (codes "[CDATA[") cs) (λ rest. section_at rest)
     (doctype_at cs))
 
 -- what stands behind `<`

@@ -1,6 +1,6 @@
 -- What the functions that read a text return, seen on lists of characters.
 use Rattle.std.specs.Prelude.{◌≡◌, ℕ, List, Option, Some, None}
-use Rattle.std.specs.Str.{chars}
+use Rattle.std.specs.Str.{chars, IsUtf8}
 use Rattle.std.specs.Borrow.{Bor}
 use Rattle.plain_types.specs.declared.attr.Attr.{Attr}
 use Rattle.definitions.specs.Items.{Item, doctype, comment, instruction, start_tag, empty_tag, end_tag, reference, section, plain_character}
@@ -23,6 +23,18 @@ item_of (EndTag name) = end_tag (chars name.now)
 item_of (Reference character) = reference character
 item_of (Section characters) = section (chars characters.now)
 item_of (Character character) = plain_character character
+
+-- the parts of the text that a token holds are texts
+abbrev pub IsText : Token → Type 0
+IsText Doctype = Unit {0}
+IsText Comment = Unit {0}
+IsText Instruction = Unit {0}
+IsText (StartTag name attrs) = IsUtf8 name.now
+IsText (EmptyTag name attrs) = IsUtf8 name.now
+IsText (EndTag name) = IsUtf8 name.now
+IsText (Reference character) = Unit {0}
+IsText (Section characters) = IsUtf8 characters.now
+IsText (Character character) = Unit {0}
 
 abbrev pub text_view : Bor (List ℕ) → List ℕ
 text_view text = chars text.now

@@ -3,6 +3,9 @@
 
 mod attributes;
 mod characters;
+pub mod item;
+mod markup;
 mod references;
+mod tags;
 mod text;
 pub mod token;
