@@ -1,17 +1,17 @@
 -- Attributes are read as they are spelled.
-use Rattle.std.proofs.Common.{◌≡◌, ◌≢◌, ℕ, ◌+◌, ◌<◌, ◌≤◌, Bool, true, false, cond, not, ◌&&◌, ◌||◌, eqb, IsTrue, List, [], ◌∷◌, ◌++◌, length, Option, Some, None, ◌⊎◌, inl, inr, refl, sym, ap, ◌∙◌, append_assoc, arith}
+use Rattle.std.proofs.Common.{◌≡◌, ℕ, ◌<◌, Bool, true, false, cond, not, ◌&&◌, eqb, IsTrue, List, [], ◌∷◌, ◌++◌, length, Option, Some, None, inl, inr, refl, sym, ap, ◌∙◌, append_assoc, arith}
 use Rattle.std.specs.List.{list_all}
 use Rattle.std.proofs.lemmas.Bool.{and_parts, eqb-true}
 use Rattle.std.proofs.lemmas.Bool.Decides.{nat_tests}
 use Rattle.std.proofs.lemmas.List.{length-append}
 use Rattle.plain_types.specs.declared.attr.Attr.{Attr}
-use Rattle.definitions.specs.Characters.{is_blank, is_character, is_plain, is_quote, is_name_start, is_name_character}
+use Rattle.definitions.specs.Characters.{is_blank, is_plain, is_quote, is_name_start, is_name_character}
 use Rattle.definitions.specs.Items.{ArePieces}
-use Rattle.definitions.specs.Spelling.{are_some, as_read, AreBlanks, AreSomeBlanks, IsName, IsReference, decimal_reference, hexadecimal_reference, entity_reference, IsValuePart, written_character, referred_character, IsAttribute}
+use Rattle.definitions.specs.Spelling.{as_read, AreBlanks, AreSomeBlanks, IsName, IsValuePart, written_character, referred_character, IsAttribute}
 use Rattle.xhtml_items.specs.Runs.{run_at}
-use Rattle.xhtml_items.specs.Reading.{◌then◌, span, past, past_blanks, skip_blanks, name_at, reference_at, value_part_at, past_value, quoted_at, attribute, attribute_at}
-use Rattle.xhtml_items.proofs.StepLaws.{chosen, then_some, past_takes, past_again, name_takes, name_again, name_first, skip_takes, skip_again, past_blanks_takes, past_blanks_again, some_filled}
-use Rattle.xhtml_items.proofs.ReferenceLaws.{reference_takes, reference_again, Referred}
+use Rattle.xhtml_items.specs.Reading.{◌then◌, past, past_blanks, skip_blanks, name_at, reference_at, value_part_at, quoted_at, attribute, attribute_at}
+use Rattle.xhtml_items.proofs.StepLaws.{chosen, then_some, past_takes, past_again, name_takes, name_again, skip_takes, skip_again, past_blanks_takes, past_blanks_again, some_filled}
+use Rattle.xhtml_items.proofs.ReferenceLaws.{reference_takes, reference_again}
 use Rattle.xhtml_items.proofs.RunLaws.{IsReader, Run-takes, Run-again, run_at-is, run_at-Run}
 
 -- Parts of values.
@@ -27,7 +27,7 @@ part_takes quote (c ∷ cs) x e = elim (chosen (eqb c 38) _ _ _ e) [
   | inr w ↦ elim (chosen (is_plain c && not (eqb c quote)) _ _ _ w.1) [
     | inl v ↦ (let is : (as_read c, cs) ≡ x = (let h = v.1 in cc) in rw (← is) (c ∷ [], written_character c v.0, refl))
     | inr v ↦ absurd (let h = v.1 in cc)
-    ]
+  ]
 ]
 
 no_ampersand : (c quote : ℕ) → (is_plain c && not (eqb c quote)) ≡ true → eqb c 38 ≡ false
@@ -95,7 +95,7 @@ quoted_again : (quote : ℕ) (written value rest : List ℕ) → is_quote quote 
 unfolding quoted_at
 quoted_again quote written value rest h p =
     let run = run_at-is (IsValuePart quote) (value_part_at quote) (part_reader quote)
-        (Run-again (IsValuePart quote) (value_part_at quote) (part_reader quote) value written (quote ∷ rest) p (no_part quote h rest)) in
+    (Run-again (IsValuePart quote) (value_part_at quote) (part_reader quote) value written (quote ∷ rest) p (no_part quote h rest)) in
     rw (h, run, past_again quote rest) refl
 
 -- Attributes.
@@ -104,9 +104,9 @@ attribute_takes : (cs : List ℕ) (x : Attr × List ℕ) → attribute_at cs ≡
 unfolding attribute_at
 attribute_takes cs x e =
     let b = then_some (past_blanks cs) (λ (start : List ℕ).
-        name_at start then λ name. past 61 (skip_blanks name.1) then λ sign. quoted_at (skip_blanks sign) then λ value. Some (attribute name.0 value.0, value.1)) x e in
+    name_at start then λ name. past 61 (skip_blanks name.1) then λ sign. quoted_at (skip_blanks sign) then λ value. Some (attribute name.0 value.0, value.1)) x e in
     let n = then_some (name_at b.0) (λ (name : List ℕ × List ℕ).
-        past 61 (skip_blanks name.1) then λ sign. quoted_at (skip_blanks sign) then λ value. Some (attribute name.0 value.0, value.1)) x b.2 in
+    past 61 (skip_blanks name.1) then λ sign. quoted_at (skip_blanks sign) then λ value. Some (attribute name.0 value.0, value.1)) x b.2 in
     let s = then_some (past 61 (skip_blanks n.0.1)) (λ (sign : List ℕ). quoted_at (skip_blanks sign) then λ value. Some (attribute n.0.0 value.0, value.1)) x n.2 in
     let v = then_some (quoted_at (skip_blanks s.0)) (λ (value : List ℕ × List ℕ). Some (attribute n.0.0 value.0, value.1)) x s.2 in
     let is : (attribute n.0.0 v.0.0, v.0.1) ≡ x = (let h = v.2 in cc) in
@@ -118,24 +118,25 @@ attribute_takes cs x e =
         → ((after_sign : List ℕ) × AreBlanks after_sign × (sign ≡ after_sign ++ skip_blanks sign)) → TakenValue (skip_blanks sign) value
         → (front : List ℕ) × IsAttribute front (attribute name.0 value.0) × (cs ≡ front ++ value.1)
     made cs start name sign value b n f s g v = (
-        b.0 ++ name.0 ++ f.0 ++ 61 ∷ [] ++ g.0 ++ v.quote ∷ [] ++ v.value ++ v.quote ∷ [],
-        record {
-          before = b.0;
-          after_name = f.0;
-          after_sign = g.0;
-          quote = v.quote;
-          value = v.value;
-          parted = b.1;
-          named = n.0;
-          blanks = (f.1, g.1);
-          quoted = v.quoted;
-          reads = v.reads;
-          parts = refl;
-        },
-        b.2
-        ∙ ap (λ (r : List ℕ). b.0 ++ r) (n.1 ∙ ap (λ (r : List ℕ). name.0 ++ r) (f.2 ∙ ap (λ (r : List ℕ). f.0 ++ r) (s
-        ∙ ap (λ (r : List ℕ). 61 ∷ r) (g.2 ∙ ap (λ (r : List ℕ). g.0 ++ r) v.parts))))
-        ∙ sym (simp append_assoc))
+      b.0 ++ name.0 ++ f.0 ++ 61 ∷ [] ++ g.0 ++ v.quote ∷ [] ++ v.value ++ v.quote ∷ [],
+      record {
+        before = b.0;
+        after_name = f.0;
+        after_sign = g.0;
+        quote = v.quote;
+        value = v.value;
+        parted = b.1;
+        named = n.0;
+        blanks = (f.1, g.1);
+        quoted = v.quoted;
+        reads = v.reads;
+        parts = refl;
+      },
+      b.2
+          ∙ ap (λ (r : List ℕ). b.0 ++ r) (n.1 ∙ ap (λ (r : List ℕ). name.0 ++ r) (f.2 ∙ ap (λ (r : List ℕ). f.0 ++ r) (s
+          ∙ ap (λ (r : List ℕ). 61 ∷ r) (g.2 ∙ ap (λ (r : List ℕ). g.0 ++ r) v.parts))))
+          ∙ sym (simp append_assoc),
+    )
 
 not_blank : (quote : ℕ) → is_quote quote ≡ true → is_blank quote ≡ false
 not_blank quote h = grind (arith, nat_tests)
@@ -162,8 +163,8 @@ unfolding attribute_at
 attribute_again attr front rest s =
     let whole : front ++ rest ≡ s.before ++ (attr.name ++ (s.after_name ++ 61 ∷ (s.after_sign ++ s.quote ∷ (s.value ++ s.quote ∷ rest)))) = rw s.parts (simp append_assoc) in
     ap attribute_at whole ∙ chain s.before attr.name s.after_name s.after_sign s.quote (s.value ++ s.quote ∷ rest) (attr.value, rest)
-        (blanks_before s.before attr.name _ s.parted s.named) (name_before attr.name s.after_name 61 _ s.named s.blanks.0 refl)
-        (skip_again s.after_name 61 _ s.blanks.0 refl) (skip_again s.after_sign s.quote _ s.blanks.1 (not_blank s.quote s.quoted)) (quoted_again s.quote s.value attr.value rest s.quoted s.reads)
+    (blanks_before s.before attr.name _ s.parted s.named) (name_before attr.name s.after_name 61 _ s.named s.blanks.0 refl)
+    (skip_again s.after_name 61 _ s.blanks.0 refl) (skip_again s.after_sign s.quote _ s.blanks.1 (not_blank s.quote s.quoted)) (quoted_again s.quote s.value attr.value rest s.quoted s.reads)
   where
     chain : (before name after_name after_sign : List ℕ) (q : ℕ) (more : List ℕ) (v : List ℕ × List ℕ)
         → past_blanks (before ++ (name ++ (after_name ++ 61 ∷ (after_sign ++ q ∷ more)))) ≡ Some (name ++ (after_name ++ 61 ∷ (after_sign ++ q ∷ more)))

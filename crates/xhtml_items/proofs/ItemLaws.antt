@@ -1,15 +1,15 @@
 -- The first item that reading gives is spelled there, and an item that is spelled there is given.
-use Rattle.std.proofs.Common.{◌≡◌, ◌≢◌, ℕ, ◌+◌, ◌<◌, ◌≤◌, Bool, true, false, cond, not, ◌&&◌, ◌||◌, eqb, IsTrue, List, [], ◌∷◌, ◌++◌, length, Option, Some, None, ◌⊎◌, inl, inr, refl, sym, ap, ◌∙◌, append_assoc, codes, map, arith}
+use Rattle.std.proofs.Common.{◌≡◌, ℕ, ◌<◌, Bool, true, false, cond, eqb, List, [], ◌∷◌, ◌++◌, length, Option, Some, None, inl, inr, refl, sym, ap, ◌∙◌, append_assoc, codes, map, arith}
 use Rattle.std.specs.Char.{to_ascii_uppercase}
-use Rattle.std.proofs.lemmas.Bool.{and_parts, eqb-true}
+use Rattle.std.proofs.lemmas.Bool.{eqb-true}
 use Rattle.std.proofs.lemmas.Bool.Decides.{nat_tests}
 use Rattle.std.proofs.lemmas.List.{append-nil}
 use Rattle.plain_types.specs.Tree.{HasDistinctNames}
 use Rattle.plain_types.specs.declared.attr.Attr.{Attr}
-use Rattle.definitions.specs.Characters.{is_plain, is_name_start, is_name_character}
+use Rattle.definitions.specs.Characters.{is_plain, is_name_start}
 use Rattle.definitions.specs.Items.{Item, doctype, comment, instruction, start_tag, empty_tag, end_tag, reference, section, plain_character}
-use Rattle.definitions.specs.Spelling.{IsName, AreUpTo, IsReference, IsTag, IsComment, comment_text, IsSection, section_text, IsDoctype, IsInstruction, Spells}
-use Rattle.xhtml_items.specs.Reading.{◌then◌, either_way, past_word, past_capital, past_capitals, up_to, reference_at, found, tag_end_at, tag_at, end_tag_at, instruction_at, doctype_at, declaration_at, markup_at, item_at}
+use Rattle.definitions.specs.Spelling.{IsName, IsTag, IsComment, comment_text, IsSection, section_text, IsDoctype, IsInstruction, Spells}
+use Rattle.xhtml_items.specs.Reading.{◌then◌, past_word, up_to, reference_at, found, tag_end_at, tag_at, doctype_at, declaration_at, markup_at, item_at}
 use Rattle.xhtml_items.proofs.StepLaws.{chosen, then_some, either_cases, past_word_takes, up_to_takes, up_to_again, name_first}
 use Rattle.xhtml_items.proofs.RunLaws.{IsReader, shorter}
 use Rattle.xhtml_items.proofs.ReferenceLaws.{reference_takes, reference_again}
@@ -45,7 +45,7 @@ declaration_takes cs x e = elim (either_cases (past_word (codes "--") cs) (λ (r
           parts = past_word_takes (codes "[CDATA[") cs v.0 v.1 ∙ ap (λ (r : List ℕ). codes "[CDATA[" ++ r) (u.1 ∙ sym (append_assoc t.0.0 (codes "]]>") t.0.1));
         }))
     | inr v ↦ (let t = doctype_takes cs x v.1 in record { front = t.0; spelled = as_doctype _ x.0 t.1 t.2; parts = t.3 })
-    ]
+  ]
 ]
 
 markup_takes : (cs : List ℕ) (x : Item × List ℕ) → markup_at cs ≡ Some x → Behind (60 ∷ []) cs x
@@ -58,8 +58,8 @@ markup_takes (c ∷ cs) x e = elim (chosen (eqb c 33) _ _ _ e) [
     | inr v ↦ elim (chosen (eqb c 47) _ _ _ v.1) [
       | inl u ↦ behind 47 (eqb-true c 47 u.0) (end_tag_takes cs x u.1)
       | inr u ↦ tag_takes (c ∷ cs) x u.1
-      ]
     ]
+  ]
 ] where
   behind : (d : ℕ) → c ≡ d → Behind (60 ∷ d ∷ []) cs x → Behind (60 ∷ []) (c ∷ cs) x
   behind d same b = rw same (record { front = d ∷ b.front; spelled = b.spelled; parts = ap (λ (r : List ℕ). d ∷ r) b.parts })
@@ -83,8 +83,8 @@ item_takes (c ∷ cs) x e = elim (chosen (eqb c 60) _ _ _ e) [
     | inr v ↦ elim (chosen (is_plain c) _ _ _ v.1) [
       | inl u ↦ (let is : (plain_character c, cs) ≡ x = (let h = u.1 in cc) in rw (← is) (c ∷ [], (u.0, refl), refl))
       | inr u ↦ absurd (let h = u.1 in cc)
-      ]
     ]
+  ]
 ]
 
 -- the word of a doctype begins neither a comment nor a section
@@ -104,9 +104,12 @@ unfolding declaration_at
 doctype_behind characters rest s =
     let t = doctype_again characters rest s in
     let more = s.before ++ s.name ++ s.identifier ++ s.after ++ 62 ∷ [] in
-    let same : t.0 ++ rest ≡ s.word ++ (more ++ rest) = ap (λ (u : List ℕ). u ++ rest) (tail_of t.0 (s.word ++ s.before ++ s.name ++ s.identifier ++ s.after ++ 62 ∷ []) (sym t.1 ∙ s.parts)) ∙ simp append_assoc in
-    (t.0, t.1, neither (t.0 ++ rest) (ap (λ (u : List ℕ). past_word (codes "--") u) same ∙ no_word 45 (45 ∷ []) s.word (more ++ rest) s.spelled refl)
-        (ap (λ (u : List ℕ). past_word (codes "[CDATA[") u) same ∙ no_word 91 (codes "CDATA[") s.word (more ++ rest) s.spelled refl) ∙ t.2)
+    let same : t.0 ++ rest ≡ s.word ++ (more ++ rest) = ap (λ (u : List ℕ). u ++ rest) (tail_of t.0 (s.word ++ s.before ++ s.name ++ s.identifier ++ s.after ++ 62 ∷ []) (sym t.1 ∙ s.parts)) ∙ simp append_assoc in (
+      t.0,
+      t.1,
+      neither (t.0 ++ rest) (ap (λ (u : List ℕ). past_word (codes "--") u) same ∙ no_word 45 (45 ∷ []) s.word (more ++ rest) s.spelled refl)
+          (ap (λ (u : List ℕ). past_word (codes "[CDATA[") u) same ∙ no_word 91 (codes "CDATA[") s.word (more ++ rest) s.spelled refl) ∙ t.2,
+    )
   where
     tail_of : (a b : List ℕ) → 60 ∷ 33 ∷ a ≡ 60 ∷ 33 ∷ b → a ≡ b
     tail_of a b e = cc

@@ -1,14 +1,14 @@
 -- Instructions and doctypes are read as they are spelled.
-use Rattle.std.proofs.Common.{◌≡◌, ◌≢◌, ℕ, ◌+◌, ◌<◌, ◌≤◌, Bool, true, false, cond, not, ◌&&◌, ◌||◌, eqb, IsTrue, List, [], ◌∷◌, ◌++◌, length, Option, Some, None, ◌⊎◌, inl, inr, refl, sym, ap, ◌∙◌, append_assoc, codes, map, arith}
+use Rattle.std.proofs.Common.{◌≡◌, ℕ, true, false, not, ◌&&◌, eqb, List, [], ◌∷◌, ◌++◌, Option, Some, None, ◌⊎◌, inl, inr, refl, sym, ap, ◌∙◌, append_assoc, codes, map, arith}
 use Rattle.std.specs.Char.{to_ascii_uppercase}
 use Rattle.std.specs.List.{list_all}
-use Rattle.std.proofs.lemmas.Bool.{and_parts, eqb-true}
+use Rattle.std.proofs.lemmas.Bool.{and_parts}
 use Rattle.std.proofs.lemmas.Bool.Decides.{nat_tests}
-use Rattle.definitions.specs.Characters.{is_blank, is_character, is_quote, is_name_start, is_name_character}
+use Rattle.definitions.specs.Characters.{is_blank, is_character, is_quote, is_name_character}
 use Rattle.definitions.specs.Items.{Item, doctype, instruction}
-use Rattle.definitions.specs.Spelling.{are_some, AreBlanks, AreSomeBlanks, IsName, AreUpTo, IsInstruction, bare_instruction, instruction_text, IsLiteral, literal, IsExternalId, no_identifier, system_identifier, public_identifier, both_identifiers, IsDoctype}
+use Rattle.definitions.specs.Spelling.{AreBlanks, AreSomeBlanks, IsName, AreUpTo, IsInstruction, bare_instruction, instruction_text, IsLiteral, literal, IsExternalId, no_identifier, system_identifier, public_identifier, both_identifiers, IsDoctype}
 use Rattle.xhtml_items.specs.Reading.{◌then◌, either_way, span, past, past_word, past_capitals, past_blanks, skip_blanks, name_at, up_to, found, instruction_text_at, instruction_at, past_literal, past_second, past_system, past_public, past_identifier, past_external, doctype_at}
-use Rattle.xhtml_items.proofs.StepLaws.{chosen, then_some, either_cases, past_takes, past_again, past_none, past_word_takes, past_word_again, past_capitals_takes, past_capitals_again, span_takes, span_again, past_blanks_takes, past_blanks_again, past_blanks_none, name_takes, name_again, skip_takes, skip_again, up_to_takes, up_to_again}
+use Rattle.xhtml_items.proofs.StepLaws.{chosen, then_some, either_cases, past_takes, past_again, past_word_takes, past_capitals_takes, past_capitals_again, span_takes, span_again, past_blanks_takes, past_blanks_again, name_takes, name_again, skip_takes, skip_again, up_to_takes, up_to_again}
 use Rattle.xhtml_items.proofs.AttributeLaws.{name_before, blanks_before}
 
 -- Instructions.
@@ -22,8 +22,12 @@ instruction_takes cs x e =
     elim (either_cases (past_word (codes "?>") n.0.1) (λ (rest : List ℕ). found instruction rest) _ _ n.2) [
       | inl w ↦ (
           let is : (instruction, w.0) ≡ x = (let h = w.2 in cc) in
-          rw (← is) (n.0.0 ++ codes "?>", refl, bare_instruction n.0.0 p.0,
-              p.1 ∙ ap (λ (r : List ℕ). n.0.0 ++ r) (past_word_takes (codes "?>") n.0.1 w.0 w.1) ∙ sym (append_assoc n.0.0 (codes "?>") w.0)))
+          rw (← is) (
+            n.0.0 ++ codes "?>",
+            refl,
+            bare_instruction n.0.0 p.0,
+            p.1 ∙ ap (λ (r : List ℕ). n.0.0 ++ r) (past_word_takes (codes "?>") n.0.1 w.0 w.1) ∙ sym (append_assoc n.0.0 (codes "?>") w.0),
+          ))
       | inr w ↦ (
           let t = text_takes n.0.0 n.0.1 x p.0 w.1 in
           (n.0.0 ++ t.0, t.1, t.2, p.1 ∙ ap (λ (r : List ℕ). n.0.0 ++ r) t.3 ∙ sym (append_assoc n.0.0 t.0 x.1)))
@@ -54,10 +58,12 @@ instruction_again (bare_instruction target named) rest =
 instruction_again (instruction_text target blank {inside} named h up) rest =
     let whole : (target ++ blank ∷ inside ++ codes "?>") ++ rest ≡ target ++ blank ∷ (inside ++ (codes "?>" ++ rest)) = simp append_assoc in
     let ends : is_name_character blank ≡ false = grind (arith, nat_tests) in
-    let other : past_word (codes "?>") (blank ∷ (inside ++ (codes "?>" ++ rest))) ≡ None = (let unlike : eqb blank 63 ≡ false = grind (arith, nat_tests) in rw unlike refl) in
-    (target ++ blank ∷ inside ++ codes "?>", refl,
-        ap instruction_at whole
-        ∙ rw (name_again target blank (inside ++ (codes "?>" ++ rest)) named ends, other, h, up_to_again (codes "?>") inside rest (omega arith) up) refl)
+    let other : past_word (codes "?>") (blank ∷ (inside ++ (codes "?>" ++ rest))) ≡ None = (let unlike : eqb blank 63 ≡ false = grind (arith, nat_tests) in rw unlike refl) in (
+      target ++ blank ∷ inside ++ codes "?>",
+      refl,
+      ap instruction_at whole
+          ∙ rw (name_again target blank (inside ++ (codes "?>" ++ rest)) named ends, other, h, up_to_again (codes "?>") inside rest (omega arith) up) refl,
+    )
 
 -- Literals and external identifiers.
 
@@ -67,9 +73,11 @@ literal_takes [] rest e = absurd cc
 literal_takes (quote ∷ cs) rest e = elim (chosen (is_quote quote) _ _ _ e) [
   | inl w ↦ (
       let s = span_takes (λ c. is_character c && not (eqb c quote)) cs in
-      let inside = (span (λ c. is_character c && not (eqb c quote)) cs).0 in
-      (quote ∷ inside ++ quote ∷ [], literal quote inside w.0 s.0,
-          ap (λ (r : List ℕ). quote ∷ r) (s.1 ∙ ap (λ (r : List ℕ). inside ++ r) (past_takes quote _ rest w.1) ∙ sym (append_assoc inside (quote ∷ []) rest))))
+      let inside = (span (λ c. is_character c && not (eqb c quote)) cs).0 in (
+        quote ∷ inside ++ quote ∷ [],
+        literal quote inside w.0 s.0,
+        ap (λ (r : List ℕ). quote ∷ r) (s.1 ∙ ap (λ (r : List ℕ). inside ++ r) (past_takes quote _ rest w.1) ∙ sym (append_assoc inside (quote ∷ []) rest)),
+      ))
   | inr w ↦ absurd (let h = w.1 in cc)
 ]
 
@@ -80,10 +88,11 @@ not_blank quote h = grind (arith, nat_tests)
 literal_again : (between : List ℕ) {text : List ℕ} → AreSomeBlanks between → IsLiteral text → (rest : List ℕ)
     → (past_blanks (between ++ (text ++ rest)) ≡ Some (text ++ rest)) × (past_literal (text ++ rest) ≡ Some rest)
 unfolding past_literal
-literal_again between some (literal quote inside quoted all) rest =
-    (past_blanks_again between quote (inside ++ quote ∷ [] ++ rest) some (not_blank quote quoted),
-        rw (quoted, append_assoc inside (quote ∷ []) rest)
-        (ap (λ (x : List ℕ × List ℕ). past quote x.1) (span_again (λ c. is_character c && not (eqb c quote)) inside quote rest all (excluded quote)) ∙ past_again quote rest))
+literal_again between some (literal quote inside quoted all) rest = (
+  past_blanks_again between quote (inside ++ quote ∷ [] ++ rest) some (not_blank quote quoted),
+  rw (quoted, append_assoc inside (quote ∷ []) rest)
+      (ap (λ (x : List ℕ × List ℕ). past quote x.1) (span_again (λ c. is_character c && not (eqb c quote)) inside quote rest all (excluded quote)) ∙ past_again quote rest),
+)
   where
     excluded : (quote : ℕ) → (is_character quote && not (eqb quote quote)) ≡ false
     excluded quote = grind (arith, nat_tests)
@@ -122,25 +131,33 @@ external_takes cs rest e = elim (either_cases (past_blanks cs) (λ (start : List
       let is : past_second l.0 ≡ rest = (let h = l.2 in cc) in
       let whole : cs ≡ before ++ (codes "PUBLIC" ++ (t.0 ++ (t.1 ++ l.0))) = parts ∙ ap (λ (r : List ℕ). before ++ (codes "PUBLIC" ++ r)) t.4 in
       elim (second_takes l.0) [
-        | inl same ↦ (before ++ codes "PUBLIC" ++ t.0 ++ t.1, public_identifier before t.0 some t.2 t.3,
-            whole ∙ ap (λ (r : List ℕ). before ++ (codes "PUBLIC" ++ (t.0 ++ (t.1 ++ r)))) (sym same ∙ is) ∙ sym (simp append_assoc))
-        | inr w ↦ (before ++ codes "PUBLIC" ++ t.0 ++ t.1 ++ w.0 ++ w.1, both_identifiers before t.0 w.0 some t.2 t.3 w.2 w.3,
-            whole ∙ ap (λ (r : List ℕ). before ++ (codes "PUBLIC" ++ (t.0 ++ (t.1 ++ r)))) (w.4 ∙ ap (λ (r : List ℕ). w.0 ++ (w.1 ++ r)) is) ∙ sym (simp append_assoc))
+        | inl same ↦ (
+          before ++ codes "PUBLIC" ++ t.0 ++ t.1,
+          public_identifier before t.0 some t.2 t.3,
+          whole ∙ ap (λ (r : List ℕ). before ++ (codes "PUBLIC" ++ (t.0 ++ (t.1 ++ r)))) (sym same ∙ is) ∙ sym (simp append_assoc),
+        )
+        | inr w ↦ (
+          before ++ codes "PUBLIC" ++ t.0 ++ t.1 ++ w.0 ++ w.1,
+          both_identifiers before t.0 w.0 some t.2 t.3 w.2 w.3,
+          whole ∙ ap (λ (r : List ℕ). before ++ (codes "PUBLIC" ++ (t.0 ++ (t.1 ++ r)))) (w.4 ∙ ap (λ (r : List ℕ). w.0 ++ (w.1 ++ r)) is) ∙ sym (simp append_assoc),
+        )
       ]
 
   identifier_takes : (before start : List ℕ) → AreSomeBlanks before → cs ≡ before ++ start → past_identifier cs start ≡ Some rest
       → (front : List ℕ) × IsExternalId front × (cs ≡ front ++ rest)
   identifier_takes before start some parts e = elim (either_cases (past_word (codes "SYSTEM") start) (λ (rest : List ℕ). past_system rest) _ _ e) [
     | inl w ↦ (
-        let s = system_takes w.0 rest w.2 in
-        (before ++ codes "SYSTEM" ++ s.0 ++ s.1, system_identifier before s.0 some s.2 s.3,
-            parts ∙ ap (λ (r : List ℕ). before ++ r) (past_word_takes (codes "SYSTEM") start w.0 w.1 ∙ ap (λ (r : List ℕ). codes "SYSTEM" ++ r) s.4) ∙ sym (simp append_assoc)))
+        let s = system_takes w.0 rest w.2 in (
+          before ++ codes "SYSTEM" ++ s.0 ++ s.1,
+          system_identifier before s.0 some s.2 s.3,
+          parts ∙ ap (λ (r : List ℕ). before ++ r) (past_word_takes (codes "SYSTEM") start w.0 w.1 ∙ ap (λ (r : List ℕ). codes "SYSTEM" ++ r) s.4) ∙ sym (simp append_assoc),
+        ))
     | inr w ↦ elim (either_cases (past_word (codes "PUBLIC") start) (λ (rest : List ℕ). past_public rest) (Some cs) _ w.1) [
       | inl v ↦ (
           let whole : cs ≡ before ++ (codes "PUBLIC" ++ v.0) = parts ∙ ap (λ (r : List ℕ). before ++ r) (past_word_takes (codes "PUBLIC") start v.0 v.1) in
           public_takes before v.0 some whole v.2)
       | inr v ↦ ([], no_identifier, let h = v.1 in cc)
-      ]
+    ]
   ]
 
 -- nothing more is passed before the end of a doctype
@@ -203,9 +220,9 @@ pub doctype_takes : (cs : List ℕ) (x : Item × List ℕ) → doctype_at cs ≡
 unfolding doctype_at
 doctype_takes cs x e =
     let w = then_some (past_capitals (codes "DOCTYPE") cs) (λ (word : List ℕ).
-        past_blanks word then λ start. name_at start then λ name. past_external name.1 then λ rest. past 62 (skip_blanks rest) then λ rest. found doctype rest) x e in
+    past_blanks word then λ start. name_at start then λ name. past_external name.1 then λ rest. past 62 (skip_blanks rest) then λ rest. found doctype rest) x e in
     let b = then_some (past_blanks w.0) (λ (start : List ℕ).
-        name_at start then λ name. past_external name.1 then λ rest. past 62 (skip_blanks rest) then λ rest. found doctype rest) x w.2 in
+    name_at start then λ name. past_external name.1 then λ rest. past 62 (skip_blanks rest) then λ rest. found doctype rest) x w.2 in
     let n = then_some (name_at b.0) (λ (name : List ℕ × List ℕ). past_external name.1 then λ rest. past 62 (skip_blanks rest) then λ rest. found doctype rest) x b.2 in
     let i = then_some (past_external n.0.1) (λ (rest : List ℕ). past 62 (skip_blanks rest) then λ rest. found doctype rest) x n.2 in
     let t = then_some (past 62 (skip_blanks i.0)) (λ (rest : List ℕ). found doctype rest) x i.2 in
@@ -219,7 +236,8 @@ doctype_takes cs x e =
       f.0 ++ s.0 ++ n.0.0 ++ d.0 ++ k.0 ++ 62 ∷ [],
       refl,
       made f.0 s.0 n.0.0 d.0 k.0 f.1 s.1 p.0 d.1 k.1,
-      joined cs f.0 w.0 s.0 b.0 n.0.0 n.0.1 d.0 i.0 k.0 (skip_blanks i.0) t.0 f.2 s.2 p.1 d.2 k.2 (past_takes 62 (skip_blanks i.0) t.0 t.1))
+      joined cs f.0 w.0 s.0 b.0 n.0.0 n.0.1 d.0 i.0 k.0 (skip_blanks i.0) t.0 f.2 s.2 p.1 d.2 k.2 (past_takes 62 (skip_blanks i.0) t.0 t.1),
+    )
 
 -- blanks end a name
 parted_name : (name before more end identifier : List ℕ) → IsName name → AreSomeBlanks before → identifier ≡ before ++ more
@@ -243,15 +261,18 @@ name_before_external name (both_identifiers before between after {public} {syste
 pub doctype_again : (characters rest : List ℕ) → IsDoctype characters
     → (tail : List ℕ) × (characters ≡ 60 ∷ 33 ∷ tail) × (doctype_at (tail ++ rest) ≡ Some (doctype, rest))
 unfolding doctype_at
-doctype_again characters rest s =
-    (s.word ++ s.before ++ s.name ++ s.identifier ++ s.after ++ 62 ∷ [], s.parts,
-        ap doctype_at (regrouped s.word s.before s.name s.identifier s.after (62 ∷ []) rest)
-        ∙ rw (
-            past_capitals_again (codes "DOCTYPE") s.word (s.before ++ (s.name ++ (s.identifier ++ (s.after ++ 62 ∷ rest)))) s.spelled,
-            blanks_before s.before s.name (s.identifier ++ (s.after ++ 62 ∷ rest)) s.parted s.named,
-            name_before_external s.name s.external s.after rest s.named s.blank,
-            external_again s.external s.after rest s.blank,
-            skip_again s.after 62 rest s.blank refl) refl)
+doctype_again characters rest s = (
+  s.word ++ s.before ++ s.name ++ s.identifier ++ s.after ++ 62 ∷ [],
+  s.parts,
+  ap doctype_at (regrouped s.word s.before s.name s.identifier s.after (62 ∷ []) rest)
+      ∙ rw (
+        past_capitals_again (codes "DOCTYPE") s.word (s.before ++ (s.name ++ (s.identifier ++ (s.after ++ 62 ∷ rest)))) s.spelled,
+        blanks_before s.before s.name (s.identifier ++ (s.after ++ 62 ∷ rest)) s.parted s.named,
+        name_before_external s.name s.external s.after rest s.named s.blank,
+        external_again s.external s.after rest s.blank,
+        skip_again s.after 62 rest s.blank refl,
+      ) refl,
+)
   where
     regrouped : (a b c d e f rest : List ℕ) → (a ++ b ++ c ++ d ++ e ++ f) ++ rest ≡ a ++ (b ++ (c ++ (d ++ (e ++ (f ++ rest)))))
     regrouped a b c d e f rest = simp append_assoc

@@ -1,5 +1,5 @@
 -- Names that were seen so far, as a set of their bytes.
-use Rattle.std.proofs.Common.{◌≡◌, ℕ, ◌+◌, ◌<◌, ◌≤◌, Bool, true, false, not, ◌&&◌, ◌||◌, cond, Bor, BTreeSet, List, [], ◌∷◌, ◌++◌, length, take, drop, get_or, drop-cons, add-one, refl, sym, ap, ◌∙◌, ◌⊎◌, inl, inr, arith}
+use Rattle.std.proofs.Common.{◌≡◌, ℕ, ◌+◌, ◌<◌, Bool, true, false, not, ◌&&◌, ◌||◌, cond, Bor, BTreeSet, List, [], ◌∷◌, ◌++◌, length, take, drop, get_or, drop-cons, add-one, refl, sym, ap, ◌∙◌}
 use Rattle.std.specs.BTreeSet.{contains, IsEmpty, Updates}
 use Rattle.std.specs.Cmp.Lexicographic.{slice_cmp}
 use Rattle.std.specs.declared.cmp.Ordering.{Ordering}
@@ -15,7 +15,6 @@ use Rattle.std.proofs.lemmas.Slice.Eq.{bytes_eq-Decides}
 use Rattle.std.proofs.lemmas.Str.{encodes_same}
 use Rattle.plain_types.specs.declared.attr.Attr.{Attr}
 use Rattle.xhtml_items.specs.Reading.{are_distinct}
-use Rattle.xhtml_items.proofs.StepLaws.{chosen}
 
 -- the order of `&str`
 abbrev pub str_cmp : Bor (List ℕ) → Bor (List ℕ) → Ordering
@@ -48,7 +47,7 @@ distinct-push (first ∷ rest) attr h fresh =
     let unlike : bytes_eq first.name attr.name ≡ false = flipped first.name attr.name ∙ f.0 in
     let none : list_any (λ (other : Attr). bytes_eq first.name other.name) rest ≡ false = negated _ p.0 in
     let all : list_any (λ (other : Attr). bytes_eq first.name other.name) (rest ++ attr ∷ []) ≡ false =
-        list_any-append (λ (other : Attr). bytes_eq first.name other.name) rest (attr ∷ []) ∙ rw (none, unlike) refl in
+    list_any-append (λ (other : Attr). bytes_eq first.name other.name) rest (attr ∷ []) ∙ rw (none, unlike) refl in
     rw (all, distinct-push rest attr p.1 f.1) refl
 
 repeated : (attrs : List Attr) (attr : Attr) (after : List Attr) → list_any (λ (other : Attr). bytes_eq attr.name other.name) attrs ≡ true
@@ -70,7 +69,7 @@ repeated (first ∷ rest) attr after h = go (bytes_eq attr.name first.name) refl
     go true e h earlier =
         let alike : bytes_eq first.name attr.name ≡ true = flipped first.name attr.name ∙ e in
         let some : list_any (λ (other : Attr). bytes_eq first.name other.name) (rest ++ attr ∷ after) ≡ true =
-            list_any-append (λ (other : Attr). bytes_eq first.name other.name) rest (attr ∷ after) ∙ rw alike (either (list_any (λ (other : Attr). bytes_eq first.name other.name) rest)) in
+        list_any-append (λ (other : Attr). bytes_eq first.name other.name) rest (attr ∷ after) ∙ rw alike (either (list_any (λ (other : Attr). bytes_eq first.name other.name) rest)) in
         rw some refl
     go false e h earlier = both (not (list_any (λ (other : Attr). bytes_eq first.name other.name) (rest ++ attr ∷ after))) _ (earlier h)
 

@@ -1,16 +1,16 @@
 -- References are read as they are spelled.
-use Rattle.std.proofs.Common.{◌≡◌, ◌≢◌, ℕ, ◌+◌, ◌<◌, ◌≤◌, Bool, true, false, cond, not, ◌&&◌, ◌||◌, eqb, IsTrue, List, [], ◌∷◌, ◌++◌, length, Option, Some, None, ◌⊎◌, inl, inr, refl, sym, ap, ◌∙◌, append_assoc, arith}
+use Rattle.std.proofs.Common.{◌≡◌, ℕ, Bool, true, false, IsTrue, List, [], ◌∷◌, ◌++◌, Some, None, inl, inr, refl, sym, ap, ◌∙◌, append_assoc, arith}
 use Rattle.std.specs.List.{list_all}
 use Rattle.std.specs.Map.{lookup}
 use Rattle.std.specs.Str.{bytes_eq}
 use Rattle.std.specs.Str.Parse.{digits_value}
-use Rattle.std.proofs.lemmas.Bool.{and_parts, eqb-true}
+use Rattle.std.proofs.lemmas.Bool.{and_parts}
 use Rattle.std.proofs.lemmas.Bool.Decides.{nat_tests}
 use Rattle.std.proofs.lemmas.Slice.Eq.{bytes_eq-Decides}
 use Rattle.definitions.specs.Characters.{is_digit, is_hexadecimal_digit, is_name, is_name_start, is_name_character}
 use Rattle.definitions.specs.Spelling.{are_some, is_legal, entities, entity, IsName, IsReference, decimal_reference, hexadecimal_reference, entity_reference}
-use Rattle.xhtml_items.specs.Reading.{◌then◌, either_way, span, past, name_at, numbered, number_at, numeric_at, entity_at, reference_at}
-use Rattle.xhtml_items.proofs.StepLaws.{chosen, then_some, either_cases, past_takes, past_again, past_none, span_takes, span_again, all_from_some, name_takes, name_again, name_first}
+use Rattle.xhtml_items.specs.Reading.{◌then◌, span, past, name_at, numbered, number_at, numeric_at, entity_at, reference_at}
+use Rattle.xhtml_items.proofs.StepLaws.{chosen, then_some, either_cases, past_takes, past_none, span_takes, span_again, all_from_some, name_takes, name_again}
 
 numbered_takes : (test : ℕ → Bool) (base : ℕ) (digits : List ℕ) (c : ℕ) → list_all test digits ≡ true → numbered base digits ≡ Some c
     → IsTrue (are_some test digits) × IsTrue (is_legal (digits_value base digits)) × (c ≡ digits_value base digits)

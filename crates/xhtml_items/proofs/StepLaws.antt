@@ -1,11 +1,11 @@
 -- The steps of which reading is made: what each takes from the front, and that it takes it again.
-use Rattle.std.proofs.Common.{◌≡◌, ◌≢◌, ℕ, zero, suc, ◌+◌, ◌<◌, ◌≤◌, Bool, true, false, cond, not, ◌&&◌, ◌||◌, eqb, IsTrue, List, [], ◌∷◌, ◌++◌, length, Option, Some, None, ◌⊎◌, inl, inr, refl, sym, ap, ◌∙◌, append_assoc, map, arith}
+use Rattle.std.proofs.Common.{◌≡◌, ◌≢◌, ℕ, ◌<◌, ◌≤◌, Bool, true, false, cond, eqb, List, [], ◌∷◌, ◌++◌, length, Option, Some, None, ◌⊎◌, inl, inr, refl, sym, ap, ◌∙◌, append_assoc, map, arith}
 use Rattle.std.specs.Char.{to_ascii_uppercase}
 use Rattle.std.specs.List.{list_all}
-use Rattle.std.proofs.lemmas.List.{append-nil, length-append, nil_from_length}
+use Rattle.std.proofs.lemmas.List.{length-append, nil_from_length}
 use Rattle.std.proofs.lemmas.Bool.{and_parts, eqb-true}
 use Rattle.std.proofs.lemmas.Bool.Decides.{nat_tests}
-use Rattle.definitions.specs.Characters.{is_blank, is_character, is_name, is_name_start, is_name_character}
+use Rattle.definitions.specs.Characters.{is_blank, is_character, is_name_start, is_name_character}
 use Rattle.definitions.specs.Spelling.{are_some, AreBlanks, AreSomeBlanks, IsName, AreUpTo}
 use Rattle.xhtml_items.specs.Reading.{◌then◌, either_way, span, past, past_word, past_capital, past_capitals, skip_blanks, past_blanks, name_at, with_first, split_once, if_allowed, up_to}
 
@@ -189,7 +189,7 @@ split_takes stop (c ∷ cs) x e = elim (either_cases (past_word stop (c ∷ cs))
       → (before after : List ℕ) → (c ∷ inside) ++ stop ≡ before ++ stop ++ after → after ≡ []
   later inside rest none first parts [] after e =
       let whole : c ∷ cs ≡ stop ++ (after ++ rest) =
-          ap (λ (r : List ℕ). c ∷ r) (parts ∙ sym (append_assoc inside stop rest)) ∙ ap (λ (r : List ℕ). r ++ rest) e ∙ append_assoc stop after rest in
+      ap (λ (r : List ℕ). c ∷ r) (parts ∙ sym (append_assoc inside stop rest)) ∙ ap (λ (r : List ℕ). r ++ rest) e ∙ append_assoc stop after rest in
       let again : past_word stop (c ∷ cs) ≡ Some (after ++ rest) = rw whole (past_word_again stop (after ++ rest)) in
       absurd cc
   later inside rest none first parts (b ∷ before) after e = first before after cc

@@ -1,8 +1,8 @@
 -- Tags are read as they are spelled.
-use Rattle.std.proofs.Common.{◌≡◌, ◌≢◌, ℕ, suc, ◌+◌, ◌<◌, ◌≤◌, Bool, true, false, cond, not, ◌&&◌, ◌||◌, eqb, IsTrue, List, [], ◌∷◌, ◌++◌, length, Option, Some, None, ◌⊎◌, inl, inr, refl, sym, ap, ◌∙◌, append_assoc, arith}
-use Rattle.std.specs.List.{list_all, list_any, All, AllPairs}
+use Rattle.std.proofs.Common.{◌≡◌, ◌≢◌, ℕ, suc, Bool, true, false, not, ◌||◌, List, [], ◌∷◌, ◌++◌, Some, None, inl, inr, refl, sym, ap, ◌∙◌, append_assoc, arith}
+use Rattle.std.specs.List.{list_all, list_any, All}
 use Rattle.std.specs.Str.{bytes_eq}
-use Rattle.std.proofs.lemmas.Bool.{and_parts, eqb-true}
+use Rattle.std.proofs.lemmas.Bool.{and_parts}
 use Rattle.std.proofs.lemmas.Bool.Decides.{nat_tests}
 use Rattle.std.proofs.lemmas.List.Elements.{All-cons}
 use Rattle.std.proofs.lemmas.List.Folds.{list_any_none}
@@ -12,10 +12,10 @@ use Rattle.plain_types.specs.Tree.{HasDistinctNames}
 use Rattle.plain_types.specs.declared.attr.Attr.{Attr}
 use Rattle.definitions.specs.Characters.{is_blank, is_name_start, is_name_character}
 use Rattle.definitions.specs.Items.{Item, ArePieces, start_tag, empty_tag, end_tag}
-use Rattle.definitions.specs.Spelling.{are_some, AreBlanks, AreSomeBlanks, IsName, IsAttribute, IsTag, IsEndTag, Spells}
+use Rattle.definitions.specs.Spelling.{AreBlanks, AreSomeBlanks, IsName, IsAttribute, IsTag, IsEndTag, Spells}
 use Rattle.xhtml_items.specs.Runs.{run_at}
-use Rattle.xhtml_items.specs.Reading.{◌then◌, either_way, past, past_word, past_blanks, skip_blanks, name_at, attribute_at, are_distinct, found, tag_end_at, attributes_at, tag_at, end_tag_at}
-use Rattle.xhtml_items.proofs.StepLaws.{chosen, then_some, either_cases, past_takes, past_word_takes, past_blanks_again, past_blanks_none, name_takes, name_again, skip_takes, skip_again}
+use Rattle.xhtml_items.specs.Reading.{◌then◌, past, past_word, skip_blanks, name_at, attribute_at, are_distinct, found, tag_end_at, attributes_at, tag_at, end_tag_at}
+use Rattle.xhtml_items.proofs.StepLaws.{chosen, then_some, either_cases, past_takes, past_word_takes, past_blanks_again, name_takes, name_again, skip_takes, skip_again}
 use Rattle.xhtml_items.proofs.AttributeLaws.{name_before, attribute_reader}
 use Rattle.xhtml_items.proofs.RunLaws.{Run-takes, Run-again, run_at-is, run_at-Run}
 
@@ -48,7 +48,7 @@ pub test_from_distinct : (attrs : List Attr) → HasDistinctNames attrs → are_
 test_from_distinct [] h = refl
 test_from_distinct (first ∷ rest) h =
     let none : list_any (λ (other : Attr). bytes_eq first.name other.name) rest ≡ false =
-        list_any_none (λ (other : Attr). bytes_eq first.name other.name) rest (λ k d lt. differs first.name _ (h 0 (suc k) d (omega arith) (omega arith))) in
+    list_any_none (λ (other : Attr). bytes_eq first.name other.name) rest (λ k d lt. differs first.name _ (h 0 (suc k) d (omega arith) (omega arith))) in
     rw none (test_from_distinct rest (λ i j d before within. h (suc i) (suc j) d (omega arith) (omega arith)))
   where
     differs : (a b : List ℕ) → a ≢ b → bytes_eq a b ≡ false
@@ -140,11 +140,13 @@ unfolding tag_at attributes_at
 tag_again d end characters name attrs item rest s not_blank not_name not_start ends =
     let more = s.blanks ++ d ∷ (end ++ rest) in
     let run = run_at-is IsAttribute attribute_at attribute_reader
-        (Run-again IsAttribute attribute_at attribute_reader attrs s.written more s.attributes (no_attribute s.blanks d (end ++ rest) s.blank not_blank not_start)) in
-    (name ++ s.written ++ s.blanks ++ d ∷ end, s.parts,
-        ap tag_at (regrouped name s.written s.blanks (d ∷ end) rest)
-        ∙ chain name s.written more (d ∷ (end ++ rest)) (name_before_attributes name s.written attrs s.blanks d (end ++ rest) s.named s.attributes s.blank not_name)
-            run (test_from_distinct attrs s.distinct) (skip_again s.blanks d (end ++ rest) s.blank not_blank) ends)
+    (Run-again IsAttribute attribute_at attribute_reader attrs s.written more s.attributes (no_attribute s.blanks d (end ++ rest) s.blank not_blank not_start)) in (
+      name ++ s.written ++ s.blanks ++ d ∷ end,
+      s.parts,
+      ap tag_at (regrouped name s.written s.blanks (d ∷ end) rest)
+          ∙ chain name s.written more (d ∷ (end ++ rest)) (name_before_attributes name s.written attrs s.blanks d (end ++ rest) s.named s.attributes s.blank not_name)
+          run (test_from_distinct attrs s.distinct) (skip_again s.blanks d (end ++ rest) s.blank not_blank) ends,
+    )
   where
     regrouped : (a b c e rest : List ℕ) → (a ++ b ++ c ++ e) ++ rest ≡ a ++ (b ++ (c ++ (e ++ rest)))
     regrouped a b c e rest = simp append_assoc
@@ -173,10 +175,12 @@ end_tag_takes cs x e =
 pub end_tag_again : (characters name rest : List ℕ) → IsEndTag characters name
     → (tail : List ℕ) × (characters ≡ 60 ∷ 47 ∷ tail) × (end_tag_at (tail ++ rest) ≡ Some (end_tag name, rest))
 unfolding end_tag_at
-end_tag_again characters name rest s =
-    (name ++ s.blanks ++ 62 ∷ [], s.parts,
-        ap end_tag_at (regrouped name s.blanks (62 ∷ []) rest)
-        ∙ rw (name_before name s.blanks 62 rest s.named s.blank refl, skip_again s.blanks 62 rest s.blank refl) refl)
+end_tag_again characters name rest s = (
+  name ++ s.blanks ++ 62 ∷ [],
+  s.parts,
+  ap end_tag_at (regrouped name s.blanks (62 ∷ []) rest)
+      ∙ rw (name_before name s.blanks 62 rest s.named s.blank refl, skip_again s.blanks 62 rest s.blank refl) refl,
+)
   where
     regrouped : (a b e rest : List ℕ) → (a ++ b ++ e) ++ rest ≡ a ++ (b ++ (e ++ rest))
     regrouped a b e rest = simp append_assoc

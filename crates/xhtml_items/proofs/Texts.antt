@@ -1,5 +1,5 @@
 -- What std says of the bytes of a text, said of its characters.
-use Rattle.std.proofs.Common.{◌≡◌, ◌≢◌, ℕ, ◌+◌, ◌-◌, ◌<◌, ◌≤◌, Bool, true, false, ◌&&◌, ltb, IsTrue, Bor, List, [], ◌∷◌, ◌++◌, length, take, drop, Option, Some, None, MatchOption, IfSome, get_or, drop-cons, add-one, map, ◌⊎◌, inl, inr, refl, sym, ap, ◌∙◌, append_assoc, arith}
+use Rattle.std.proofs.Common.{◌≡◌, ◌≢◌, ℕ, ◌+◌, ◌<◌, ◌≤◌, true, false, ltb, Bor, List, [], ◌∷◌, ◌++◌, length, drop, Option, Some, None, MatchOption, IfSome, get_or, drop-cons, add-one, map, inl, inr, refl, sym, ap, ◌∙◌, append_assoc, arith}
 use Rattle.std.proofs.Math.ListN.{drop_of_length-le}
 use Rattle.std.specs.List.{list_all}
 use Rattle.std.specs.Str.{chars, encode_utf8_all, bytes_eq, IsUtf8, IsAscii}
@@ -17,7 +17,7 @@ use Rattle.std.proofs.lemmas.Str.Pattern.{split_text_parts}
 use Rattle.xhtml_items.specs.Classes.{is_ascii}
 use Rattle.xhtml_items.specs.Reading.{past_word, past_capital, past_capitals, split_once}
 use Rattle.xhtml_items.specs.Tokens.{Reads, text_view, two_texts, entry}
-use Rattle.xhtml_items.proofs.StepLaws.{none_from, past_word_takes, past_word_again, IsFirst, split_again, split_none}
+use Rattle.xhtml_items.proofs.StepLaws.{none_from, past_word_takes, past_word_again, split_again, split_none}
 
 pub IsAscii-from_test : (bytes : List ℕ) → is_ascii bytes ≡ true → IsAscii bytes
 IsAscii-from_test [] h = IsAscii-nil
@@ -50,7 +50,7 @@ seam : (text inside stop rest before after : List ℕ) → text ≡ inside ++ (s
     → drop (length before) text ≡ stop ++ (after ++ rest)
 seam text inside stop rest before after parts e =
     let whole : text ≡ before ++ (stop ++ (after ++ rest)) =
-        parts ∙ sym (append_assoc inside stop rest) ∙ ap (λ (t : List ℕ). t ++ rest) e ∙ append_assoc before (stop ++ after) rest ∙ ap (λ (t : List ℕ). before ++ t) (append_assoc stop after rest) in
+    parts ∙ sym (append_assoc inside stop rest) ∙ ap (λ (t : List ℕ). t ++ rest) e ∙ append_assoc before (stop ++ after) rest ∙ ap (λ (t : List ℕ). before ++ t) (append_assoc stop after rest) in
     ap (λ (t : List ℕ). drop (length before) t) whole ∙ drop_at before (stop ++ (after ++ rest)) (length before) refl
 
 -- `split_once` at a word of ASCII
@@ -62,12 +62,12 @@ split_word stop text None small filled utf8 front h = split_none stop (chars tex
     lacks before after e =
         let bytes : text ≡ encode_utf8_all before ++ (stop ++ encode_utf8_all after) = sym (encodes-chars text utf8) ∙ ap encode_utf8_all e ∙ word_bytes before stop after (IsAscii-from_test stop small) in
         h (length (encode_utf8_all before)) (omega (arith, ap length bytes, length-append (encode_utf8_all before) (stop ++ encode_utf8_all after))) (encode_utf8_all after)
-            (ap (λ (t : List ℕ). drop (length (encode_utf8_all before)) t) bytes ∙ drop_at (encode_utf8_all before) (stop ++ encode_utf8_all after) _ refl)
+        (ap (λ (t : List ℕ). drop (length (encode_utf8_all before)) t) bytes ∙ drop_at (encode_utf8_all before) (stop ++ encode_utf8_all after) _ refl)
 split_word stop text (Some x) small filled utf8 front h =
     let ascii = IsAscii-from_test stop small in
     let parts : text ≡ x.0.now ++ (stop ++ x.1.now) = split_text_parts stop text (Some x) h in
     let shown : chars text ≡ chars x.0.now ++ (stop ++ chars x.1.now) =
-        ap chars parts ∙ chars-append x.0.now (stop ++ x.1.now) front ∙ ap (λ (t : List ℕ). chars x.0.now ++ t) (word_chars stop x.1.now ascii) in
+    ap chars parts ∙ chars-append x.0.now (stop ++ x.1.now) front ∙ ap (λ (t : List ℕ). chars x.0.now ++ t) (word_chars stop x.1.now ascii) in
     ap (split_once stop) shown ∙ split_again stop (chars x.0.now) (chars x.1.now) (some stop filled) (λ before after e. nothing ascii parts before after e)
   where
     some : (word : List ℕ) → word ≢ [] → 0 < length word
@@ -80,8 +80,8 @@ split_word stop text (Some x) small filled utf8 front h =
     nothing : IsAscii stop → text ≡ x.0.now ++ (stop ++ x.1.now) → (before after : List ℕ) → chars x.0.now ++ stop ≡ before ++ stop ++ after → after ≡ []
     nothing ascii parts before after e =
         let bytes : x.0.now ++ stop ≡ encode_utf8_all before ++ (stop ++ encode_utf8_all after) =
-            ap (λ (t : List ℕ). t ++ stop) (sym (encodes-chars x.0.now front)) ∙ ap (λ (t : List ℕ). encode_utf8_all (chars x.0.now) ++ t) (sym (encodes-IsAscii stop ascii))
-            ∙ sym (encodes-append (chars x.0.now) stop) ∙ ap encode_utf8_all (e ∙ append_assoc before stop after) ∙ word_bytes before stop after ascii in
+        ap (λ (t : List ℕ). t ++ stop) (sym (encodes-chars x.0.now front)) ∙ ap (λ (t : List ℕ). encode_utf8_all (chars x.0.now) ++ t) (sym (encodes-IsAscii stop ascii))
+        ∙ sym (encodes-append (chars x.0.now) stop) ∙ ap encode_utf8_all (e ∙ append_assoc before stop after) ∙ word_bytes before stop after ascii in
         let later : length x.0.now ≤ length (encode_utf8_all before) = reaches (length (encode_utf8_all before)) (encode_utf8_all after ++ x.1.now) (seam text x.0.now stop x.1.now (encode_utf8_all before) (encode_utf8_all after) parts bytes) in
         nil_from_length after (omega (arith, ap length bytes, length-append x.0.now stop, length-append (encode_utf8_all before) (stop ++ encode_utf8_all after), length-append stop (encode_utf8_all after), length-le-encodes after))
 

@@ -6,7 +6,10 @@ ghost use Rattle.xhtml_items.specs.Reading.{past_literal, past_second, past_syst
 ghost use Rattle.xhtml_items.specs.Tokens.{Reads, text_view, token_view, IsText};
 
 use crate::characters::{Class, is_blank, is_quote};
-use crate::text::{first_char, past, past_blanks, past_capitals, past_word, skip_blanks, split_name, split_while, up_to};
+use crate::text::{
+    first_char, past, past_blanks, past_capitals, past_word, skip_blanks, split_name, split_while,
+    up_to,
+};
 use crate::token::Token;
 
 /// What stands behind the target of an instruction, if more than its end does.

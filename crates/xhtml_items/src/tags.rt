@@ -31,7 +31,11 @@ fn tag_end<'a>(name: &'a str, attrs: List<Attr>, text: &'a str) -> Option<(Token
 
 /// A tag behind its name.
 #[tactic(auto, unfolding(crate::specs::Reading::attributes_at))]
-fn tag_after_name<'a>(alloc: Global, name: &'a str, text: &'a str) -> Result<Option<(Token<'a>, &'a str)>, Memory>
+fn tag_after_name<'a>(
+    alloc: Global,
+    name: &'a str,
+    text: &'a str,
+) -> Result<Option<(Token<'a>, &'a str)>, Memory>
     ensures reads { IfOk result (λ found. Reads token_view found (attributes_at (chars name.now) (chars text.now))) }
     ensures text { IfOk result (λ found. IfSome found (λ x. IsText x.0)) }
     ensures rest { IfOk result (λ found. IfSome found (λ x. IsUtf8 x.1.now)) }

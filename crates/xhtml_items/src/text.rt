@@ -93,7 +93,11 @@ pub(crate) fn past_blanks(text: &str) -> Option<&str>
     ensures text { IfSome result (λ rest. IsUtf8 rest.now) }
 {
     let (c, after) = first_char(text)?;
-    if is_blank(c) { Some(skip_blanks(after)) } else { None }
+    if is_blank(c) {
+        Some(skip_blanks(after))
+    } else {
+        None
+    }
 }
 
 /// A name, and the text after it.

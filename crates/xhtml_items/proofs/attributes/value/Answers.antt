@@ -20,4 +20,4 @@ parts-preserved c = record {
 pub returns-clause-reads : goal.returns-clause-reads
 returns-clause-reads c =
     run_at-is (IsValuePart c.args.quote) (value_part_at c.args.quote) (part_reader c.args.quote)
-        (Goes-end (value_part_at c.args.quote) _ _ _ c.parts.invariant.goes c.in_default.ensures.reads)
+    (Goes-end (value_part_at c.args.quote) _ _ _ c.parts.invariant.goes c.in_default.ensures.reads)

@@ -1,4 +1,4 @@
-use Rattle.std.proofs.Common.{◌≡◌, ◌∙◌, drop, arith}
+use Rattle.std.proofs.Common.{◌∙◌, arith}
 use Rattle.xhtml_items.proofs.Texts.{capitals_step, capitals_none, capitals_end}
 use Rattle.xhtml_items.proofs.text.past_capitals.Goals as goal
 

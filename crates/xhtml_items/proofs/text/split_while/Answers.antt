@@ -1,11 +1,11 @@
-use Rattle.std.proofs.Common.{◌≡◌, ◌∷◌, ◌-◌, [], Bool, true, false, length, take, drop, refl, sym, ◌∙◌, ap, arith}
+use Rattle.std.proofs.Common.{◌≡◌, [], false, length, refl, sym, ◌∙◌, ap, arith}
 use Rattle.std.specs.Str.{chars}
 use Rattle.std.specs.Char.{encode_utf8}
 use Rattle.std.proofs.lemmas.List.{length-append}
 use Rattle.std.proofs.lemmas.Str.{length-encode, len_utf8_bounds}
 use Rattle.xhtml_items.specs.Classes.{is_in}
 use Rattle.xhtml_items.specs.Reading.{span}
-use Rattle.xhtml_items.proofs.Cuts.{Cut-boundary, Runs-start, Runs-more, Runs-end}
+use Rattle.xhtml_items.proofs.Cuts.{Cut-boundary, Runs-more, Runs-end}
 use Rattle.xhtml_items.proofs.text.split_while.Goals as goal
 use Rattle.xhtml_items.proofs.text.split_while.Goals.{in-Some+then-not-contains, in_default}
 
