@@ -41,7 +41,7 @@ abbrev pub is_legal : ℕ → Bool
 is_legal c = c == 13 || is_character c
 
 -- our own, besides the first five (4.6): the entities that are declared, each with its character
-abbrev pub entities : List (List ℕ × ℕ)
+unfoldable pub entities : List (List ℕ × ℕ)
 entities =
     (codes "amp", 0x26) ∷ (codes "lt", 0x3c) ∷ (codes "gt", 0x3e) ∷ (codes "quot", 0x22) ∷ (codes "apos", 0x27)
     ∷ (codes "nbsp", 0xa0) ∷ (codes "sect", 0xa7) ∷ (codes "copy", 0xa9) ∷ (codes "laquo", 0xab) ∷ (codes "shy", 0xad)

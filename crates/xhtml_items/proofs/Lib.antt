@@ -1,0 +1,11 @@
+pub mod RunLaws
+pub mod StepLaws
+pub mod ReferenceLaws
+pub mod AttributeLaws
+pub mod TagLaws
+pub mod MarkupLaws
+pub mod ItemLaws
+pub mod Cuts
+pub mod Texts
+pub mod Numbers
+pub mod Names

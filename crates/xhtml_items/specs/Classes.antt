@@ -1,0 +1,22 @@
+-- Classes of characters, as the code names them.
+use Rattle.std.specs.Prelude.{ℕ, Bool, ◌&&◌, not, ◌==◌, nat_lt, List}
+use Rattle.std.specs.Char.{digit_value}
+use Rattle.std.specs.List.{list_all}
+use Rattle.definitions.specs.Characters.{is_blank, is_character, is_digit, is_hexadecimal_digit, is_name_character}
+use Rattle.xhtml_items.specs.declared.characters.Class.{Class}
+use Rattle.xhtml_items.specs.declared.characters.Class.TheVariants.{Blank, Name, Digit, HexadecimalDigit, Literal}
+
+abbrev pub is_in : Class → ℕ → Bool
+is_in Blank = λ c. is_blank c
+is_in Name = λ c. is_name_character c
+is_in Digit = λ c. is_digit c
+is_in HexadecimalDigit = λ c. is_hexadecimal_digit c
+is_in (Literal quote) = λ c. is_character c && not (c == quote)
+
+-- the bytes are ASCII, each a character
+abbrev pub is_ascii : List ℕ → Bool
+is_ascii bytes = list_all (λ byte. nat_lt byte 128) bytes
+
+-- the characters are digits of this base
+abbrev pub are_digits : ℕ → List ℕ → Bool
+are_digits base characters = list_all (λ c. nat_lt (digit_value c) base) characters

@@ -1,0 +1,4 @@
+pub mod Runs
+pub mod Reading
+pub mod Classes
+pub mod Tokens

@@ -1,0 +1,88 @@
+//! Classes of characters.
+
+ghost use Rattle.std.specs.Prelude.{◌≡◌};
+ghost use Rattle.std.specs.List.{list_all};
+ghost use Rattle.std.specs.Str.{chars};
+ghost use Rattle.definitions.specs.Characters.{is_blank, is_character, is_plain, is_quote, is_name_start, is_name_character};
+ghost use Rattle.definitions.specs.Spelling.{is_legal, as_read};
+ghost use Rattle.xhtml_items.specs.Classes.{is_in};
+
+pub(crate) fn is_blank(c: char) -> bool
+    ensures { result ≡ is_blank c }
+{
+    c == ' ' || c == '\t' || c == '\n'
+}
+
+pub(crate) fn is_character(c: char) -> bool
+    ensures { result ≡ is_character c }
+{
+    matches!(c, '\t' | '\n' | ' '..='\u{d7ff}' | '\u{e000}'..='\u{fffd}' | '\u{10000}'..='\u{10ffff}')
+}
+
+pub(crate) fn are_characters(text: &str) -> bool
+    ensures { result ≡ list_all is_character (chars text.now) }
+{
+    text.chars().all(is_character)
+}
+
+pub(crate) fn is_plain(c: char) -> bool
+    ensures { result ≡ is_plain c }
+{
+    is_character(c) && c != '<' && c != '&'
+}
+
+pub(crate) fn is_quote(c: char) -> bool
+    ensures { result ≡ is_quote c }
+{
+    c == '"' || c == '\''
+}
+
+pub(crate) fn is_legal(c: char) -> bool
+    ensures { result ≡ is_legal c }
+{
+    c == '\r' || is_character(c)
+}
+
+pub(crate) fn is_name_start(c: char) -> bool
+    ensures { result ≡ is_name_start c }
+{
+    c.is_ascii_alphabetic() || c == '_' || c == ':' || (c >= '\u{80}' && is_character(c))
+}
+
+pub(crate) fn is_name_character(c: char) -> bool
+    ensures { result ≡ is_name_character c }
+{
+    is_name_start(c) || c.is_ascii_digit() || c == '-' || c == '.'
+}
+
+/// A character of a value as it reads: a blank as a space.
+pub(crate) fn as_read(c: char) -> char
+    ensures { result ≡ as_read c }
+{
+    if is_blank(c) { ' ' } else { c }
+}
+
+/// Characters that stand in a row, of which the longest front is taken.
+#[derive(Clone, Copy)]
+pub(crate) enum Class {
+    Blank,
+    Name,
+    Digit,
+    HexadecimalDigit,
+    /// What may stand in a literal between two of this quote.
+    Literal(char),
+}
+
+impl Class {
+    pub(crate) fn contains(self, c: char) -> bool
+        ensures { result ≡ is_in self c }
+    {
+        match self {
+            Class::Blank => is_blank(c),
+            Class::Name => is_name_character(c),
+            Class::Digit => c.is_ascii_digit(),
+            Class::HexadecimalDigit => c.is_ascii_hexdigit(),
+            Class::Literal(quote) => is_character(c) && c != quote,
+        }
+    }
+}

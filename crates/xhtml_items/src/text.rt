@@ -1,0 +1,144 @@
+//! What stands at the front of a text.
+
+ghost use Rattle.std.specs.Prelude.{◌≡◌, ◌≢◌, ◌∷◌, ◌++◌, [], IsTrue, MatchOption, IfSome};
+ghost use Rattle.std.specs.Char.{encode_utf8};
+ghost use Rattle.std.specs.Str.{chars, IsUtf8};
+ghost use Rattle.xhtml_items.specs.Classes.{is_in, is_ascii};
+ghost use Rattle.xhtml_items.specs.Reading.{span, past, past_word, past_capital, past_capitals, skip_blanks, past_blanks, name_at, split_once, up_to};
+ghost use Rattle.xhtml_items.specs.Tokens.{Reads, text_view, two_texts};
+
+use crate::characters::{Class, are_characters, is_blank, is_name_start};
+
+/// The first character, and the text after it.
+pub(crate) fn first_char(text: &str) -> Option<(char, &str)>
+    ensures bytes { MatchOption result (text.now ≡ []) (λ x. text.now ≡ encode_utf8 x.0 ++ x.1.now) }
+    ensures chars { MatchOption result (chars text.now ≡ []) (λ x. chars text.now ≡ x.0 ∷ chars x.1.now) }
+    ensures text { IfSome result (λ x. IsUtf8 x.1.now) }
+{
+    let mut characters = text.chars();
+    let first = characters.next()?;
+    Some((first, characters.as_str()))
+}
+
+/// The text after this character.
+pub(crate) fn past(wanted: char, text: &str) -> Option<&str>
+    ensures reads { Reads text_view result (past wanted (chars text.now)) }
+    ensures text { IfSome result (λ rest. IsUtf8 rest.now) }
+{
+    let (c, after) = first_char(text)?;
+    if c == wanted { Some(after) } else { None }
+}
+
+/// The text after this word.
+pub(crate) fn past_word<'a>(word: &str, text: &'a str) -> Option<&'a str>
+    requires { IsTrue (is_ascii word.now) }
+    ensures reads { Reads text_view result (past_word word.now (chars text.now)) }
+    ensures text { IfSome result (λ rest. IsUtf8 rest.now) }
+{
+    text.strip_prefix(word)
+}
+
+/// The text after this capital letter, in either case.
+fn past_capital(wanted: u8, text: &str) -> Option<&str>
+    ensures reads { Reads text_view result (past_capital wanted (chars text.now)) }
+    ensures text { IfSome result (λ rest. IsUtf8 rest.now) }
+{
+    let (c, after) = first_char(text)?;
+    if c.to_ascii_uppercase() == char::from(wanted) {
+        Some(after)
+    } else {
+        None
+    }
+}
+
+/// The text after this word of capitals, in any ASCII case.
+pub(crate) fn past_capitals<'a>(word: &[u8], text: &'a str) -> Option<&'a str>
+    ensures reads { Reads text_view result (past_capitals word.now (chars text.now)) }
+    ensures text { IfSome result (λ rest. IsUtf8 rest.now) }
+{
+    let mut rest = text;
+    for letter in word {
+        rest = past_capital(*letter, rest)?;
+    }
+    Some(rest)
+}
+
+/// The longest front of characters of the class, and the text after it.
+pub(crate) fn split_while(class: Class, text: &str) -> (&str, &str)
+    ensures reads { span (is_in class) (chars text.now) ≡ two_texts result }
+    ensures front { IsUtf8 result.0.now }
+    ensures text { IsUtf8 result.1.now }
+{
+    let mut rest = text;
+    while let Some((c, after)) = first_char(rest) {
+        if !class.contains(c) {
+            break;
+        }
+        rest = after;
+    }
+    text.split_at(text.len() - rest.len())
+}
+
+/// The text after the blanks at its front.
+pub(crate) fn skip_blanks(text: &str) -> &str
+    ensures reads { skip_blanks (chars text.now) ≡ chars result.now }
+    ensures text { IsUtf8 result.now }
+{
+    split_while(Class::Blank, text).1
+}
+
+/// The text after at least one blank.
+pub(crate) fn past_blanks(text: &str) -> Option<&str>
+    ensures reads { Reads text_view result (past_blanks (chars text.now)) }
+    ensures text { IfSome result (λ rest. IsUtf8 rest.now) }
+{
+    let (c, after) = first_char(text)?;
+    if is_blank(c) {
+        Some(skip_blanks(after))
+    } else {
+        None
+    }
+}
+
+/// A name, and the text after it.
+#[tactic(auto, unfolding(crate::specs::Reading::name_at))]
+pub(crate) fn split_name(text: &str) -> Option<(&str, &str)>
+    ensures reads { Reads two_texts result (name_at (chars text.now)) }
+    ensures front { IfSome result (λ x. IsUtf8 x.0.now) }
+    ensures text { IfSome result (λ x. IsUtf8 x.1.now) }
+{
+    let (c, _) = first_char(text)?;
+    if is_name_start(c) {
+        Some(split_while(Class::Name, text))
+    } else {
+        None
+    }
+}
+
+/// What stands before the first of these words, and what stands after it.
+fn split_once<'a>(word: &str, text: &'a str) -> Option<(&'a str, &'a str)>
+    requires ascii { IsTrue (is_ascii word.now) }
+    requires filled { word.now ≢ [] }
+    ensures reads { Reads two_texts result (split_once word.now (chars text.now)) }
+    ensures front { IfSome result (λ x. IsUtf8 x.0.now) }
+    ensures text { IfSome result (λ x. IsUtf8 x.1.now) }
+{
+    text.split_once(word)
+}
+
+/// The characters up to the first of these words, and the text after that word.
+#[tactic(auto, unfolding(crate::specs::Reading::up_to))]
+pub(crate) fn up_to<'a>(stop: &str, text: &'a str) -> Option<(&'a str, &'a str)>
+    requires ascii { IsTrue (is_ascii stop.now) }
+    requires filled { stop.now ≢ [] }
+    ensures reads { Reads two_texts result (up_to stop.now (chars text.now)) }
+    ensures front { IfSome result (λ x. IsUtf8 x.0.now) }
+    ensures text { IfSome result (λ x. IsUtf8 x.1.now) }
+{
+    let (inside, rest) = split_once(stop, text)?;
+    if are_characters(inside) {
+        Some((inside, rest))
+    } else {
+        None
+    }
+}
