@@ -22,6 +22,15 @@ pub trait Sink {
         ensures failed { OnErr result (out self.new ≡ out self.old) }
         ensures cause { HasCause (faults self.old) (faults self.new) result }
         ensures stuck { IfOk result (λ count. count ≡ 0 → 0 < length bytes.now → Rose (faults self.old) (faults self.new)) };
+
+    /// Hands on what it took and keeps back, as a writer with a buffer does. A sink that keeps nothing
+    /// back has nothing to do.
+    fn flush(&mut self) -> Result<(), Failed>
+        ensures kept { out self.new ≡ out self.old }
+        ensures cause { HasCause (faults self.old) (faults self.new) result }
+    {
+        Ok(())
+    }
 }
 
 /// Puts all of the bytes, in as many calls as the sink wants. After `Failed` a front of them went out,

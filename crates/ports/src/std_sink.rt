@@ -1,6 +1,6 @@
 //! A writer of the system.
 
-ghost use Rattle.std.specs.Prelude.{◌≡◌, ◌⊎◌, ◌≤◌, ◌<◌, length, IfOk, OnErr};
+ghost use Rattle.std.specs.Prelude.{◌≡◌, ◌⊎◌, ◌≤◌, ◌<◌, length, IfOk, OnOk, OnErr};
 ghost use Rattle.ports.specs.Causes.{HasCause, one_more};
 
 use crate::failed::Failed;
@@ -57,6 +57,22 @@ impl<W: Write> Sink for StdSink<W> {
                 }
                 Ok(count)
             }
+            Err(_) => {
+                self.faults = self.faults.saturating_add(1);
+                Err(Failed)
+            }
+        }
+    }
+
+    fn flush(&mut self) -> Result<(), Failed>
+        ensures cause { HasCause self.old self.new result }
+
+        // Beyond the trait: the count rises at a failed call, and at no other.
+        ensures fault { OnErr result (self.new ≡ one_more self.old) }
+        ensures no_fault { OnOk result (self.new ≡ self.old) }
+    {
+        match self.inner.flush() {
+            Ok(()) => Ok(()),
             Err(_) => {
                 self.faults = self.faults.saturating_add(1);
                 Err(Failed)
