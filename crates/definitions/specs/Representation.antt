@@ -149,6 +149,10 @@ written style value =
 
 -- What is written for a value in a table of styles.
 
+-- 4: the style that `symbols()` writes in place
+abbrev pub anonymous_style : Anonymous → CounterStyle
+anonymous_style anonymous = record (initial_style anonymous.system) { symbols = anonymous.symbols; suffix = codes " " }
+
 module _ (table : List CounterStyle) where
   -- 3.7: the fallback of a style, where it is defined and is none of the styles that were tried
   abbrev pub next_style : List (List ℕ) → CounterStyle → Option CounterStyle
@@ -165,10 +169,6 @@ module _ (table : List CounterStyle) where
   -- no more than the table's styles and one of `symbols()`
   abbrev pub represented : CounterStyle → ℤ → List ℕ
   represented style value = represented_within (length table + 1) [] style value
-
-  -- 4: the style that `symbols()` writes in place
-  abbrev pub anonymous_style : Anonymous → CounterStyle
-  anonymous_style anonymous = record (initial_style anonymous.system) { symbols = anonymous.symbols; suffix = codes " " }
 
   -- 5: the style that is meant; an unknown name means `decimal`, and so do too few symbols (our own)
   abbrev pub chosen_style : StyleRef → CounterStyle

@@ -54,6 +54,7 @@ impl Table {
     /// time linear in the number of styles.
     pub fn find(&self, name: &str) -> Option<usize>
         ensures place { result ≡ place_named self.now (chars name.now) }
+        ensures table { IsTable self.now }
     {
         let wanted = style_name(name);
         for (place, style) in self.styles.as_slice().iter().enumerate() {
