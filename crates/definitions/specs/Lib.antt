@@ -1,7 +1,10 @@
 pub mod Characters
+pub mod CounterStyles
 pub mod Documents
 pub mod Dump
 pub mod Items
 pub mod Nodes
+pub mod PredefinedStyles
 pub mod Spelling
+pub mod Representation
 pub mod Thin

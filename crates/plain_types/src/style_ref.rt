@@ -1,5 +1,7 @@
 //! References to counter styles.
 
+ghost use Rattle.std.specs.Prelude.{◌≡◌};
+
 use crate::count::Count;
 use crate::duplicate::Duplicate;
 use crate::list::List;
@@ -21,6 +23,23 @@ pub enum System {
     Extends(Text),
 }
 
+impl System {
+    ghost use Rattle.plain_types.specs.Table.{is_supplied};
+
+    /// Whether so many symbols and so many additive tuples are enough for the system. For `extends` none
+    /// are.
+    pub fn is_supplied(&self, symbols: usize, tuples: usize) -> bool
+        ensures test { result ≡ is_supplied self.now symbols tuples }
+    {
+        match self {
+            System::Cyclic | System::Symbolic | System::Fixed(_) => symbols >= 1,
+            System::Numeric | System::Alphabetic => symbols >= 2,
+            System::Additive => tuples >= 1,
+            System::Extends(_) => false,
+        }
+    }
+}
+
 impl Duplicate for System {
     fn duplicate(&self, alloc: Global) -> Result<System, Memory> {
         match self {
@@ -35,7 +54,7 @@ impl Duplicate for System {
     }
 }
 
-/// A counter style that `symbols()` writes in place (CSS Counter Styles 3, 5).
+/// A counter style that `symbols()` writes in place (CSS Counter Styles 3, 4).
 #[derive(Drop)]
 pub struct Anonymous {
     pub system: System,

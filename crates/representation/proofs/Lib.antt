@@ -1,0 +1,4 @@
+pub mod DraftLemmas
+pub mod DigitLemmas
+pub mod WrittenLemmas
+pub mod RepresentLemmas

@@ -1,0 +1,40 @@
+use Rattle.std.proofs.Common.{rules, arith, ap, sym, ◌∙◌, ◌++◌, length, ◌≡◌}
+use Rattle.std.specs.List.{repeat}
+use Rattle.std.specs.Str.{chars}
+use Rattle.representation.proofs.DraftLemmas.{extended-by_nothing, repeat-nil, goes_over, stays_within, grows, room_left, room_falls, was_over}
+use Rattle.representation.proofs.draft.Draft.push.Goals.{then-self-via-then-self, then-self-via-else-self+then-length-eq0, then-self-via-else-self+else-length-eq0+then-times-eq0}
+use Rattle.representation.proofs.draft.Draft.push.Goals as goal
+
+pub returns-then-times-self : goal.returns-then-times-self
+returns-then-times-self c = record { ok = goes_over _ _ _ _ _ _ _ c.self.view_is c.if-self.false c.self.invariant c.character_count-length.ensures.count c.if-length-eq0.false c.if-times-self.true }
+
+pub invariant_of-self-in-loop-done : goal.invariant_of-self-in-loop-done
+invariant_of-self-in-loop-done c =
+    room_left _ _ _ _ _ _ _ c.self.invariant c.character_count-length.ensures.count c.loop-done.invariant.text c.loop-done.invariant.room
+
+pub invariant_of-self-in_err-push_str : goal.invariant_of-self-in_err-push_str
+invariant_of-self-in_err-push_str c =
+    omega (arith, ap length c.in_err-push_str.ensures.err, room_left _ _ _ _ _ _ _ c.self.invariant c.character_count-length.ensures.count c.loop-done.invariant.text c.loop-done.invariant.room)
+
+pub loop-done-preserved : goal.loop-done-preserved
+loop-done-preserved c = record {
+  text = grows _ _ _ _ _ c.loop-done.invariant.text c.in_ok-push_str.ensures.ok;
+  room = room_falls _ _ _ _ _ c.loop-done.invariant.room c.if-times-self.false c.loop-done-test.true;
+  is_over = c.loop-done.invariant.is_over;
+}
+
+pub returns : goal.returns
+returns c = record {
+  ok =
+      stays_within _ _ _ _ _ _ _ _ _ c.self.view_is c.if-self.false c.loop-done.invariant.is_over c.self.invariant c.character_count-length.ensures.count c.if-times-self.false
+      (c.loop-done.invariant.text ∙ ap (λ n. c.self.inside.text ++ repeat n (chars c.args.piece.now)) (omega arith));
+}
+
+pub returns-then-self : goal.returns-then-self
+returns-then-self c = record {
+  ok = elim c.then-self.branch [
+      then-self-via-then-self w ↦ was_over _ _ _ _ c.self.view_is w.if-self.true
+    | then-self-via-else-self+then-length-eq0 w ↦ extended-by_nothing _ c.args.times (chars c.args.piece.now) (repeat-nil c.args.times (chars c.args.piece.now) (omega (arith, c.character_count-length.ensures.count)))
+    | then-self-via-else-self+else-length-eq0+then-times-eq0 w ↦ extended-by_nothing _ c.args.times (chars c.args.piece.now) (ap (λ n. repeat n (chars c.args.piece.now)) w.if-times-eq0.true)
+    ];
+}

@@ -1,0 +1,7 @@
+use Rattle.std.proofs.Common.{rules}
+use Rattle.std.specs.Str.{chars}
+use Rattle.std.proofs.lemmas.Str.{chars_from_encodes}
+use Rattle.representation.proofs.draft.character_count.Goals as goal
+
+pub returns : goal.returns
+returns c = search (rules, chars_from_encodes)
