@@ -1,7 +1,11 @@
 pub mod Characters
 pub mod Documents
 pub mod Dump
+pub mod Faults
+pub mod Fragments
 pub mod Items
 pub mod Nodes
+pub mod Prepared
 pub mod Spelling
+pub mod Texts
 pub mod Thin
