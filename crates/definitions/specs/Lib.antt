@@ -2,9 +2,13 @@ pub mod Characters
 pub mod CounterStyles
 pub mod Documents
 pub mod Dump
+pub mod Faults
+pub mod Fragments
 pub mod Items
 pub mod Nodes
 pub mod PredefinedStyles
-pub mod Spelling
+pub mod Prepared
 pub mod Representation
+pub mod Spelling
+pub mod Texts
 pub mod Thin

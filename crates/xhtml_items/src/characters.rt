@@ -7,7 +7,8 @@ ghost use Rattle.definitions.specs.Characters.{is_blank, is_character, is_plain,
 ghost use Rattle.definitions.specs.Spelling.{is_legal, as_read};
 ghost use Rattle.xhtml_items.specs.Classes.{is_in};
 
-pub(crate) fn is_blank(c: char) -> bool
+/// A space, a tab or a line feed.
+pub fn is_blank(c: char) -> bool
     ensures { result ≡ is_blank c }
 {
     c == ' ' || c == '\t' || c == '\n'
@@ -64,13 +65,15 @@ pub(crate) fn as_read(c: char) -> char
 
 /// Characters that stand in a row, of which the longest front is taken.
 #[derive(Clone, Copy)]
-pub(crate) enum Class {
+pub enum Class {
     Blank,
     Name,
     Digit,
     HexadecimalDigit,
     /// What may stand in a literal between two of this quote.
     Literal(char),
+    /// What stands for itself in content.
+    Plain,
 }
 
 impl Class {
@@ -83,6 +86,7 @@ impl Class {
             Class::Digit => c.is_ascii_digit(),
             Class::HexadecimalDigit => c.is_ascii_hexdigit(),
             Class::Literal(quote) => is_character(c) && c != quote,
+            Class::Plain => is_plain(c),
         }
     }
 }

@@ -20,12 +20,12 @@
 #![tactic(auto)]
 
 mod attributes;
-mod characters;
+pub mod characters;
 pub mod item;
 mod markup;
 mod references;
 mod tags;
-mod text;
+pub mod text;
 pub mod token;
 
 #[cfg(test)]

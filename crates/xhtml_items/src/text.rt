@@ -10,7 +10,7 @@ ghost use Rattle.xhtml_items.specs.Tokens.{Reads, text_view, two_texts};
 use crate::characters::{Class, are_characters, is_blank, is_name_start};
 
 /// The first character, and the text after it.
-pub(crate) fn first_char(text: &str) -> Option<(char, &str)>
+pub fn first_char(text: &str) -> Option<(char, &str)>
     ensures bytes { MatchOption result (text.now ≡ []) (λ x. text.now ≡ encode_utf8 x.0 ++ x.1.now) }
     ensures chars { MatchOption result (chars text.now ≡ []) (λ x. chars text.now ≡ x.0 ∷ chars x.1.now) }
     ensures text { IfSome result (λ x. IsUtf8 x.1.now) }
@@ -63,8 +63,8 @@ pub(crate) fn past_capitals<'a>(word: &[u8], text: &'a str) -> Option<&'a str>
     Some(rest)
 }
 
-/// The longest front of characters of the class, and the text after it.
-pub(crate) fn split_while(class: Class, text: &str) -> (&str, &str)
+/// The longest front of characters of the class, and the text after it, in time linear in that front.
+pub fn split_while(class: Class, text: &str) -> (&str, &str)
     ensures reads { span (is_in class) (chars text.now) ≡ two_texts result }
     ensures front { IsUtf8 result.0.now }
     ensures text { IsUtf8 result.1.now }
@@ -102,7 +102,7 @@ pub(crate) fn past_blanks(text: &str) -> Option<&str>
 
 /// A name, and the text after it.
 #[tactic(auto, unfolding(crate::specs::Reading::name_at))]
-pub(crate) fn split_name(text: &str) -> Option<(&str, &str)>
+pub fn split_name(text: &str) -> Option<(&str, &str)>
     ensures reads { Reads two_texts result (name_at (chars text.now)) }
     ensures front { IfSome result (λ x. IsUtf8 x.0.now) }
     ensures text { IfSome result (λ x. IsUtf8 x.1.now) }

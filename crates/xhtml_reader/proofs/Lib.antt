@@ -1,13 +1,7 @@
-pub mod Cuts
 pub mod Lists
-pub mod PlainItems
 pub mod Machine
 pub mod Holding
-pub mod Nodes
-pub mod Texts
+pub mod Wholes
+pub mod Beginnings
 pub mod Places
-pub mod Keeps
-pub mod Advances
-pub mod Words
-pub mod ThinTrees
-pub mod Progress
+pub mod Nodes

@@ -1,22 +1,27 @@
--- Where reading stops there is no document, and where it ends there is one.
-use Rattle.std.proofs.Common.{◌≡◌, ◌≢◌, ℕ, ◌<◌, ◌≤◌, true, false, List, [], ◌∷◌, ◌++◌, length, ◌⊎◌, inl, inr, Option, Some, None, refl, sym, ap, ◌∙◌, append_assoc, append-nil, arith}
-use Rattle.std.proofs.lemmas.List.{length-append, nil_from_length}
-use Rattle.forest.specs.Forest.{Forest}
-use Rattle.plain_types.specs.declared.attr.Attr.{Attr}
+-- Where reading stops is the place of the fault, and where it ends there is a tree.
+use Rattle.std.proofs.Common.{◌≡◌, ◌≢◌, ℕ, ◌+◌, ◌<◌, ◌≤◌, Bool, true, false, List, [], ◌∷◌, ◌++◌, length, take, drop, ◌⊎◌, inl, inr, Option, Some, None, refl, sym, ap, subst, ◌∙◌, append_assoc, append-nil, arith}
+use Rattle.std.proofs.lemmas.List.{length-append, length-take-le, nil_from_length, take-append-drop, take_all, take_at}
+use Rattle.forest.specs.Forest.{Forest, Empty, Tree}
 use Rattle.plain_types.specs.declared.node.Node.{Node}
-use Rattle.definitions.specs.Documents.{IsElement, empty_element, whole_element}
+use Rattle.plain_types.specs.declared.node.Node.TheVariants.{Text}
+use Rattle.definitions.specs.Faults.{IsSound, IsFaultPlace}
 use Rattle.definitions.specs.Items.{Item, ArePieces}
-use Rattle.definitions.specs.Thin.{SpellsPlainly, IsThinDocument, is_thin}
-use Rattle.xhtml_reader.specs.Keeping.{Leads, Stops}
-use Rattle.xhtml_reader.specs.Lexing.{item_at}
-use Rattle.xhtml_reader.specs.Machine.{Kind, thin_document, State, at_start, at_end, some_state, step, run}
+use Rattle.definitions.specs.Spelling.{Spells}
+use Rattle.definitions.specs.Texts.{HasTree}
+use Rattle.xhtml_items.specs.Reading.{item_at}
+use Rattle.xhtml_items.proofs.ItemLaws.{item_again, item_takes}
+use Rattle.xhtml_reader.specs.declared.kind.Kind.{Kind}
+use Rattle.xhtml_reader.specs.declared.kind.Kind.TheVariants.{Document, Fragment}
+use Rattle.xhtml_reader.specs.Machine.{State, at_start, after_doctype, in_text, inside, at_end, some_state, IsFinal, allows, step, run}
+use Rattle.xhtml_reader.specs.Reading.{Leads, Stops}
+use Rattle.xhtml_reader.proofs.Beginnings.{begins}
+use Rattle.xhtml_reader.proofs.Holding.{Holds, outside, opened, deeper, steps, Top}
 use Rattle.xhtml_reader.proofs.Lists.{ArePieces-append, ArePieces-one}
-use Rattle.xhtml_reader.proofs.PlainItems.{item_again, item_takes}
-use Rattle.xhtml_reader.proofs.Machine.{run-append, survives, root_runs}
-use Rattle.xhtml_reader.proofs.Holding.{Holds, outside, opened, deeper, steps, IsRoot}
+use Rattle.xhtml_reader.proofs.Machine.{run-append, survives}
+use Rattle.xhtml_reader.proofs.Wholes.{whole_ends}
 
 abbrev pub AreItems : List ℕ → List Item → Type 0
-AreItems characters items = ArePieces SpellsPlainly characters items
+AreItems characters items = ArePieces Spells characters items
 
 -- ---- a text has at most one list of items
 
@@ -24,13 +29,13 @@ abbrev some_item : Item × List ℕ → Option (Item × List ℕ)
 some_item read = Some read
 
 -- no item begins another
-pub same_first : (p q : Item) (f g x y : List ℕ) → SpellsPlainly f p → SpellsPlainly g q → f ++ x ≡ g ++ y → (p ≡ q) × (x ≡ y)
+same_first : (p q : Item) (f g x y : List ℕ) → Spells f p → Spells g q → f ++ x ≡ g ++ y → (p ≡ q) × (x ≡ y)
 same_first p q f g x y a b e =
     let both : some_item (p, x) ≡ some_item (q, y) = sym (item_again p f x a) ∙ ap item_at e ∙ item_again q g y b in
     let pair : (p, x) ≡ (q, y) = cc in
     (ap (λ (t : Item × List ℕ). t.0) pair, ap (λ (t : Item × List ℕ). t.1) pair)
 
-pub not_spelled : (p : Item) (f x : List ℕ) → SpellsPlainly f p → f ++ x ≡ [] → ⊥
+not_spelled : (p : Item) (f x : List ℕ) → Spells f p → f ++ x ≡ [] → ⊥
 unfolding item_at
 not_spelled p f x a e = let h = sym (item_again p f x a) ∙ ap item_at e in cc
 
@@ -68,6 +73,9 @@ module _ (kind : Kind) where
     pub ran : run kind (Some at_start) items ≡ some_state s
     pub holds : Holds kind items s
 
+  reached_sound : (front : List ℕ) (s : State) → Reached front s → IsSound (allows kind) front
+  reached_sound front s reached = (reached.items, reached.spelled, begins kind reached.holds front reached.spelled)
+
   holds_more : (more items : List Item) (s t : State) → Holds kind items s → run kind (Some s) more ≡ some_state t → Holds kind (items ++ more) t
   holds_more [] items s t h e = let same : s ≡ t = cc in rw (append-nil, ← same) h
   holds_more (item ∷ more) items s t h e = go (λ u k. holds_more more (items ++ item ∷ []) u t k) (step kind s item) refl e
@@ -80,7 +88,7 @@ module _ (kind : Kind) where
   pub Reached-more : (front rest after : List ℕ) (s t : State) → Reached front s → (leads : Leads kind rest s after t) → Reached (front ++ leads.front) t
   Reached-more front rest after s t reached leads = record {
     items = reached.items ++ leads.items;
-    spelled = ArePieces-append SpellsPlainly reached.items leads.items front leads.front reached.spelled leads.spelled;
+    spelled = ArePieces-append Spells reached.items leads.items front leads.front reached.spelled leads.spelled;
     ran = run-append kind (Some at_start) reached.items leads.items ∙ ap (λ (o : Option State). run kind o leads.items) reached.ran ∙ leads.ran;
     holds = holds_more leads.items reached.items s t reached.holds leads.ran;
   }
@@ -90,14 +98,14 @@ module _ (kind : Kind) where
       let takes = item_takes rest (item, after) e in
       record {
         items = item ∷ [];
-        front = takes.front;
-        spelled = ArePieces-one SpellsPlainly item takes.front takes.spelled;
-        parts = takes.parts;
+        front = takes.0;
+        spelled = ArePieces-one Spells item takes.0 takes.1;
+        parts = takes.2;
         ran = moves;
       }
 
-  -- what other items read of the text is no more than was read
-  pub no_longer : (front rest : List ℕ) (s : State) → Reached front s → Stops kind rest s → (a d : List ℕ) → front ++ rest ≡ a ++ d → (ys : List Item) → AreItems a ys → (t : State) → run kind (Some at_start) ys ≡ some_state t
+  -- other items of the text that lead anywhere are no more than were read
+  no_longer : (front rest : List ℕ) (s : State) → Reached front s → Stops kind rest s → (a d : List ℕ) → front ++ rest ≡ a ++ d → (ys : List Item) → AreItems a ys → (t : State) → run kind (Some at_start) ys ≡ some_state t
       → length a ≤ length front
   no_longer front rest s reached stops a d both ys spelled t ran =
       elim (compared reached.items ys front a rest d reached.spelled spelled both) [
@@ -125,72 +133,91 @@ module _ (kind : Kind) where
                 stuck x more stop ran_more)
           ]
 
--- an item takes a character or more
-pub item_shorter : (rest : List ℕ) (read : Item × List ℕ) → item_at rest ≡ Some read → length read.1 < length rest
-unfolding item_at
-item_shorter rest read e =
-    let takes = item_takes rest read e in
-    shorter takes.front read.1 rest takes.parts (λ none. not_spelled read.0 takes.front [] takes.spelled (append-nil takes.front ∙ none))
-  where
-    shorter : (front after rest : List ℕ) → rest ≡ front ++ after → (front ≡ [] → ⊥) → length after < length rest
-    shorter [] after rest e h = absurd (h refl)
-    shorter (c ∷ cs) after rest e h = omega (arith, ap length e, length-append cs after)
+  -- items with which those of a text begin lead somewhere
+  sound_runs : (characters : List ℕ) → (sound : IsSound (allows kind) characters) → (t : State) × (run kind (Some at_start) sound.0 ≡ some_state t)
+  sound_runs characters sound =
+      let whole = whole_ends kind (sound.0 ++ sound.2.more) sound.2.tree sound.2.allowed in
+      survives kind (run kind (Some at_start) sound.0) sound.2.more whole.0 (sym (run-append kind (Some at_start) sound.0 sound.2.more) ∙ whole.1)
 
--- ---- thin documents
+  abbrev pub NoTree : List ℕ → Type 0
+  NoTree whole = (tree : Forest Node) → HasTree (allows kind) whole tree → ⊥
 
-abbrev pub NoThinTree : List ℕ → Type 0
-NoThinTree whole = (tree : Forest Node) → IsThinDocument whole tree → ⊥
+  -- where an item does not fit, or none comes
+  pub stopped : (whole front rest : List ℕ) (s : State) (n : ℕ) → Reached front s → whole ≡ front ++ rest → rest ≢ [] → Stops kind rest s → n ≡ length front
+      → NoTree whole × IsFaultPlace (allows kind) whole n
+  stopped whole front rest s n reached e some stops n_is =
+      let front_is : take n whole ≡ front = ap (take n) e ∙ take_at front rest n (sym n_is) in (
+        λ tree d.
+            let ends = whole_ends kind d.items tree d.allowed in
+            let bound : length whole ≤ length front = no_longer front rest s reached stops whole [] (sym e ∙ sym (append-nil whole)) d.items d.spelled ends.0 ends.1 in
+            some (nil_from_length rest (omega (arith, ap length e, length-append front rest))),
+        record {
+          within = omega (arith, ap length e, length-append front rest);
+          sound = rw front_is (reached_sound front s reached);
+          longest = λ other within sound.
+              let runs = sound_runs (take other whole) sound in
+              let bound : length (take other whole) ≤ length front =
+              no_longer front rest s reached stops (take other whole) (drop other whole) (sym e ∙ sym (take-append-drop other whole)) sound.0 sound.1 runs.0 runs.1 in
+              omega (arith, length-take-le other whole within);
+        },
+      )
 
-thin_runs : (whole : List ℕ) (tree : Forest Node) (d : IsThinDocument whole tree) → run thin_document (Some at_start) d.items ≡ some_state (at_end tree)
-thin_runs whole tree d = rw d.root (root_runs thin_document d.element at_start refl refl)
+  -- the state to which a whole text leads
+  reached_final : (whole : List ℕ) (s : State) (tree : Forest Node) → Reached whole s → HasTree (allows kind) whole tree → IsFinal s tree
+  reached_final whole s tree reached d =
+      let same = only_items reached.items d.items whole reached.spelled d.spelled in
+      let ends = whole_ends kind d.items tree d.allowed in
+      let ran : some_state s ≡ some_state ends.0 = sym reached.ran ∙ ap (run kind (Some at_start)) same ∙ ends.1 in
+      let is : s ≡ ends.0 = cc in
+      subst (λ (t : State). IsFinal t tree) (sym is) ends.2
 
-pub stopped : (whole front rest : List ℕ) (s : State) → Reached thin_document front s → whole ≡ front ++ rest → rest ≢ [] → Stops thin_document rest s → NoThinTree whole
-stopped whole front rest s reached e some stops tree d =
-    let bound : length whole ≤ length front = no_longer thin_document front rest s reached stops whole [] (sym e ∙ sym (append-nil whole)) d.items d.spelled (at_end tree) (thin_runs whole tree d) in
-    some (nil_from_length rest (omega (arith, ap length e, length-append front rest)))
-
-reached_is : (whole : List ℕ) (s : State) (tree : Forest Node) → Reached thin_document whole s → IsThinDocument whole tree → s ≡ at_end tree
-reached_is whole s tree reached d =
-    let same = only_items reached.items d.items whole reached.spelled d.spelled in
-    let ran : some_state s ≡ some_state (at_end tree) = sym reached.ran ∙ ap (run thin_document (Some at_start)) same ∙ thin_runs whole tree d in
-    cc
-
--- at the end of the text
-pub unfinished : (whole : List ℕ) (s : State) → Reached thin_document whole s → ((tree : Forest Node) → s ≡ at_end tree → ⊥) → NoThinTree whole
-unfinished whole s reached open_still tree d = open_still tree (reached_is whole s tree reached d)
-
-pub not_thin : (whole : List ℕ) (tree : Forest Node) → Reached thin_document whole (at_end tree) → is_thin tree ≡ false → NoThinTree whole
-not_thin whole tree reached fails other d =
-    let both : at_end tree ≡ at_end other = reached_is whole (at_end tree) other reached d in
-    let same : tree ≡ other = cc in
-    let holds : is_thin tree ≡ true = rw same d.thin in
-    let bad : true ≡ false = sym holds ∙ fails in cc
-
-bare : (characters : List ℕ) {items : List Item} {name : List ℕ} {attrs : List Attr} {children : Forest Node} → IsElement items name attrs children → AreItems characters items → attrs ≡ []
-bare characters (empty_element name attrs) spelled = spelled.2.0
-bare characters (whole_element name attrs d) spelled = spelled.2.0
-
-root_of : {items : List Item} {s : State} → Holds thin_document items s → (tree : Forest Node) → s ≡ at_end tree → IsRoot items tree
-root_of (outside items s t) tree e = rw e at t
-root_of (opened before p n a d) tree e = absurd cc
-root_of (deeper h n a d) tree e = absurd cc
-
-pub found : (whole : List ℕ) (tree : Forest Node) → Reached thin_document whole (at_end tree) → is_thin tree ≡ true → IsThinDocument whole tree
-found whole tree reached thin =
-    let root = root_of reached.holds tree refl in
-    let none : root.1 ≡ [] = bare whole root.3 reached.spelled in
+  -- at the end of the text, where it may not end
+  pub unfinished : (whole : List ℕ) (s : State) (n : ℕ) → Reached whole s → ((tree : Forest Node) → IsFinal s tree → ⊥) → n ≡ length whole → NoTree whole × IsFaultPlace (allows kind) whole n
+  unfinished whole s n reached fails n_is = (
+    λ tree d. fails tree (reached_final whole s tree reached d),
     record {
-      items = reached.items;
-      name = root.0;
-      children = root.2;
-      spelled = reached.spelled;
-      element = rw none at root.3;
-      root = rw none at root.4;
-      thin = thin;
-    }
+      within = omega arith;
+      sound = rw (n_is, take_all (length whole) whole (omega arith)) (reached_sound whole s reached);
+      longest = λ other within sound. omega arith;
+    },
+  )
 
-pub one_tree : (whole : List ℕ) (tree other : Forest Node) → IsThinDocument whole tree → IsThinDocument whole other → tree ≡ other
-one_tree whole tree other d e =
+final_allows : (kind : Kind) {items : List Item} {s : State} → Holds kind items s → (tree : Forest Node) → IsFinal s tree → allows kind items tree
+final_allows kind (opened before p name attrs d) tree final = absurd final
+final_allows kind (deeper h name attrs d) tree final = absurd final
+final_allows Document (outside items s h) tree final = document_final items s h tree final
+  where
+    document_final : (items : List Item) (s : State) → Top Document items s → (tree : Forest Node) → IsFinal s tree → allows Document items tree
+    document_final items at_start h tree final = absurd final
+    document_final items after_doctype h tree final = absurd final
+    document_final items (in_text cs) h tree final = absurd h
+    document_final items (inside f frames here) h tree final = absurd h
+    document_final items (at_end root) d tree final = rw final d
+final_allows Fragment (outside items s h) tree final = fragment_final items s h tree final
+  where
+    fragment_final : (items : List Item) (s : State) → Top Fragment items s → (tree : Forest Node) → IsFinal s tree → allows Fragment items tree
+    fragment_final items at_start h tree final = absurd final
+    fragment_final items after_doctype h tree final = absurd final
+    fragment_final items (in_text cs) h tree final = rw final (record { content = h.0; one = refl })
+    fragment_final items (inside f frames here) h tree final = absurd h
+    fragment_final items (at_end root) h tree final = rw final (record { content = h.0; one = rw h.1.3 refl })
+
+-- at the end of the text, where it may end
+pub found : (kind : Kind) (whole : List ℕ) (s : State) (tree : Forest Node) → Reached kind whole s → IsFinal s tree → HasTree (allows kind) whole tree
+found kind whole s tree reached final = record { items = reached.items; spelled = reached.spelled; allowed = final_allows kind reached.holds tree final }
+
+pub only_tree : (kind : Kind) (whole : List ℕ) (tree other : Forest Node) → HasTree (allows kind) whole tree → HasTree (allows kind) whole other → tree ≡ other
+only_tree kind whole tree other d e =
     let same = only_items d.items e.items whole d.spelled e.spelled in
-    let ran : some_state (at_end tree) ≡ some_state (at_end other) = sym (thin_runs whole tree d) ∙ ap (run thin_document (Some at_start)) same ∙ thin_runs whole other e in
-    cc
+    let first = whole_ends kind d.items tree d.allowed in
+    let second = whole_ends kind e.items other e.allowed in
+    let ran : some_state first.0 ≡ some_state second.0 = sym first.1 ∙ ap (run kind (Some at_start)) same ∙ second.1 in
+    let is : first.0 ≡ second.0 = cc in
+    one second.0 tree other (subst (λ (t : State). IsFinal t tree) is first.2) second.2
+  where
+    one : (s : State) (tree other : Forest Node) → IsFinal s tree → IsFinal s other → tree ≡ other
+    one at_start tree other p q = absurd p
+    one after_doctype tree other p q = absurd p
+    one (in_text cs) tree other p q = p ∙ sym q
+    one (inside f frames here) tree other p q = absurd p
+    one (at_end root) tree other p q = p ∙ sym q

@@ -1,5 +1,5 @@
 -- What the reader keeps of a state.
-use Rattle.std.specs.Prelude.{◌≡◌, ◌≢◌, ℕ, Bool, true, false, ◌||◌, ◌&&◌, ◌==◌, MatchBool, MatchOption, ◌⊎◌, Option, List, [], ◌∷◌, ◌++◌, length, map, Some, None, encode_utf8_all}
+use Rattle.std.specs.Prelude.{◌≡◌, ◌≢◌, ℕ, Bool, true, false, ◌||◌, ◌&&◌, ◌==◌, not, MatchBool, MatchOption, Option, List, [], ◌∷◌, ◌++◌, length, map, Some, None, encode_utf8_all}
 use Rattle.std.specs.Borrow.{Bor}
 use Rattle.std.specs.Str.{chars}
 use Rattle.forest.specs.Forest.{Forest, Empty, Tree}
@@ -8,25 +8,35 @@ use Rattle.plain_types.specs.Rows.{row, rows}
 use Rattle.plain_types.specs.declared.node.Node.{Node}
 use Rattle.plain_types.specs.declared.node.Node.TheVariants.{Element, Text}
 use Rattle.plain_types.specs.declared.row.Row.{Row}
-use Rattle.definitions.specs.Items.{Item, ArePieces, plain_character}
+use Rattle.definitions.specs.Items.{Item}
 use Rattle.definitions.specs.Nodes.{then_characters}
-use Rattle.definitions.specs.Thin.{SpellsPlainly}
-use Rattle.xhtml_reader.specs.Machine.{Kind, Frame, State, at_start, after_doctype, in_text, inside, at_end, some_state, step, run}
-use Rattle.xhtml_reader.specs.Lexing.{item_at}
+use Rattle.xhtml_reader.specs.Machine.{Frame, State, at_start, after_doctype, in_text, inside, at_end, IsFinal, step}
+use Rattle.xhtml_reader.specs.Reading.{Leads, Stops}
+use Rattle.xhtml_reader.specs.declared.kind.Kind.{Kind}
+use Rattle.xhtml_reader.specs.declared.kind.Kind.TheVariants.{Document, Fragment}
 use Rattle.xhtml_reader.specs.declared.open_tree.OpenTree.{OpenTree}
 
--- the nodes built so far, the names of the open elements in UTF-8, the outermost first, and the
--- characters that wait for a text
+-- What is read, whether its doctype has come, the nodes built so far, the names of the open elements in
+-- UTF-8, the outermost first, and the characters that wait for a text.
 pub record Kept : Type 0 where
+  pub kind : Kind
+  pub has_doctype : Bool
   pub built : Building
   pub names : List (List ℕ)
   pub waiting : List ℕ
 
+abbrev pub name_bytes : List (Bor (List ℕ)) → List (List ℕ)
+name_bytes names = map (λ (name : Bor (List ℕ)). name.now) names
+
 abbrev pub kept : OpenTree → Kept
-kept tree = record { built = tree.builder; names = map (λ (name : Bor (List ℕ)). name.now) tree.names.items; waiting = tree.characters }
+kept tree = record { kind = tree.kind; has_doctype = tree.has_doctype; built = tree.builder; names = name_bytes tree.names.items; waiting = tree.characters }
 
 abbrev pub built_of : List Row → ℕ → Building
 built_of all begun = record { rows = all; inside = begun }
+
+-- what is kept where no element is open
+abbrev pub kept_outside : Kind → Bool → List Row → List ℕ → Kept
+kept_outside kind has_doctype all waiting = record { kind = kind; has_doctype = has_doctype; built = built_of all 0; names = []; waiting = waiting }
 
 abbrev pub ends_in_text : Forest Node → Bool
 ends_in_text Empty = false
@@ -51,9 +61,21 @@ text_rows depth (first ∷ rest) = row depth (Text (first ∷ rest)) ∷ []
 abbrev pub with_text : Building → List ℕ → Building
 with_text built characters = built_of (built.rows ++ text_rows built.inside characters) built.inside
 
+abbrev pub is_fragment : Kind → Bool
+is_fragment Document = false
+is_fragment Fragment = true
+
 -- an element may come: inside of an element, or as the first node
 abbrev pub accepts_element : Kept → Bool
 accepts_element all = is_inside all.built || (accepts_node all.built && length all.waiting == 0)
+
+-- characters may come, some or none: inside of an element, or as the node of a fragment
+abbrev pub accepts_characters : Kept → Bool → Bool
+accepts_characters all are_some = is_inside all.built || (is_fragment all.kind && (not are_some || accepts_node all.built))
+
+-- a doctype may come
+abbrev pub accepts_doctype : Kept → Bool
+accepts_doctype all = not (is_fragment all.kind) && (not all.has_doctype && (accepts_node all.built && not (is_inside all.built)))
 
 pub record KeepsInside (all : Kept) (frames : List Frame) (here : Forest Node) : Type 0 where
   pub done : Forest Node
@@ -63,45 +85,27 @@ pub record KeepsInside (all : Kept) (frames : List Frame) (here : Forest Node) :
   pub built_is : all.built ≡ built_of (rows_before frames ++ rows (length frames) done) (length frames)
 
 abbrev pub Keeps : Kept → State → Type 0
-Keeps all at_start = all ≡ record { built = built_of [] 0; names = []; waiting = [] }
-Keeps all after_doctype = ⊥
-Keeps all (in_text characters) = (all ≡ record { built = built_of [] 0; names = []; waiting = characters }) × (characters ≢ [])
+Keeps all at_start = all ≡ kept_outside all.kind false [] []
+Keeps all after_doctype = all ≡ kept_outside Document true [] []
+Keeps all (in_text characters) = (all ≡ kept_outside Fragment false [] characters) × (characters ≢ [])
 Keeps all (inside innermost outer here) = KeepsInside all (innermost ∷ outer) here
-Keeps all (at_end tree) = (all ≡ record { built = built_of (rows 0 tree) 0; names = []; waiting = [] }) × (tree ≢ Empty)
+Keeps all (at_end tree) = (all ≡ kept_outside all.kind all.has_doctype (rows 0 tree) []) × (tree ≢ Empty)
 
 -- the item fits, and was added; or it does not fit
-abbrev pub Adds : Kind → Kept → Item → Bool → Kept → Type 0
-Adds kind old item fits new =
-    (state : State) → Keeps old state → MatchBool fits ((next : State) × (step kind state item ≡ Some next) × Keeps new next) (step kind state item ≡ None)
-
--- the characters fit, and were added; or none fits
-abbrev pub AddsCharacters : Kind → Kept → List ℕ → Bool → Kept → Type 0
-AddsCharacters kind old characters fits new =
-    (state : State) → Keeps old state
-    → MatchBool fits ((next : State) × (run kind (Some state) (map plain_character characters) ≡ Some next) × Keeps new next) ((character : ℕ) → step kind state (plain_character character) ≡ None)
-
--- the text goes on with items, and they lead from here to there
-pub record Leads (kind : Kind) (text : List ℕ) (state : State) (after : List ℕ) (next : State) : Type 0 where
-  pub items : List Item
-  pub front : List ℕ
-  pub spelled : ArePieces SpellsPlainly front items
-  pub parts : text ≡ front ++ after
-  pub ran : run kind (Some state) items ≡ some_state next
-
--- the text goes on with no item that fits
-abbrev pub Stops : Kind → List ℕ → State → Type 0
-Stops kind text state = (item_at text ≡ None) ⊎ ((read : Item × List ℕ) × (item_at text ≡ Some read) × (step kind state read.0 ≡ None))
+abbrev pub Adds : Kept → Item → Bool → Kept → Type 0
+Adds old item fits new =
+    (state : State) → Keeps old state → MatchBool fits ((next : State) × (step old.kind state item ≡ Some next) × Keeps new next) (step old.kind state item ≡ None)
 
 abbrev pub chars_of : Option (Bor (List ℕ)) → Option (List ℕ)
 chars_of None = None
 chars_of (Some text) = Some (chars text.now)
 
 -- what the text goes on with fits, and was added, and then comes the text after it; or it does not fit
-abbrev pub Advances : Kind → Kept → List ℕ → Option (List ℕ) → Kept → Type 0
-Advances kind old text result new =
-    (state : State) → Keeps old state → MatchOption result (Stops kind text state) (λ after. (next : State) × Leads kind text state after next × Keeps new next)
+abbrev pub Advances : Kept → List ℕ → Option (List ℕ) → Kept → Type 0
+Advances old text result new =
+    (state : State) → Keeps old state → MatchOption result (Stops old.kind text state) (λ after. (next : State) × Leads old.kind text state after next × Keeps new next)
 
--- the tree is this one; or it has no end yet
+-- the tree is this one; or it may not end here
 abbrev pub Finishes : Kept → Option (Forest Node) → Type 0
 Finishes all result =
-    (state : State) → Keeps all state → MatchOption result ((tree : Forest Node) → state ≡ at_end tree → ⊥) (λ tree. state ≡ at_end tree)
+    (state : State) → Keeps all state → MatchOption result ((tree : Forest Node) → IsFinal state tree → ⊥) (λ tree. IsFinal state tree)

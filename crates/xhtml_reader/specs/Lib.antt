@@ -1,4 +1,4 @@
 pub mod Machine
+pub mod Reading
 pub mod Keeping
-pub mod Lexing
 pub mod ThinRows

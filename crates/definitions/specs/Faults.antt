@@ -1,0 +1,47 @@
+-- Where a text stops being a document or a fragment. The place of a fault is our own; that of the first
+-- error is what XML 1.0, 1.2 "fatal error" leaves to the reader.
+use Rattle.std.specs.Prelude.{◌≡◌, ℕ, ◌+◌, ◌≤◌, if◌then◌else◌, ◌==◌, List, [], ◌∷◌, ◌++◌, length, take}
+use Rattle.std.specs.List.{list_any}
+use Rattle.forest.specs.Forest.{Forest}
+use Rattle.plain_types.specs.declared.node.Node.{Node}
+use Rattle.definitions.specs.Items.{Item, ArePieces}
+use Rattle.definitions.specs.Prepared.{prepared}
+use Rattle.definitions.specs.Spelling.{Spells}
+use Rattle.definitions.specs.Texts.{Grammar, HasTree}
+
+-- how many line feeds there are
+abbrev pub line_feeds : List ℕ → ℕ
+line_feeds [] = 0
+line_feeds (first ∷ rest) = (if first == 10 then 1 else 0) + line_feeds rest
+
+-- the characters after the last line feed
+abbrev pub last_line : List ℕ → List ℕ
+last_line [] = []
+last_line (first ∷ rest) = if list_any (λ c. c == 10) (first ∷ rest) then last_line rest else first ∷ rest
+
+module _ (Allows : Grammar) where
+  -- The items of some text that has a tree begin with these.
+  pub record Begins (items : List Item) : Type 0 where
+    pub text : List ℕ
+    pub more : List Item
+    pub tree : Forest Node
+    pub spelled : ArePieces Spells text (items ++ more)
+    pub allowed : Allows (items ++ more) tree
+
+  -- the characters spell items with which those of some text that has a tree begin
+  abbrev pub IsSound : List ℕ → Type 0
+  IsSound characters = (items : List Item) × ArePieces Spells characters items × Begins items
+
+  -- this many characters are the longest front that is sound
+  pub record IsFaultPlace (characters : List ℕ) (place : ℕ) : Type 0 where
+    pub within : place ≤ length characters
+    pub sound : IsSound (take place characters)
+    pub longest : (other : ℕ) → other ≤ length characters → IsSound (take other characters) → other ≤ place
+
+  -- The text has no tree, and its fault is on this line, from 1, and in this column, from 1.
+  pub record FailsAt (text : List ℕ) (line column : ℕ) : Type 0 where
+    pub none : (tree : Forest Node) → HasTree Allows (prepared text) tree → ⊥
+    pub place : ℕ
+    pub fault : IsFaultPlace (prepared text) place
+    pub line_is : line ≡ 1 + line_feeds (take place (prepared text))
+    pub column_is : column ≡ 1 + length (last_line (take place (prepared text)))

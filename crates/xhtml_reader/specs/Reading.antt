@@ -1,0 +1,19 @@
+-- Reading on from a state.
+use Rattle.std.specs.Prelude.{◌≡◌, ℕ, ◌⊎◌, List, ◌++◌, Option, Some, None}
+use Rattle.definitions.specs.Items.{Item, ArePieces}
+use Rattle.definitions.specs.Spelling.{Spells}
+use Rattle.xhtml_items.specs.Reading.{item_at}
+use Rattle.xhtml_reader.specs.declared.kind.Kind.{Kind}
+use Rattle.xhtml_reader.specs.Machine.{State, some_state, step, run}
+
+-- the text goes on with items, and they lead from here to there
+pub record Leads (kind : Kind) (text : List ℕ) (state : State) (after : List ℕ) (next : State) : Type 0 where
+  pub items : List Item
+  pub front : List ℕ
+  pub spelled : ArePieces Spells front items
+  pub parts : text ≡ front ++ after
+  pub ran : run kind (Some state) items ≡ some_state next
+
+-- the text goes on with no item that fits
+abbrev pub Stops : Kind → List ℕ → State → Type 0
+Stops kind text state = (item_at text ≡ None) ⊎ ((read : Item × List ℕ) × (item_at text ≡ Some read) × (step kind state read.0 ≡ None))
