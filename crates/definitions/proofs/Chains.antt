@@ -39,30 +39,30 @@ module _ {K : Type 0} (eq : K → K → Bool) (same : (a b : K) → eq a b ≡ t
   fewer : (met items : List K) (k : K) → unmet (k ∷ met) items ≤ unmet met items
   fewer met [] k = omega arith
   fewer met (x ∷ items) k = elim (cases_Bool (is_met eq met x)) [
-      inl e ↦ let f : is_met eq (k ∷ met) x ≡ true = or_right (eq k x) (is_met eq met x) e in rw (f, e) (omega (arith, fewer met items k))
+    | inl e ↦ let f : is_met eq (k ∷ met) x ≡ true = or_right (eq k x) (is_met eq met x) e in rw (f, e) (omega (arith, fewer met items k))
     | inr e ↦ elim (cases_Bool (is_met eq (k ∷ met) x)) [
-        inl f ↦ rw (f, e) (omega (arith, fewer met items k))
+      | inl f ↦ rw (f, e) (omega (arith, fewer met items k))
       | inr f ↦ rw (f, e) (omega (arith, fewer met items k))
-      ]
     ]
+  ]
 
   -- an item that is met now was not met before, so fewer are left
   pub unmet-falls : (met items : List K) (k : K) → is_met eq met k ≡ false → is_met eq items k ≡ true → unmet (k ∷ met) items < unmet met items
   unmet-falls met [] k h i = absurd (both_ways _ refl i)
   unmet-falls met (x ∷ items) k h i = elim (or_cases (eq x k) (is_met eq items k) i) [
-      inl e ↦
+    | inl e ↦
         let at : x ≡ k = same x k e in
         let f : is_met eq (k ∷ met) x ≡ true = rw at (or_left (eq k k) (is_met eq met k) (itself k)) in
         let g : is_met eq met x ≡ false = ap (is_met eq met) at ∙ h in
         rw (f, g) (omega (arith, fewer met items k))
     | inr e ↦ elim (cases_Bool (is_met eq met x)) [
-        inl g ↦ let f : is_met eq (k ∷ met) x ≡ true = or_right (eq k x) (is_met eq met x) g in rw (f, g) (omega (arith, unmet-falls met items k h e))
+      | inl g ↦ let f : is_met eq (k ∷ met) x ≡ true = or_right (eq k x) (is_met eq met x) g in rw (f, g) (omega (arith, unmet-falls met items k h e))
       | inr g ↦ elim (cases_Bool (is_met eq (k ∷ met) x)) [
-          inl f ↦ rw (f, g) (omega (arith, unmet-falls met items k h e))
+        | inl f ↦ rw (f, g) (omega (arith, unmet-falls met items k h e))
         | inr f ↦ rw (f, g) (omega (arith, unmet-falls met items k h e))
-        ]
       ]
     ]
+  ]
 
   pub unmet-nil : (items : List K) → unmet [] items ≡ length items
   unmet-nil [] = refl
@@ -89,13 +89,13 @@ module _ {K : Type 0} (eq : K → K → Bool) (same : (a b : K) → eq a b ≡ t
     joins : (met : List K) (k q : K) → Failed met k → attempt k ≡ None → next k ≡ Some q → Failed (k ∷ met) q
     joins met k q f none some = record {
       fail = λ x h. elim (or_cases (eq k x) (is_met eq met x) h) [
-          inl e ↦ ap attempt (sym (same k x e)) ∙ none
+        | inl e ↦ ap attempt (sym (same k x e)) ∙ none
         | inr e ↦ f.fail x e
-        ];
+      ];
       stay = λ x h. elim (or_cases (eq k x) (is_met eq met x) h) [
-          inl e ↦ (q, ap next (sym (same k x e)) ∙ some, or_left (eq q q) (is_met eq (k ∷ met) q) (itself q))
+        | inl e ↦ (q, ap next (sym (same k x e)) ∙ some, or_left (eq q q) (is_met eq (k ∷ met) q) (itself q))
         | inr e ↦ ((f.stay x e).0, (f.stay x e).1, or_right (eq q (f.stay x e).0) (is_met eq (k ∷ met) (f.stay x e).0) (f.stay x e).2)
-        ];
+      ];
     }
 
     -- a chain that comes back to an item ends at the last
@@ -103,26 +103,26 @@ module _ {K : Type 0} (eq : K → K → Bool) (same : (a b : K) → eq a b ≡ t
     comes_back met k q turns f none some h = stuck (k ∷ met) turns q
         (joins met k q f none some).fail
         (λ x i. elim (or_cases (eq k x) (is_met eq met x) i) [
-            inl e ↦ (q, ap next (sym (same k x e)) ∙ some, h)
+          | inl e ↦ (q, ap next (sym (same k x e)) ∙ some, h)
           | inr e ↦ f.stay x e
-          ])
+        ])
         h
 
     by_turns_is : (turns m : ℕ) (met : List K) (k : K) → Failed met k → is_met eq met k ≡ false → is_met eq items k ≡ true → unmet met items ≤ turns → unmet met items ≤ m → turns_of m k ≡ met_of turns met k
     by_turns_is zero m met k f new here p q = absurd (omega (arith, unmet-falls met items k new here))
     by_turns_is (suc turns) zero met k f new here p q = absurd (omega (arith, unmet-falls met items k new here))
     by_turns_is (suc turns) (suc m) met k f new here p q = elim (cases_option (attempt k)) [
-        inr (answer, e) ↦ rw e refl
+      | inr (answer, e) ↦ rw e refl
       | inl none ↦ elim (cases_option (next k)) [
-          inl e ↦ rw (none, e) refl
+        | inl e ↦ rw (none, e) refl
         | inr (other, e) ↦ elim (cases_Bool (is_met eq (k ∷ met) other)) [
-            inl h ↦ rw (none, e, h) (comes_back met k other m f none e h)
+          | inl h ↦ rw (none, e, h) (comes_back met k other m f none e h)
           | inr h ↦
-            let fell = unmet-falls met items k new here in
-            rw (none, e, h) (by_turns_is turns m (k ∷ met) other (joins met k other f none e) h (known k other e) (omega (arith, fell)) (omega (arith, fell)))
-          ]
+              let fell = unmet-falls met items k new here in
+              rw (none, e, h) (by_turns_is turns m (k ∷ met) other (joins met k other f none e) h (known k other e) (omega (arith, fell)) (omega (arith, fell)))
         ]
       ]
+    ]
 
     none_failed : (k : K) → Failed [] k
     none_failed k = record { fail = λ q h. absurd (both_ways _ refl h); stay = λ q h. absurd (both_ways _ refl h) }

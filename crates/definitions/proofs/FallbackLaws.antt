@@ -88,7 +88,7 @@ module _ (table : List CounterStyle) (value : ℤ) where
 
     same_name : (p q : ℕ) (a b : CounterStyle) → slice_get table p ≡ Some a → slice_get table q ≡ Some b → bytes_eq b.name a.name ≡ nat_eq p q
     same_name p q a b at there = elim (cases_order p q) [
-        inl same ↦
+      | inl same ↦
           let one : Some b ≡ Some a = sym there ∙ ap (slice_get table) (sym same) ∙ at in
           let style : b ≡ a = cc in
           (bytes_eq-Decides b.name a.name).1 (ap (λ (s : CounterStyle). s.name) style) ∙ sym (eq-eqb p q same)
@@ -98,7 +98,7 @@ module _ (table : List CounterStyle) (value : ℤ) where
       | inr (inr h) ↦
           false_from_ne_true (bytes_eq b.name a.name) (λ e. differ q p b a there at h ((bytes_eq-Decides b.name a.name).0 e))
           ∙ sym (ne_eqb p q (λ same. omega arith))
-      ]
+    ]
 
     abbrev AreIn : List ℕ → Type 0
     AreIn [] = Unit {0}
@@ -124,46 +124,46 @@ module _ (table : List CounterStyle) (value : ℤ) where
         let right : Option (List ℕ) → Option ℕ → List ℕ = λ text after. goes text (λ answer. answer) (goes after (λ other. cond (is_met nat_eq (p ∷ met) other) (signed_decimal value) (by_met attempt next (signed_decimal value) nat_eq turns (p ∷ met) other)) (signed_decimal value)) in
         let joined : right (attempt p) (next p) ≡ right (written style value) (place_named table style.fallback) = ap (λ text. right text (next p)) (attempt_at p style at) ∙ ap (right (written style value)) (next_at p style at) in
         elim (cases_option (written style value)) [
-          inr (text, e) ↦ ap (λ text. left text (next_style table (style.name ∷ map name_at met) style)) e ∙ sym (joined ∙ ap (λ text. right text (place_named table style.fallback)) e)
-        | inl none ↦
-            ap (λ text. left text (next_style table (style.name ∷ map name_at met) style)) none
-            ∙ elim (cases_option (place_named table style.fallback)) [
-              inl e ↦
-                ap (left None) (ap (λ place. cond (list_any (bytes_eq (style_name style.fallback)) (style.name ∷ map name_at met)) None (option_and_then (slice_get table) place)) e ∙ cond_none (list_any (bytes_eq (style_name style.fallback)) (style.name ∷ map name_at met)))
-                ∙ sym (ap (right None) e)
-            | inr (q, e) ↦
-                let found = found_at style.fallback q e in
-                let own : name_at p ≡ style.name = name_of p style at in
-                let inside : AreIn (p ∷ met) = (slice_get_within table p style at, within) in
-                let tried : list_any (bytes_eq (style_name style.fallback)) (style.name ∷ map name_at met) ≡ is_met nat_eq (p ∷ met) q =
+          | inr (text, e) ↦ ap (λ text. left text (next_style table (style.name ∷ map name_at met) style)) e ∙ sym (joined ∙ ap (λ text. right text (place_named table style.fallback)) e)
+          | inl none ↦
+              ap (λ text. left text (next_style table (style.name ∷ map name_at met) style)) none
+              ∙ elim (cases_option (place_named table style.fallback)) [
+                | inl e ↦
+                    ap (left None) (ap (λ place. cond (list_any (bytes_eq (style_name style.fallback)) (style.name ∷ map name_at met)) None (option_and_then (slice_get table) place)) e ∙ cond_none (list_any (bytes_eq (style_name style.fallback)) (style.name ∷ map name_at met)))
+                    ∙ sym (ap (right None) e)
+                | inr (q, e) ↦
+                    let found = found_at style.fallback q e in
+                    let own : name_at p ≡ style.name = name_of p style at in
+                    let inside : AreIn (p ∷ met) = (slice_get_within table p style at, within) in
+                    let tried : list_any (bytes_eq (style_name style.fallback)) (style.name ∷ map name_at met) ≡ is_met nat_eq (p ∷ met) q =
                     ap (λ name. list_any (bytes_eq name) (style.name ∷ map name_at met)) (sym (found_name style.fallback q found.0 e found.1))
                     ∙ ap (λ name. list_any (bytes_eq found.0.name) (name ∷ map name_at met)) (sym own)
                     ∙ tried_is (p ∷ met) q found.0 inside found.1 in
-                let following : next_style table (style.name ∷ map name_at met) style ≡ cond (is_met nat_eq (p ∷ met) q) None (Some found.0) =
+                    let following : next_style table (style.name ∷ map name_at met) style ≡ cond (is_met nat_eq (p ∷ met) q) None (Some found.0) =
                     ap (λ is_tried. cond is_tried None (style_named table style.fallback)) tried
                     ∙ ap (λ other. cond (is_met nat_eq (p ∷ met) q) None other) (ap (option_and_then (slice_get table)) e ∙ found.1) in
-                ap (left None) following
-                ∙ elim (cases_Bool (is_met nat_eq (p ∷ met) q)) [
-                    inl h ↦ rw h refl
-                  | inr h ↦ rw h (ap (λ name. represented_within table turns (name ∷ map name_at met) found.0 value) (sym own) ∙ within_by_met turns (p ∷ met) q found.0 inside found.1)
-                  ]
-                ∙ sym (ap (right None) e)
-            ]
-            ∙ sym (joined ∙ ap (λ text. right text (place_named table style.fallback)) none)
+                    ap (left None) following
+                    ∙ elim (cases_Bool (is_met nat_eq (p ∷ met) q)) [
+                      | inl h ↦ rw h refl
+                      | inr h ↦ rw h (ap (λ name. represented_within table turns (name ∷ map name_at met) found.0 value) (sym own) ∙ within_by_met turns (p ∷ met) q found.0 inside found.1)
+                    ]
+                    ∙ sym (ap (right None) e)
+              ]
+              ∙ sym (joined ∙ ap (λ text. right text (place_named table style.fallback)) none)
         ]
 
     numbered : (a n q : ℕ) → a ≤ q → q < a + n → is_met nat_eq (range_with_len a n) q ≡ true
     numbered a zero q h k = absurd (omega arith)
     numbered a (suc n) q h k = elim (cases_eq a q) [
-        inl e ↦ or_left (nat_eq a q) (is_met nat_eq (range_with_len (a + 1) n) q) (eq-eqb a q e)
+      | inl e ↦ or_left (nat_eq a q) (is_met nat_eq (range_with_len (a + 1) n) q) (eq-eqb a q e)
       | inr e ↦ or_right (nat_eq a q) (is_met nat_eq (range_with_len (a + 1) n) q) (numbered (a + 1) n q (omega arith) (omega arith))
-      ]
+    ]
 
     next_within : (p q : ℕ) → next p ≡ Some q → q < length table
     next_within p q e = elim (cases_option (slice_get table p)) [
-        inl none ↦ let no : None ≡ Some q = sym (ap (option_and_then (λ (s : CounterStyle). place_named table s.fallback)) none) ∙ e in absurd (cc)
+      | inl none ↦ let no : None ≡ Some q = sym (ap (option_and_then (λ (s : CounterStyle). place_named table s.fallback)) none) ∙ e in absurd (cc)
       | inr (style, at) ↦ found_within style.fallback q (sym (next_at p style at) ∙ e)
-      ]
+    ]
 
     -- as many turns as there are styles are enough
     pub walked-represented : (p : ℕ) (style : CounterStyle) → slice_get table p ≡ Some style → walked (length table) p ≡ represented table style value

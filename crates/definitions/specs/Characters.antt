@@ -10,7 +10,8 @@ is_between low high c = nat_le low c && nat_le c high
 abbrev pub is_blank : ℕ → Bool
 is_blank c = c == 32 || (c == 9 || c == 10)
 
--- XML 1.0, 2.2 Char, without the carriage return that the handling of line ends takes away
+-- XML 1.0, 2.2 Char, without the carriage return, which 2.11 turns into a line feed where it is written (a
+-- reference may still give it)
 abbrev pub is_character : ℕ → Bool
 is_character c = (c == 9 || c == 10) || (is_between 32 0xd7ff c || (is_between 0xe000 0xfffd c || is_between 0x10000 0x10ffff c))
 
@@ -23,15 +24,19 @@ is_plain c = is_character c && (not (c == 60) && not (c == 38))
 abbrev pub is_quote : ℕ → Bool
 is_quote c = c == 34 || c == 39
 
+-- an ASCII digit
 abbrev pub is_digit : ℕ → Bool
 is_digit c = is_between 48 57 c
 
+-- an ASCII hexadecimal digit, in either case
 abbrev pub is_hexadecimal_digit : ℕ → Bool
 is_hexadecimal_digit c = is_digit c || (is_between 97 102 c || is_between 65 70 c)
 
+-- an ASCII letter, small
 abbrev pub is_lower_letter : ℕ → Bool
 is_lower_letter c = is_between 97 122 c
 
+-- an ASCII letter
 abbrev pub is_letter : ℕ → Bool
 is_letter c = is_lower_letter c || is_between 65 90 c
 

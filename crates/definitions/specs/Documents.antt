@@ -10,7 +10,8 @@ use Rattle.definitions.specs.Characters.{is_blank}
 use Rattle.definitions.specs.Items.{Item, doctype, comment, instruction, start_tag, empty_tag, end_tag, reference, section, plain_character}
 use Rattle.definitions.specs.Nodes.{then_element, then_characters}
 
--- XML 1.0, 2.8 Misc: a comment, a processing instruction or a blank
+-- XML 1.0, 2.8 Misc: a comment, a processing instruction or a blank. Our own: the XML declaration is an
+-- instruction like any other, and may stand wherever one may.
 abbrev pub is_misc : Item → Bool
 is_misc doctype = false
 is_misc comment = true
@@ -22,6 +23,7 @@ is_misc (reference character) = false
 is_misc (section characters) = false
 is_misc (plain_character character) = is_blank character
 
+-- each of the items is one of these
 abbrev pub AreMisc : List Item → Type 0
 AreMisc items = IsTrue (list_all is_misc items)
 

@@ -17,6 +17,7 @@ abbrev pub path_text : List ℕ → List ℕ
 path_text [] = codes "/"
 path_text (first ∷ rest) = flat_map (λ position. 47 ∷ decimal position) (first ∷ rest)
 
+-- the name of a box's kind
 abbrev pub kind_name : BoxKind → List ℕ
 kind_name Element = codes "element"
 kind_name Marker = codes "marker"

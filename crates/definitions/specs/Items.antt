@@ -2,8 +2,9 @@
 use Rattle.std.specs.Prelude.{◌≡◌, ℕ, List, [], ◌∷◌, ◌++◌}
 use Rattle.plain_types.specs.declared.attr.Attr.{Attr}
 
--- An item (our own word) is what stands between two places at which a reader of XML has nothing half
--- read. A tag is an item, and what stands between two tags is not: it may be several.
+-- An item (our own word) is a doctype, a comment, a processing instruction, a start-tag, an empty-element
+-- tag, an end-tag, a reference, a CDATA section, or one other character. The attributes of a tag stand in
+-- their order; that their names differ belongs to how the tag is spelled (XML 1.0, 3.1).
 pub data Item : Type 0 where
   doctype : Item
   comment : Item

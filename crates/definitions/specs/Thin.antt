@@ -1,4 +1,4 @@
--- Thin documents (our own): plain lists, before attributes, references and style sheets.
+-- Thin documents (our own): plain lists, without attributes, references and style sheets.
 use Rattle.std.specs.Prelude.{◌≡◌, ℕ, ◌+◌, Bool, true, false, ◌&&◌, ◌||◌, ◌==◌, not, IsTrue, List, [], ◌∷◌, ◌++◌, codes, map, filter, count_by, length}
 use Rattle.std.specs.Fmt.{decimal}
 use Rattle.std.specs.List.{list_all, list_any}
@@ -14,7 +14,7 @@ use Rattle.definitions.specs.Documents.{IsElement}
 use Rattle.definitions.specs.Dump.{Line}
 use Rattle.definitions.specs.Items.{Item, ArePieces, doctype, comment, instruction, start_tag, empty_tag, end_tag, reference, section, plain_character}
 
--- Which trees are thin.
+-- Which trees (`IsTree`) are thin.
 
 -- the elements of which the user agent sheet speaks, but for `ol` and `li`
 abbrev pub is_styled : List ℕ → Bool
@@ -89,9 +89,11 @@ abbrev pub is_list_item : Place Node → Bool
 is_list_item place = is_li place.label
 
 -- HTML, 4.4.8: the ordinal value of a list item, here its position among the element children of its
--- parent, from 1; CSS Lists 3, 3 and CSS Counter Styles 3, 6.1: its marker, decimal and a full stop
+-- parent, from 1. Its marker (CSS Lists 3, 3): that number in decimal (CSS Counter Styles 3, 6.1), and
+-- the suffix ". " (3.4)
 abbrev pub marker_line : Place Node → Line
 marker_line place = record { path = place.path; kind = Marker; text = decimal (count_by is_element place.earlier + 1) ++ codes ". " }
 
+-- the lines of all list items, in tree order
 abbrev pub thin_lines : Forest Node → List Line
 thin_lines tree = map marker_line (filter is_list_item (places tree))

@@ -1,4 +1,5 @@
--- Ordered trees that stand side by side. The terms are those of DOM, 1.1 "Trees".
+-- Ordered trees that stand side by side. Root, child and tree order are those of DOM, 1.1 "Trees"; forest
+-- and label are our own words.
 use Rattle.std.specs.Prelude.{◌≡◌, ℕ, ◌+◌, List, [], ◌∷◌, ◌++◌, Option, Some, None, refl}
 use Rattle.std.specs.Coded.{Coded, code_by, coded_list, coded_option}
 use Rattle.std.proofs.Common.{sym, ap, ◌∙◌, append_assoc, append-nil}

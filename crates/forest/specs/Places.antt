@@ -22,7 +22,7 @@ module _ {L : Type 0} where
       record { path = child_path parent earlier; label = label; earlier = earlier }
       ∷ (places_under (child_path parent earlier) [] children ++ places_under parent (earlier ++ label ∷ []) after)
 
-  -- the places of the nodes of a document, in tree order
+  -- the places of the nodes of a document, which is one tree, in tree order
   abbrev pub places : Forest L → List (Place L)
   places Empty = []
   places (Tree root children after) = record { path = []; label = root; earlier = [] } ∷ places_under [] [] children

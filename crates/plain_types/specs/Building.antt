@@ -10,12 +10,15 @@ pub record Building : Type 0 where
   pub rows : List Row
   pub inside : ℕ
 
+-- a node may come: there is none yet, or an element is begun and not ended
 abbrev pub accepts_node : Building → Bool
 accepts_node building = length building.rows == 0 || nat_lt 0 building.inside
 
+-- an element is begun and not ended
 abbrev pub is_inside : Building → Bool
 is_inside building = nat_lt 0 building.inside
 
+-- there is a node, and no element is left open
 abbrev pub is_whole : Building → Bool
 is_whole building = nat_lt 0 (length building.rows) && building.inside == 0
 
@@ -29,10 +32,12 @@ abbrev pub Fits : ℕ → List Row → Type 0
 Fits bound [] = Unit {0}
 Fits bound (first ∷ rest) = (first.depth ≤ bound) × Fits (depth_after first.node first.depth) rest
 
+-- how deep a node may be that comes after all of these
 abbrev pub bound_after : ℕ → List Row → ℕ
 bound_after bound [] = bound
 bound_after bound (first ∷ rest) = bound_after (depth_after first.node first.depth) rest
 
+-- each node is below a root
 abbrev pub AreDeep : List Row → Type 0
 AreDeep [] = Unit {0}
 AreDeep (first ∷ rest) = (1 ≤ first.depth) × AreDeep rest
@@ -42,14 +47,17 @@ abbrev pub HasOneRoot : List Row → Type 0
 HasOneRoot [] = Unit {0}
 HasOneRoot (first ∷ rest) = AreDeep rest
 
+-- an element's attributes have distinct names
 abbrev pub IsSoundNode : Node → Type 0
 IsSoundNode (Element name attrs) = HasDistinctNames attrs
 IsSoundNode (Text characters) = Unit {0}
 
+-- so it is with each of the nodes
 abbrev pub AreSoundNodes : List Row → Type 0
 AreSoundNodes [] = Unit {0}
 AreSoundNodes (first ∷ rest) = IsSoundNode first.node × AreSoundNodes rest
 
+-- what always holds of a tree that is being built
 pub record IsBuilding (all : List Row) (inside : ℕ) : Type 0 where
   pub fits : Fits 0 all
   pub bounded : inside ≤ bound_after 0 all

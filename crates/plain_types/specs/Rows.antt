@@ -5,6 +5,7 @@ use Rattle.plain_types.specs.Tree.{IsTree}
 use Rattle.plain_types.specs.declared.node.Node.{Node}
 use Rattle.plain_types.specs.declared.row.Row.{Row}
 
+-- a node at a depth
 abbrev pub row : ℕ → Node → Row
 row depth node = record { depth = depth; node = node }
 
@@ -23,10 +24,11 @@ at_depth (suc depth) (trees ∷ deeper) = at_depth depth deeper
 
 -- a node comes before them: what waits below its depth are its children
 abbrev pub put : ℕ → Node → List (Forest Node) → List (Forest Node)
-put zero node waiting = Tree node (at_depth 1 waiting) (at_depth 0 waiting) ∷ []
+put zero node waits = Tree node (at_depth 1 waits) (at_depth 0 waits) ∷ []
 put (suc depth) node [] = Empty ∷ put depth node []
 put (suc depth) node (trees ∷ deeper) = trees ∷ put depth node deeper
 
+-- the trees that wait once these rows are done
 abbrev pub waiting : List Row → List (Forest Node)
 waiting [] = []
 waiting (first ∷ rest) = put first.depth first.node (waiting rest)

@@ -21,6 +21,7 @@ abbrev pub IsOne : Forest Node → Type 0
 IsOne Empty = ⊥
 IsOne (Tree root children after) = after ≡ Empty
 
+-- what every tree is
 pub record IsTree (forest : Forest Node) : Type 0 where
   pub one : IsOne forest
   pub sound : AreSound forest

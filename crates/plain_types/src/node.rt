@@ -10,7 +10,7 @@ use std::alloc::Global;
 /// A node of a document, without its children.
 #[derive(Drop)]
 pub enum Node {
-    /// An element with its attributes in their order, no two of one name.
+    /// An element with its attributes in their order. In a `Tree` no two of them have one name.
     Element { name: Text, attrs: List<Attr> },
     /// A run of characters.
     Text(Text),

@@ -8,7 +8,7 @@ use crate::memory::Memory;
 use std::alloc::Global;
 use std::marker::Model;
 
-/// A text of its own. Contracts see the list of its characters (code points).
+/// An owned text. Contracts see the list of its characters (code points).
 #[derive(Drop)]
 pub struct Text {
     inner: String,

@@ -39,7 +39,7 @@ impl Model for Tree {
 }
 
 impl Tree {
-    /// How many nodes there are: at least 1. Constant time.
+    /// How many nodes there are: at least 1. Constant time. What every tree is, `IsTree` says.
     pub fn len(&self) -> usize
         ensures nodes { result ≡ length (rows 0 self.now) }
         ensures sound { IsTree self.now }

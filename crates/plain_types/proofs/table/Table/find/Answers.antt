@@ -17,10 +17,10 @@ test_is name own wanted style test p q e f g = ap (λ n. bytes_eq n (style_name 
 
 pub returns-then-eq-clause-place : goal.returns-then-eq-clause-place
 returns-then-eq-clause-place c =
-      sym (position_found (is_named (chars c.args.name.now)) c.as_slice-style-items.result.now c.loop-place.place c.style-item.result c.loop-place-test.true c.style-item.is
-      (test_is (chars c.args.name.now) _ _ c.style-item.result _ c.as_str.utf8 c.style_name-wanted.utf8 c.eq.ensures c.as_str.ensures.characters c.style_name-wanted.ensures.name ∙ c.if-eq.true)
-      c.loop-place.invariant)
-      ∙ ap (position (is_named (chars c.args.name.now))) (c.as_slice-style-items.ensures.items ∙ c.self.view_is)
+    sym (position_found (is_named (chars c.args.name.now)) c.as_slice-style-items.result.now c.loop-place.place c.style-item.result c.loop-place-test.true c.style-item.is
+    (test_is (chars c.args.name.now) _ _ c.style-item.result _ c.as_str.utf8 c.style_name-wanted.utf8 c.eq.ensures c.as_str.ensures.characters c.style_name-wanted.ensures.name ∙ c.if-eq.true)
+    c.loop-place.invariant)
+    ∙ ap (position (is_named (chars c.args.name.now))) (c.as_slice-style-items.ensures.items ∙ c.self.view_is)
 
 pub loop-place-preserved : goal.loop-place-preserved
 loop-place-preserved c =
@@ -30,6 +30,6 @@ loop-place-preserved c =
 
 pub returns-clause-place : goal.returns-clause-place
 returns-clause-place c =
-      sym (position_none (is_named (chars c.args.name.now)) c.as_slice-style-items.result.now
-      (λ k d h. c.loop-place.invariant k d (omega (arith, h, c.loop-place-test.false))))
-      ∙ ap (position (is_named (chars c.args.name.now))) (c.as_slice-style-items.ensures.items ∙ c.self.view_is)
+    sym (position_none (is_named (chars c.args.name.now)) c.as_slice-style-items.result.now
+    (λ k d h. c.loop-place.invariant k d (omega (arith, h, c.loop-place-test.false))))
+    ∙ ap (position (is_named (chars c.args.name.now))) (c.as_slice-style-items.ensures.items ∙ c.self.view_is)
