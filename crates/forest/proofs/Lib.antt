@@ -1,2 +1,5 @@
 pub mod SpotLaws
 pub mod ChangeLaws
+pub mod StandLaws
+pub mod PathLaws
+pub mod OrderLaws
