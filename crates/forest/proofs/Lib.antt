@@ -3,3 +3,4 @@ pub mod ChangeLaws
 pub mod StandLaws
 pub mod PathLaws
 pub mod OrderLaws
+pub mod WalkLaws
