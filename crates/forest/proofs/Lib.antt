@@ -4,3 +4,4 @@ pub mod StandLaws
 pub mod PathLaws
 pub mod OrderLaws
 pub mod WalkLaws
+pub mod SiblingLaws

@@ -14,7 +14,7 @@ use Rattle.forest.proofs.PathLaws.{mapped-some, route-child}
 use Rattle.forest.proofs.OrderLaws.{keys-tree, length-keys, place-root, place-below, place-beside}
 
 -- the element so far behind the front
-slice_get-behind : {A : Type 0} (front ys : List A) (n k : ℕ) → n ≡ length front + k → slice_get (front ++ ys) n ≡ slice_get ys k
+pub slice_get-behind : {A : Type 0} (front ys : List A) (n k : ℕ) → n ≡ length front + k → slice_get (front ++ ys) n ≡ slice_get ys k
 slice_get-behind [] ys n k e = ap (slice_get ys) (omega arith)
 slice_get-behind (x ∷ front) ys zero k e = absurd (omega arith)
 slice_get-behind (x ∷ front) ys (suc n) k e = slice_get-behind front ys n k (omega arith)

@@ -1,7 +1,6 @@
 -- Where the nodes of a keyed forest stand. The terms are those of DOM, 1.1 "Trees".
-use Rattle.std.specs.Prelude.{ℕ, ◌==◌, if◌then◌else◌, List, [], ◌∷◌, ◌++◌, length, map, Option, Some, None, IsSome, option_map, option_and_then, unwrap_or, slice_get}
+use Rattle.std.specs.Prelude.{ℕ, ◌-◌, ◌==◌, if◌then◌else◌, List, [], ◌∷◌, ◌++◌, length, map, Option, Some, None, IsSome, option_map, option_and_then, unwrap_or, slice_get}
 use Rattle.std.specs.Option.{option_or}
-use Rattle.std.specs.List.{last_or}
 use Rattle.forest.specs.Forest.{Forest, Empty, Tree}
 use Rattle.forest.specs.Keys.{Keyed}
 
@@ -81,13 +80,13 @@ module _ {L : Type 0} where
   first_child_of forest key = first_key (children_of forest key)
 
   abbrev pub last_child_of : Forest (Keyed L) → ℕ → Option ℕ
-  last_child_of forest key = last_or None (root_keys (children_of forest key))
+  last_child_of forest key = child_of forest key (child_count_of forest key - 1)
 
   abbrev pub next_sibling_of : Forest (Keyed L) → ℕ → Option ℕ
   next_sibling_of forest key = first_key (after_of forest key)
 
   abbrev pub previous_sibling_of : Forest (Keyed L) → ℕ → Option ℕ
-  previous_sibling_of forest key = last_or None (map (λ (node : Keyed L). node.key) (earlier_of forest key))
+  previous_sibling_of forest key = slice_get (map (λ (node : Keyed L). node.key) (earlier_of forest key)) (index_of forest key - 1)
 
   -- A link names a node, or nothing.
 

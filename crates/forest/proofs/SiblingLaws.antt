@@ -1,0 +1,74 @@
+-- Siblings by their parent's children.
+use Rattle.std.proofs.Common.{◌≡◌, ◌<◌, ◌≤◌, ◌+◌, ◌-◌, ℕ, zero, suc, List, [], ◌∷◌, ◌++◌, length, map, Option, Some, None, slice_get, refl, sym, ap, subst, ◌∙◌, arith, append_assoc, length-append}
+use Rattle.std.proofs.lemmas.Option.{none-some, same_Some, slice_get_past}
+use Rattle.std.proofs.lemmas.List.{map-append, length-map}
+use Rattle.forest.specs.Forest.{Forest, Empty, Tree, IsOneTree}
+use Rattle.forest.specs.Keys.{Keyed, HasDistinctKeys}
+use Rattle.forest.specs.Spots.{Spot, keyed, roots, root_keys, first_key, spot_of, IsLive, earlier_of, children_of, after_of, parent_of, index_of, child_of, next_sibling_of, previous_sibling_of}
+use Rattle.forest.proofs.SpotLaws.{live-spot}
+use Rattle.forest.proofs.StandLaws.{stands, Stands, as_root, under, StandsAsRoot, StandsUnder}
+use Rattle.forest.proofs.PathLaws.{roots-children}
+use Rattle.forest.proofs.WalkLaws.{slice_get-behind}
+
+slice_get-before : {A : Type 0} (front ys : List A) (n : ℕ) → n < length front → slice_get (front ++ ys) n ≡ slice_get front n
+slice_get-before [] ys n h = absurd (omega arith)
+slice_get-before (x ∷ front) ys zero h = refl
+slice_get-before (x ∷ front) ys (suc n) h = slice_get-before front ys n (omega arith)
+
+module _ {L : Type 0} where
+  -- the keys of siblings before a node
+  abbrev earlier_keys : Forest (Keyed L) → ℕ → List ℕ
+  earlier_keys f q = map (λ (n : Keyed L). n.key) (earlier_of f q)
+
+  -- a node among the children of its parent
+  pub keys-children : (f : Forest (Keyed L)) (q x : ℕ) → HasDistinctKeys f → IsLive f q → parent_of f q ≡ Some x → root_keys (children_of f x) ≡ map (λ (n : Keyed L). n.key) (earlier_of f q) ++ q ∷ root_keys (after_of f q)
+  keys-children f q x d h e =
+      let s = live-spot f q h in
+      ap (map (λ (n : Keyed L). n.key)) (roots-children f q x s.0.label d h e (rw s.1 refl))
+      ∙ map-append (λ (n : Keyed L). n.key) (earlier_of f q) (keyed q s.0.label ∷ roots (after_of f q))
+
+  pub index-within : (f : Forest (Keyed L)) (q x : ℕ) → HasDistinctKeys f → IsLive f q → parent_of f q ≡ Some x → index_of f q < length (root_keys (children_of f x))
+  index-within f q x d h e =
+      omega (arith, ap length (keys-children f q x d h e), length-append (earlier_keys f q) (q ∷ root_keys (after_of f q)), length-map (earlier_of f q) (λ (n : Keyed L). n.key))
+
+  -- a node is the child of its parent that its index tells
+  pub child-index : (f : Forest (Keyed L)) (q x : ℕ) → HasDistinctKeys f → IsLive f q → parent_of f q ≡ Some x → child_of f x (index_of f q) ≡ Some q
+  child-index f q x d h e =
+      ap (λ ks. slice_get ks (index_of f q)) (keys-children f q x d h e)
+      ∙ slice_get-behind (earlier_keys f q) (q ∷ root_keys (after_of f q)) (index_of f q) 0 (omega (arith, length-map (earlier_of f q) (λ (n : Keyed L). n.key)))
+
+  first-is : (g : Forest (Keyed L)) → first_key g ≡ slice_get (root_keys g) 0
+  first-is Empty = refl
+  first-is (Tree n c r) = refl
+
+  pub next-is-child : (f : Forest (Keyed L)) (q x : ℕ) → HasDistinctKeys f → IsLive f q → parent_of f q ≡ Some x → next_sibling_of f q ≡ child_of f x (index_of f q + 1)
+  next-is-child f q x d h e =
+      first-is (after_of f q)
+      ∙ sym (ap (λ ks. slice_get ks (index_of f q + 1)) (keys-children f q x d h e)
+      ∙ slice_get-behind (earlier_keys f q) (q ∷ root_keys (after_of f q)) (index_of f q + 1) 1 (omega (arith, length-map (earlier_of f q) (λ (n : Keyed L). n.key))))
+
+  pub previous-is-child : (f : Forest (Keyed L)) (q x i : ℕ) → HasDistinctKeys f → IsLive f q → parent_of f q ≡ Some x → index_of f q ≡ i + 1 → previous_sibling_of f q ≡ child_of f x i
+  previous-is-child f q x i d h e is =
+      ap (slice_get (earlier_keys f q)) (omega arith)
+      ∙ sym (ap (λ ks. slice_get ks i) (keys-children f q x d h e)
+      ∙ slice_get-before (earlier_keys f q) (q ∷ root_keys (after_of f q)) i (omega (arith, length-map (earlier_of f q) (λ (n : Keyed L). n.key))))
+
+  pub previous-none : (f : Forest (Keyed L)) (q : ℕ) → index_of f q ≡ 0 → previous_sibling_of f q ≡ None
+  previous-none f q is = slice_get_past (earlier_keys f q) (index_of f q - 1) (omega (arith, length-map (earlier_of f q) (λ (n : Keyed L). n.key)))
+
+  alone : (f : Forest (Keyed L)) (earlier : List (Keyed L)) (n : Keyed L) (g : Forest (Keyed L)) → IsOneTree f → [] ++ roots f ≡ earlier ++ n ∷ roots g → (earlier ≡ []) × (g ≡ Empty)
+  alone Empty earlier n g one e = absurd one
+  alone (Tree m c Empty) [] n Empty one e = (refl, refl)
+  alone (Tree m c Empty) [] n (Tree k d r) one e = absurd (let e' : m ∷ [] ≡ n ∷ (k ∷ roots r) = e in cc)
+  alone (Tree m c Empty) (k ∷ []) n g one e = absurd (let e' : m ∷ [] ≡ k ∷ (n ∷ roots g) = e in cc)
+  alone (Tree m c Empty) (k ∷ (l ∷ earlier)) n g one e = absurd (let e' : m ∷ [] ≡ k ∷ (l ∷ (earlier ++ n ∷ roots g)) = e in cc)
+  alone (Tree m c (Tree k d r)) earlier n g one e = absurd (let e' : Tree k d r ≡ Empty = one in cc)
+
+  -- a root of a document has no siblings
+  pub root-alone : (f : Forest (Keyed L)) (q : ℕ) → HasDistinctKeys f → IsOneTree f → IsLive f q → parent_of f q ≡ None → (index_of f q ≡ 0) × (next_sibling_of f q ≡ None)
+  root-alone f q d one h e =
+      let s = live-spot f q h in
+      elim (stands f None [] 0 0 q s.0 d refl s.1) [
+        | as_root r ↦ let a = alone f s.0.earlier (keyed q s.0.label) s.0.after one r.siblings in rw (s.1, a.0, a.1) (refl, refl)
+        | under y u ↦ absurd (none-some y (sym (rw s.1 at e) ∙ u.parent))
+      ]

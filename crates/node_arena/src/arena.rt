@@ -1,0 +1,206 @@
+//! Documents under keys.
+
+ghost use Rattle.std.specs.Prelude.{◌≡◌, Some, option_map, option_copied, encode_utf8_all};
+ghost use Rattle.std.specs.Str.{chars};
+ghost use Rattle.forest.specs.Spots.{IsLive, first_key, parent_of, child_of, child_count_of, index_of, first_child_of, last_child_of, next_sibling_of, previous_sibling_of};
+ghost use Rattle.forest.specs.Paths.{key_at};
+ghost use Rattle.forest.specs.Order.{next_in_order_of};
+ghost use Rattle.node_arena.specs.Document.{IsKeyedDocument};
+ghost use Rattle.node_arena.specs.Nodes.{name_of, characters_of, attrs_of, attr_of};
+ghost use Rattle.node_arena.specs.Entries.{IsEntryOf};
+
+use crate::entry::Entry;
+use plain_types::attr::Attr;
+use plain_types::node::Node;
+use plain_types::path::Path;
+use slab::Slab;
+use std::marker::Model;
+
+/// A document whose nodes are named by keys that stay.
+#[derive(Drop)]
+pub struct Arena {
+    nodes: Slab<Entry>,
+    root: usize,
+}
+
+impl Model for Arena {
+    ghost use Rattle.plain_types.specs.contracts.node.Node as node;
+    ghost use Rattle.node_arena.specs.Document.{Document, coded_document};
+    ghost use Rattle.node_arena.specs.Entries.{tree_in, IsArena};
+
+    ghost Value = { Document };
+
+    ghost coded = { coded_document node.the_row.coded };
+
+    ghost view = { λ arena. record { tree = tree_in arena.nodes arena.root } };
+
+    ghost invariant = { λ arena. IsArena arena.nodes arena.root };
+}
+
+impl Arena {
+    /// The key of the root element. Constant time.
+    pub fn root(&self) -> usize
+        ensures root { Some result ≡ first_key self.now.tree }
+        ensures document { IsKeyedDocument self.now.tree }
+    {
+        self.root
+    }
+
+    fn entry(&self, key: usize) -> &Entry
+        requires { IsLive self.now.tree key }
+        ensures { IsEntryOf self.now.tree key result.now }
+    {
+        &self.nodes[key]
+    }
+
+    /// The parent of a node; the root has none. Constant time.
+    pub fn parent(&self, key: usize) -> Option<usize>
+        requires { IsLive self.now.tree key }
+        ensures { result ≡ parent_of self.now.tree key }
+    {
+        self.entry(key).parent
+    }
+
+    /// The child that has so many children before it. Constant time.
+    pub fn child(&self, key: usize, index: usize) -> Option<usize>
+        requires { IsLive self.now.tree key }
+        ensures { result ≡ child_of self.now.tree key index }
+    {
+        self.entry(key).children.as_slice().get(index).copied()
+    }
+
+    /// How many children a node has. Constant time.
+    pub fn child_count(&self, key: usize) -> usize
+        requires { IsLive self.now.tree key }
+        ensures { result ≡ child_count_of self.now.tree key }
+    {
+        self.entry(key).children.len()
+    }
+
+    /// How many siblings a node has before it. Constant time.
+    pub fn index_of(&self, key: usize) -> usize
+        requires { IsLive self.now.tree key }
+        ensures { result ≡ index_of self.now.tree key }
+    {
+        self.entry(key).position
+    }
+
+    /// The first child of a node. Constant time.
+    pub fn first_child(&self, key: usize) -> Option<usize>
+        requires { IsLive self.now.tree key }
+        ensures { result ≡ first_child_of self.now.tree key }
+    {
+        self.entry(key).children.as_slice().first().copied()
+    }
+
+    /// The last child of a node. Constant time.
+    pub fn last_child(&self, key: usize) -> Option<usize>
+        requires { IsLive self.now.tree key }
+        ensures { result ≡ last_child_of self.now.tree key }
+    {
+        self.entry(key).children.as_slice().last().copied()
+    }
+
+    /// The sibling after a node. Constant time.
+    pub fn next_sibling(&self, key: usize) -> Option<usize>
+        requires { IsLive self.now.tree key }
+        ensures { result ≡ next_sibling_of self.now.tree key }
+    {
+        let _root = self.root();
+        let parent = self.parent(key)?;
+        self.child(parent, self.index_of(key) + 1)
+    }
+
+    /// The sibling before a node. Constant time.
+    pub fn previous_sibling(&self, key: usize) -> Option<usize>
+        requires { IsLive self.now.tree key }
+        ensures { result ≡ previous_sibling_of self.now.tree key }
+    {
+        let _root = self.root();
+        let parent = self.parent(key)?;
+        self.child(parent, self.index_of(key).checked_sub(1)?)
+    }
+
+    /// The node at a path, if there is one. Time linear in the path's length.
+    pub fn at(&self, path: &Path) -> Option<usize>
+        ensures { result ≡ key_at self.now.tree path.now }
+    {
+        let mut key = self.root();
+        for position in path.as_slice() {
+            key = self.child(key, *position)?;
+        }
+        Some(key)
+    }
+
+    /// The node after a node in tree order. Time linear in the node's depth at most; constant time a
+    /// node, amortized, in a walk over all nodes.
+    pub fn next_in_order(&self, key: usize) -> Option<usize>
+        requires { IsLive self.now.tree key }
+        ensures { result ≡ next_in_order_of self.now.tree key }
+    {
+        let _root = self.root();
+        if let Some(child) = self.first_child(key) {
+            return Some(child);
+        }
+        let mut at = key;
+        'climb: loop {
+            if let Some(next) = self.next_sibling(at) {
+                return Some(next);
+            }
+            match self.parent(at) {
+                Some(parent) => at = parent,
+                None => return None,
+            }
+        }
+    }
+
+    /// The name of an element; a text has none. Constant time.
+    pub fn name(&self, key: usize) -> Option<&str>
+        requires { IsLive self.now.tree key }
+        ensures characters { option_map chars (option_copied result) ≡ name_of self.now.tree key }
+        ensures bytes { option_copied result ≡ option_map encode_utf8_all (name_of self.now.tree key) }
+    {
+        match &self.entry(key).node {
+            Node::Element { name, attrs: _ } => Some(name.as_str()),
+            Node::Text(_) => None,
+        }
+    }
+
+    /// The characters of a text; an element has none of its own. Constant time.
+    pub fn characters(&self, key: usize) -> Option<&str>
+        requires { IsLive self.now.tree key }
+        ensures characters { option_map chars (option_copied result) ≡ characters_of self.now.tree key }
+        ensures bytes { option_copied result ≡ option_map encode_utf8_all (characters_of self.now.tree key) }
+    {
+        match &self.entry(key).node {
+            Node::Element { name: _, attrs: _ } => None,
+            Node::Text(characters) => Some(characters.as_str()),
+        }
+    }
+
+    /// The attributes of an element, in their order; a text has none. Constant time.
+    pub fn attrs(&self, key: usize) -> &[Attr]
+        requires { IsLive self.now.tree key }
+        ensures { result.now ≡ attrs_of self.now.tree key }
+    {
+        match &self.entry(key).node {
+            Node::Element { name: _, attrs } => attrs.as_slice(),
+            Node::Text(_) => &[],
+        }
+    }
+
+    /// The value of the attribute of this name, which is compared as written. Time linear in the number
+    /// of attributes and the length of the name.
+    pub fn attr(&self, key: usize, name: &str) -> Option<&str>
+        requires { IsLive self.now.tree key }
+        ensures characters { option_map chars (option_copied result) ≡ attr_of self.now.tree key (chars name.now) }
+        ensures bytes { option_copied result ≡ option_map encode_utf8_all (attr_of self.now.tree key (chars name.now)) }
+    {
+        for attr in self.attrs(key) {
+            if attr.name.as_str() == name {
+                return Some(attr.value.as_str());
+            }
+        }
+        None
+    }
+}

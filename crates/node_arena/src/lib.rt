@@ -1,0 +1,5 @@
+//! A document whose nodes are named by keys.
+#![tactic(auto)]
+
+pub mod arena;
+mod entry;
