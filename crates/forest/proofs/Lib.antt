@@ -5,3 +5,4 @@ pub mod PathLaws
 pub mod OrderLaws
 pub mod WalkLaws
 pub mod SiblingLaws
+pub mod LevelLaws

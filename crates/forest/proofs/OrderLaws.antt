@@ -10,7 +10,7 @@ use Rattle.forest.specs.Forest.{Forest, Empty, Tree, size, labels, IsOneTree}
 use Rattle.forest.specs.Keys.{Keyed, keys, times, HasDistinctKeys}
 use Rattle.forest.specs.Spots.{Spot, keyed, first_key, spot, spot_of, IsLive, first_child_of, next_sibling_of, parent_of}
 use Rattle.forest.specs.Paths.{route, route_of, path_of}
-use Rattle.forest.specs.Order.{place_of, Precedes, next_in_order_of}
+use Rattle.forest.specs.Order.{place_of, Precedes, next_in_order_of, comes_before}
 use Rattle.forest.proofs.SpotLaws.{chosen, first_found, spot-counted, distinct-parts, root-once, below-or-after, not-root, the_spot, live-spot, live-counted, counted-live, some_or_none}
 use Rattle.forest.proofs.StandLaws.{route-below, route-beside, route-root, route-absent}
 use Rattle.forest.proofs.PathLaws.{live-route, same-route, route-path, route-counted, mapped-some}
@@ -60,14 +60,6 @@ module _ {L : Type 0} where
 
   pub place-beside : (n : Keyed L) (c r : Forest (Keyed L)) (q : ℕ) → HasDistinctKeys (Tree n c r) → 0 < times q r → place_of (Tree n c r) q ≡ 1 + (size c + place_of r q)
   place-beside n c r q d h = place-behind n c r q (not-root n c r q d (omega arith)) (below-or-after n c r q d h)
-
--- which of two routes comes first: that of a node before those of the nodes in it, and else by the
--- first position at which they part
-abbrev pub comes_before : List ℕ → List ℕ → Bool
-comes_before [] [] = false
-comes_before [] (y ∷ ys) = true
-comes_before (x ∷ xs) [] = false
-comes_before (x ∷ xs) (y ∷ ys) = if x == y then comes_before xs ys else nat_lt x y
 
 same-test : (x : ℕ) → (x == x) ≡ true
 same-test x = eq-eqb x x refl

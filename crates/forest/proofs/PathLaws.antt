@@ -152,7 +152,7 @@ module _ {L : Type 0} where
       let at : spot_of f q ≡ Some s.0 = subst (λ k. spot_of f k ≡ Some s.0) t.4 s.1 in
       rw (t.3, at, s.3) refl
 
-  path-live : (f : Forest (Keyed L)) (path : List ℕ) (q : ℕ) → key_at f path ≡ Some q → IsLive f q
+  pub path-live : (f : Forest (Keyed L)) (path : List ℕ) (q : ℕ) → key_at f path ≡ Some q → IsLive f q
   path-live f path q e = counted-live f q (path-counted f 0 path q e)
 
   pub first-from : (i : ℕ) (g : Forest (Keyed L)) → first_key (trees_from i g) ≡ slice_get (root_keys g) i

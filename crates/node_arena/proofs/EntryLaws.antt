@@ -96,3 +96,9 @@ entry-read nodes root f q entry h live e =
 pub root-first : (nodes : Slab Entry) (root : ℕ) (f : Forest (Keyed Node)) → Holds nodes root f → Some root ≡ first_key f
 root-first nodes root Empty h = absurd (let e : [] ≡ root ∷ [] = h.roots in cc)
 root-first nodes root (Tree n c r) h = let e : n.key ∷ root_keys r ≡ root ∷ [] = h.roots in cc
+
+-- a document has one root
+pub one-tree : (f : Forest (Keyed Node)) → IsKeyedDocument f → IsOneTree f
+one-tree Empty d = d.is_tree.one
+one-tree (Tree n c Empty) d = refl
+one-tree (Tree n c (Tree m e r)) d = absurd (let is : Tree m.label _ _ ≡ Empty = d.is_tree.one in cc)

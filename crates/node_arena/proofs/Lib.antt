@@ -1,1 +1,3 @@
 pub mod EntryLaws
+pub mod NodeLaws
+pub mod LevelFacts

@@ -1,7 +1,7 @@
 -- Documents whose nodes have keys.
-use Rattle.std.specs.Prelude.{ℕ, refl}
+use Rattle.std.specs.Prelude.{ℕ, ◌<◌, ◌^◌, refl}
 use Rattle.std.specs.Coded.{Coded, code_by}
-use Rattle.forest.specs.Forest.{Forest, Empty, Tree, coded_forest}
+use Rattle.forest.specs.Forest.{Forest, Empty, Tree, size, coded_forest}
 use Rattle.forest.specs.Keys.{Keyed, HasDistinctKeys, without_keys, coded_keyed}
 use Rattle.plain_types.specs.Tree.{IsTree}
 use Rattle.plain_types.specs.declared.node.Node.{Node}
@@ -21,8 +21,9 @@ HasElementRoot (Tree (Element name attrs) children after) = Unit {0}
 HasElementRoot (Tree (Text characters) children after) = ⊥
 
 -- no two nodes have one key; there is one root, an element; texts have no children, and the attributes
--- of an element have distinct names
+-- of an element have distinct names; a usize counts the nodes
 pub record IsKeyedDocument (tree : Forest (Keyed Node)) : Type 0 where
   pub distinct : HasDistinctKeys tree
   pub is_tree : IsTree (without_keys tree)
   pub element : HasElementRoot (without_keys tree)
+  pub few : size tree < 2 ^ 64

@@ -1,3 +1,4 @@
 pub mod Document
 pub mod Nodes
 pub mod Entries
+pub mod Levels

@@ -1,19 +1,22 @@
 //! Documents under keys.
 
-ghost use Rattle.std.specs.Prelude.{◌≡◌, Some, option_map, option_copied, encode_utf8_all};
+ghost use Rattle.std.specs.Prelude.{◌≡◌, ◌↔◌, ◌-◌, ◌<◌, IsTrue, IfOk, IfSome, IfNone, Some, length, take, option_map, option_copied, encode_utf8_all};
 ghost use Rattle.std.specs.Str.{chars};
 ghost use Rattle.forest.specs.Spots.{IsLive, first_key, parent_of, child_of, child_count_of, index_of, first_child_of, last_child_of, next_sibling_of, previous_sibling_of};
-ghost use Rattle.forest.specs.Paths.{key_at};
-ghost use Rattle.forest.specs.Order.{next_in_order_of};
+ghost use Rattle.forest.specs.Paths.{key_at, path_of, route_of};
+ghost use Rattle.forest.specs.Order.{next_in_order_of, comes_before, Precedes};
+ghost use Rattle.node_arena.specs.Levels.{AreDistinctParents};
 ghost use Rattle.node_arena.specs.Document.{IsKeyedDocument};
 ghost use Rattle.node_arena.specs.Nodes.{name_of, characters_of, attrs_of, attr_of};
 ghost use Rattle.node_arena.specs.Entries.{IsEntryOf};
 
 use crate::entry::Entry;
 use plain_types::attr::Attr;
+use plain_types::memory::Memory;
 use plain_types::node::Node;
 use plain_types::path::Path;
 use slab::Slab;
+use std::alloc::Global;
 use std::marker::Model;
 
 /// A document whose nodes are named by keys that stay.
@@ -108,7 +111,8 @@ impl Arena {
     {
         let _root = self.root();
         let parent = self.parent(key)?;
-        self.child(parent, self.index_of(key) + 1)
+        let siblings = self.entry(parent).children.as_slice();
+        siblings.get(self.index_of(key) + 1).copied()
     }
 
     /// The sibling before a node. Constant time.
@@ -118,7 +122,10 @@ impl Arena {
     {
         let _root = self.root();
         let parent = self.parent(key)?;
-        self.child(parent, self.index_of(key).checked_sub(1)?)
+        match self.index_of(key) {
+            0 => None,
+            index => self.child(parent, index - 1),
+        }
     }
 
     /// The node at a path, if there is one. Time linear in the path's length.
@@ -202,5 +209,103 @@ impl Arena {
             }
         }
         None
+    }
+
+    /// How many nodes a node is in, itself among them. Time linear in that number.
+    fn level(&self, key: usize) -> usize
+        requires { IsLive self.now.tree key }
+        ensures { result ≡ length (route_of self.now.tree key) }
+    {
+        let _root = self.root();
+        let mut level = 1;
+        let mut at = key;
+        'climb: while let Some(parent) = self.parent(at) {
+            level += 1;
+            at = parent;
+        }
+        level
+    }
+
+    /// The node so many levels above a node, which has so many. Time linear in the number of steps.
+    fn ancestor(&self, key: usize, steps: usize) -> usize
+        requires live { IsLive self.now.tree key }
+        requires deep { steps < length (route_of self.now.tree key) }
+        ensures live { IsLive self.now.tree result }
+        ensures route { route_of self.now.tree result ≡ take (length (route_of self.now.tree key) - steps) (route_of self.now.tree key) }
+    {
+        let _root = self.root();
+        let mut at = key;
+        'climb: for _step in 0..steps {
+            if let Some(parent) = self.parent(at) {
+                at = parent;
+            }
+        }
+        at
+    }
+
+    /// The parents of two nodes of one level, unless they have the same or none.
+    fn distinct_parents(&self, first: usize, second: usize) -> Option<(usize, usize)>
+        requires first { IsLive self.now.tree first }
+        requires second { IsLive self.now.tree second }
+        requires level { length (route_of self.now.tree first) ≡ length (route_of self.now.tree second) }
+        ensures some { IfSome result (AreDistinctParents self.now.tree first second) }
+        ensures none { IfNone result (parent_of self.now.tree first ≡ parent_of self.now.tree second) }
+    {
+        let _root = self.root();
+        let above_first = self.parent(first)?;
+        let above_second = self.parent(second)?;
+        (above_first != above_second).then_some((above_first, above_second))
+    }
+
+    /// Whether of two nodes of one level the first comes before the second in tree order.
+    fn comes_before(&self, first: usize, second: usize) -> bool
+        requires first { IsLive self.now.tree first }
+        requires second { IsLive self.now.tree second }
+        requires level { length (route_of self.now.tree first) ≡ length (route_of self.now.tree second) }
+        ensures { result ≡ comes_before (route_of self.now.tree first) (route_of self.now.tree second) }
+    {
+        let _root = self.root();
+        let mut left = first;
+        let mut right = second;
+        'climb: while let Some((above_left, above_right)) = self.distinct_parents(left, right) {
+            left = above_left;
+            right = above_right;
+        }
+        self.index_of(left) < self.index_of(right)
+    }
+
+    /// Whether the first node comes before the second in tree order. Time linear in the greater of
+    /// their depths.
+    pub fn precedes(&self, first: usize, second: usize) -> bool
+        requires first { IsLive self.now.tree first }
+        requires second { IsLive self.now.tree second }
+        ensures { IsTrue result ↔ Precedes self.now.tree first second }
+    {
+        let _root = self.root();
+        let first_level = self.level(first);
+        let second_level = self.level(second);
+        let common = first_level.min(second_level);
+        let left = self.ancestor(first, first_level - common);
+        let right = self.ancestor(second, second_level - common);
+        if left == right {
+            return first_level < second_level;
+        }
+        self.comes_before(left, right)
+    }
+
+    /// The path of a node. Time linear in its depth.
+    pub fn path_of(&self, alloc: Global, key: usize) -> Result<Path, Memory>
+        requires { IsLive self.now.tree key }
+        ensures path { IfOk result (λ path. path ≡ path_of self.now.tree key) }
+    {
+        let _root = self.root();
+        let mut steps = Vec::new(alloc);
+        let mut at = key;
+        'climb: while let Some(parent) = self.parent(at) {
+            steps.push(self.index_of(at))?;
+            at = parent;
+        }
+        steps.reverse();
+        Path::of(alloc, steps.as_slice())
     }
 }
