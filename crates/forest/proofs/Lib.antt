@@ -6,3 +6,4 @@ pub mod OrderLaws
 pub mod WalkLaws
 pub mod SiblingLaws
 pub mod LevelLaws
+pub mod GrowLaws

@@ -2,15 +2,17 @@
 use Rattle.std.proofs.Common.{◌≡◌, ◌≢◌, ◌==◌, ◌<◌, ◌≤◌, ◌+◌, ℕ, suc, zero, Bool, true, false, cond, List, [], ◌∷◌, ◌++◌, length, map, Option, Some, None, IsSome, option_map, refl, sym, ap, subst, ◌∙◌, ◌⊎◌, inl, inr, arith, eqb-true, eq-eqb, length-append}
 use Rattle.std.proofs.lemmas.Bool.{eqb-false}
 use Rattle.std.proofs.lemmas.Option.{none-some, same_Some}
-use Rattle.forest.specs.Forest.{Forest, Empty, Tree, size, weigh, IsOneTree}
+use Rattle.forest.specs.Forest.{Forest, Empty, Tree, size, weigh, then_tree, IsOneTree}
 use Rattle.forest.specs.Keys.{Keyed, times, HasDistinctKeys, without_keys}
 use Rattle.forest.specs.Spots.{Spot, keyed, first_key, roots, root_keys, spot, spot_of, IsLive}
-use Rattle.forest.proofs.SpotLaws.{chosen, first_found, spot-counted, live-spot}
+use Rattle.forest.specs.Changes.{put_children}
+use Rattle.forest.proofs.SpotLaws.{chosen, first_found, spot-counted, live-spot, weigh-spot}
+use Rattle.forest.proofs.ChangeLaws.{weigh-put_children, weigh-then_tree}
 use Rattle.slab.specs.Slab.{Slab, get, slab_len}
 use Rattle.plain_types.specs.declared.node.Node.{Node}
 use Rattle.node_arena.specs.declared.entry.Entry.{Entry}
 use Rattle.node_arena.specs.Document.{Document, IsKeyedDocument}
-use Rattle.node_arena.specs.Entries.{Links, links_of, links_in, HasEntries, grown, tree_in, Holds, IsArena, IsEntryOf}
+use Rattle.node_arena.specs.Entries.{Links, links_of, links_in, HasEntries, grown, tree_in, Holds, IsArena, IsEntryOf, Appends}
 
 -- the links of a node that stands so
 abbrev pub links_at : Spot Node → Links
@@ -102,3 +104,77 @@ pub one-tree : (f : Forest (Keyed Node)) → IsKeyedDocument f → IsOneTree f
 one-tree Empty d = d.is_tree.one
 one-tree (Tree n c Empty) d = refl
 one-tree (Tree n c (Tree m e r)) d = absurd (let is : Tree m.label _ _ ≡ Empty = d.is_tree.one in cc)
+
+module _ (new : ℕ → Option Links) where
+  -- entries of other nodes may change
+  pub entries-frame : (at : ℕ → Option Links) (f : Forest (Keyed Node)) (p : Option ℕ) (i : ℕ) → ((x : ℕ) → 0 < times x f → new x ≡ at x) → HasEntries at p i f → HasEntries new p i f
+  entries-frame at Empty p i same h = tt
+  entries-frame at (Tree n c r) p i same h = (
+    same n.key (rw (eq-eqb n.key n.key refl) (omega arith)) ∙ h.0,
+    entries-frame at c (Some n.key) 0 (λ x k. same x (omega arith)) h.1,
+    entries-frame at r p (i + 1) (λ x k. same x (omega arith)) h.2,
+  )
+
+  -- one root more
+  entries-then_tree : (g : Forest (Keyed Node)) (p : Option ℕ) (i k : ℕ) (leaf : Keyed Node) → k ≡ i + length (root_keys g) → new leaf.key ≡ Some (record { parent = p; position = k; children = []; node = leaf.label }) → HasEntries new p i g → HasEntries new p i (then_tree g leaf Empty)
+  entries-then_tree Empty p i k leaf is at h = (at ∙ ap (λ position. Some (record { parent = p; position = position; children = []; node = leaf.label })) (omega arith), tt, tt)
+  entries-then_tree (Tree n c r) p i k leaf is at h = (h.0, h.1, entries-then_tree r p (i + 1) k leaf (omega arith) at h.2)
+
+roots-put_children : (f : Forest (Keyed Node)) (q : ℕ) (g : Forest (Keyed Node)) → root_keys (put_children q g f) ≡ root_keys f
+roots-put_children Empty q g = refl
+roots-put_children (Tree n c r) q g = ap (λ ks. n.key ∷ ks) (roots-put_children r q g)
+
+roots-then_tree : (g : Forest (Keyed Node)) (leaf : Keyed Node) (inside : Forest (Keyed Node)) → root_keys (then_tree g leaf inside) ≡ root_keys g ++ leaf.key ∷ []
+roots-then_tree Empty leaf inside = refl
+roots-then_tree (Tree n c r) leaf inside = ap (λ ks. n.key ∷ ks) (roots-then_tree r leaf inside)
+
+-- other children of a node
+pub entries-put_children : (at new : ℕ → Option Links) (f : Forest (Keyed Node)) (p : Option ℕ) (i q : ℕ) (g : Forest (Keyed Node))
+    → ((links : Links) → at q ≡ Some links → new q ≡ Some (record links { children = root_keys g }))
+    → ((x : ℕ) → 0 < times x f → x ≢ q → new x ≡ at x) → HasEntries new (Some q) 0 g → HasEntries at p i f → HasEntries new p i (put_children q g f)
+entries-put_children at new Empty p i q g linked same hung h = tt
+entries-put_children at new (Tree n c r) p i q g linked same hung h =
+    let here : 0 < times n.key (Tree n c r) = rw (eq-eqb n.key n.key refl) (omega arith) in
+    let below : HasEntries new (Some n.key) 0 (put_children q g c) = entries-put_children at new c (Some n.key) 0 q g linked (λ x k. same x (omega arith)) hung h.1 in
+    let behind : HasEntries new p (i + 1) (put_children q g r) = entries-put_children at new r p (i + 1) q g linked (λ x k. same x (omega arith)) hung h.2 in
+    elim (n.key == q) as (λ b. (n.key == q) ≡ b → HasEntries new p i (Tree n (cond b g (put_children q g c)) (put_children q g r))) [
+      | true ↦ λ is.
+          let key : n.key ≡ q = eqb-true n.key q is in (
+            ap new key ∙ linked _ (ap at (sym key) ∙ h.0),
+            subst (λ x. HasEntries new (Some x) 0 g) (sym key) hung,
+            behind,
+          )
+      | false ↦ λ is. (same n.key here (eqb-false n.key q is) ∙ h.0 ∙ ap (λ ks. Some (record { parent = p; position = i; children = ks; node = n.label })) (sym (roots-put_children c q g)), below, behind)
+    ] refl
+
+-- a new node behind the children of a node
+pub holds-appended : (nodes new : Slab Entry) (root : ℕ) (f : Forest (Keyed Node)) (q key : ℕ) (node : Node) (s : Spot Node) → Holds nodes root f → spot_of f q ≡ Some s → Appends (links_in nodes) (links_in new) q node key → slab_len new ≡ slab_len nodes + 1
+    → Holds new root (put_children q (then_tree s.children (keyed key node) Empty) f)
+holds-appended nodes new root f q key node s h is adds len =
+    let old : ℕ → Option Links = links_in nodes in
+    let now : ℕ → Option Links = links_in new in
+    let c : Forest (Keyed Node) = s.children in
+    let g : Forest (Keyed Node) = then_tree c (keyed key node) Empty in
+    let at_q : old q ≡ Some (links_at s) = entries-spot old f None [] 0 q s refl h.entries is in
+    let none : times key f ≡ 0 = entries-absent old f None 0 key h.entries adds.fresh in
+    let parts : (w : Keyed Node → ℕ) → (w (keyed q s.label) + (weigh w c + weigh w s.after)) ≤ weigh w f = λ w. weigh-spot w f None [] q s is in
+    let own : (1 + (times q c + times q s.after)) ≤ times q f = subst (λ b. (cond b 1 0 + (times q c + times q s.after)) ≤ times q f) (eq-eqb q q refl) (parts (λ (n : Keyed Node). cond (n.key == q) 1 0)) in
+    let fresh : (x : ℕ) → 0 < times x f → x ≢ key = λ x k e. absurd (let z : times x f ≡ 0 = subst (λ y. times y f ≡ 0) (sym e) none in omega arith) in
+    let same : (x : ℕ) → 0 < times x f → x ≢ q → now x ≡ old x = λ x k ne. adds.others x (fresh x k) ne in
+    let in_c : (x : ℕ) → 0 < times x c → now x ≡ old x = λ x k. same x (omega (arith, parts (λ (n : Keyed Node). cond (n.key == x) 1 0))) (λ e. absurd (let z : 0 < times q c = subst (λ y. 0 < times y c) e k in omega (arith, own, h.distinct q))) in
+    let hung : HasEntries now (Some q) 0 g =
+        entries-then_tree now c (Some q) 0 (length (root_keys c)) (keyed key node) (omega arith) (adds.added (links_at s) at_q)
+        (entries-frame now old c (Some q) 0 in_c (entries-children old f None [] 0 q s h.entries is)) in
+    let weighs : (w : Keyed Node → ℕ) → weigh w (put_children q g f) + weigh w c ≡ weigh w f + weigh w g = λ w. weigh-put_children w f None [] q g s h.distinct is in
+    let more : (w : Keyed Node → ℕ) → weigh w g ≡ weigh w c + (w (keyed key node) + 0) = λ w. weigh-then_tree w c (keyed key node) Empty in
+    record {
+      entries = entries-put_children old now f None 0 q g
+          (λ links e. adds.changed links e ∙ ap (λ ks. Some (record links { children = ks })) (ap (λ l. l.children ++ key ∷ []) (same_Some _ _ (sym e ∙ at_q)) ∙ sym (roots-then_tree c (keyed key node) Empty)))
+          same hung h.entries;
+      roots = roots-put_children f q g ∙ h.roots;
+      distinct = λ x. elim (key == x) as (λ b. (key == x) ≡ b → times x (put_children q g f) + times x c ≡ times x f + times x g → times x g ≡ times x c + (cond b 1 0 + 0) → times x (put_children q g f) ≤ 1) [
+        | true ↦ λ e w m. let z : times x f ≡ 0 = subst (λ y. times y f ≡ 0) (eqb-true key x e) none in omega arith
+        | false ↦ λ e w m. omega (arith, h.distinct x)
+      ] refl (weighs (λ (n : Keyed Node). cond (n.key == x) 1 0)) (more (λ (n : Keyed Node). cond (n.key == x) 1 0));
+      small = omega (arith, weighs (λ _. 1), more (λ _. 1), h.small, len);
+    }

@@ -1,3 +1,4 @@
 pub mod EntryLaws
 pub mod NodeLaws
 pub mod LevelFacts
+pub mod RowFacts

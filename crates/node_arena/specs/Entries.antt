@@ -58,3 +58,15 @@ pub record IsEntryOf (tree : Forest (Keyed Node)) (key : ℕ) (entry : Entry) : 
   pub position : entry.position ≡ index_of tree key
   pub children : entry.children.items ≡ root_keys (children_of tree key)
   pub node : Some entry.node ≡ label_of tree key
+
+-- a key was put at the end of a node's children
+pub record AddsChild (old new : ℕ → Option Links) (parent child : ℕ) : Type 0 where
+  pub changed : (links : Links) → old parent ≡ Some links → new parent ≡ Some (record links { children = links.children ++ child ∷ [] })
+  pub others : (other : ℕ) → other ≢ parent → new other ≡ old other
+
+-- a new node was put behind the children of a node
+pub record Appends (old new : ℕ → Option Links) (parent : ℕ) (node : Node) (key : ℕ) : Type 0 where
+  pub fresh : old key ≡ None
+  pub added : (links : Links) → old parent ≡ Some links → new key ≡ Some (record { parent = Some parent; position = length links.children; children = []; node = node })
+  pub changed : (links : Links) → old parent ≡ Some links → new parent ≡ Some (record links { children = links.children ++ key ∷ [] })
+  pub others : (other : ℕ) → other ≢ key → other ≢ parent → new other ≡ old other
