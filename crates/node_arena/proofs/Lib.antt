@@ -2,3 +2,4 @@ pub mod EntryLaws
 pub mod NodeLaws
 pub mod LevelFacts
 pub mod RowFacts
+pub mod FromTree

@@ -2,3 +2,4 @@ pub mod Document
 pub mod Nodes
 pub mod Entries
 pub mod Levels
+pub mod Copies

@@ -6,15 +6,18 @@ ghost use Rattle.forest.specs.Spots.{IsLive, first_key, parent_of, child_of, chi
 ghost use Rattle.forest.specs.Paths.{key_at, path_of, route_of};
 ghost use Rattle.forest.specs.Order.{next_in_order_of, comes_before, Precedes};
 ghost use Rattle.node_arena.specs.Levels.{AreDistinctParents};
-ghost use Rattle.node_arena.specs.Document.{IsKeyedDocument};
+ghost use Rattle.forest.specs.Keys.{without_keys};
+ghost use Rattle.node_arena.specs.Document.{IsKeyedDocument, HasElementRoot};
 ghost use Rattle.node_arena.specs.Nodes.{name_of, characters_of, attrs_of, attr_of};
 ghost use Rattle.node_arena.specs.Entries.{IsEntryOf};
 
-use crate::entry::Entry;
+use crate::copies::copied_node;
+use crate::entry::{Entry, append};
 use plain_types::attr::Attr;
 use plain_types::memory::Memory;
 use plain_types::node::Node;
 use plain_types::path::Path;
+use plain_types::tree::Tree;
 use slab::Slab;
 use std::alloc::Global;
 use std::marker::Model;
@@ -41,6 +44,33 @@ impl Model for Arena {
 }
 
 impl Arena {
+    /// An arena that stands for the tree, whose root is an element. Its keys are the arena's choice.
+    /// It takes memory of the size of the tree, and time linear in it; `Memory` where that is wanting.
+    pub fn from_tree(alloc: Global, tree: &Tree) -> Result<Arena, Memory>
+        requires element { HasElementRoot tree.now }
+        ensures tree { IfOk result (λ arena. without_keys arena.tree ≡ tree.now) }
+    {
+        let mut nodes = Slab::new(alloc);
+        let count = tree.len();
+        nodes.reserve(count)?;
+        let root = nodes.insert(Entry {
+            parent: None,
+            position: 0,
+            children: Vec::new(alloc),
+            node: copied_node(alloc, tree.node(0))?,
+        })?;
+        let mut open = Vec::new(alloc);
+        open.push(root)?;
+        for place in 1..count {
+            open.truncate(tree.depth(place));
+            let parent = open[open.len() - 1];
+            let node = copied_node(alloc, tree.node(place))?;
+            let key = append(alloc, &mut nodes, parent, node)?;
+            open.push(key)?;
+        }
+        Ok(Arena { nodes, root })
+    }
+
     /// The key of the root element. Constant time.
     pub fn root(&self) -> usize
         ensures root { Some result ≡ first_key self.now.tree }

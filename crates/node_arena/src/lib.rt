@@ -2,4 +2,5 @@
 #![tactic(auto)]
 
 pub mod arena;
+mod copies;
 mod entry;
