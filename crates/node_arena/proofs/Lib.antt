@@ -3,3 +3,4 @@ pub mod NodeLaws
 pub mod LevelFacts
 pub mod RowFacts
 pub mod FromTree
+pub mod ToTree

@@ -2,11 +2,13 @@
 
 ghost use Rattle.std.specs.Prelude.{◌≡◌, ◌↔◌, ◌-◌, ◌<◌, IsTrue, IfOk, IfSome, IfNone, Some, length, take, option_map, option_copied, encode_utf8_all};
 ghost use Rattle.std.specs.Str.{chars};
-ghost use Rattle.forest.specs.Spots.{IsLive, first_key, parent_of, child_of, child_count_of, index_of, first_child_of, last_child_of, next_sibling_of, previous_sibling_of};
+ghost use Rattle.forest.specs.Spots.{IsLive, label_of, first_key, parent_of, child_of, child_count_of, index_of, first_child_of, last_child_of, next_sibling_of, previous_sibling_of};
 ghost use Rattle.forest.specs.Paths.{key_at, path_of, route_of};
 ghost use Rattle.forest.specs.Order.{next_in_order_of, comes_before, Precedes};
 ghost use Rattle.node_arena.specs.Levels.{AreDistinctParents};
 ghost use Rattle.forest.specs.Keys.{without_keys};
+ghost use Rattle.plain_types.specs.Building.{accepts_node};
+ghost use Rattle.node_arena.specs.Copies.{PutsNode};
 ghost use Rattle.node_arena.specs.Document.{IsKeyedDocument, HasElementRoot};
 ghost use Rattle.node_arena.specs.Nodes.{name_of, characters_of, attrs_of, attr_of};
 ghost use Rattle.node_arena.specs.Entries.{IsEntryOf};
@@ -14,10 +16,12 @@ ghost use Rattle.node_arena.specs.Entries.{IsEntryOf};
 use crate::copies::copied_node;
 use crate::entry::{Entry, append};
 use plain_types::attr::Attr;
+use plain_types::duplicate::Duplicate;
 use plain_types::memory::Memory;
 use plain_types::node::Node;
 use plain_types::path::Path;
 use plain_types::tree::Tree;
+use plain_types::tree_builder::TreeBuilder;
 use slab::Slab;
 use std::alloc::Global;
 use std::marker::Model;
@@ -31,7 +35,9 @@ pub struct Arena {
 
 impl Model for Arena {
     ghost use Rattle.plain_types.specs.contracts.node.Node as node;
-    ghost use Rattle.node_arena.specs.Document.{Document, coded_document};
+    ghost use Rattle.plain_types.specs.Building.{accepts_node};
+ghost use Rattle.node_arena.specs.Copies.{PutsNode};
+ghost use Rattle.node_arena.specs.Document.{Document, coded_document};
     ghost use Rattle.node_arena.specs.Entries.{tree_in, IsArena};
 
     ghost Value = { Document };
@@ -69,6 +75,56 @@ impl Arena {
             open.push(key)?;
         }
         Ok(Arena { nodes, root })
+    }
+
+    /// The tree that the arena stands for. It takes memory of the size of the tree, and time linear in
+    /// it; `Memory` where that is wanting.
+    pub fn to_tree(&self, alloc: Global) -> Result<Tree, Memory>
+        ensures tree { IfOk result (λ tree. tree ≡ without_keys self.now.tree) }
+    {
+        let root = self.root();
+        let mut builder = TreeBuilder::new(alloc);
+        self.put_node(alloc, root, &mut builder)?;
+        let mut inside = root;
+        let mut link = self.first_child(root);
+        'walk: loop {
+            if let Some(key) = link {
+                if self.put_node(alloc, key, &mut builder)? {
+                    inside = key;
+                    link = self.first_child(key);
+                } else {
+                    link = self.next_sibling(key);
+                }
+                continue;
+            }
+            builder.end();
+            match self.parent(inside) {
+                None => return Ok(builder.finish()),
+                Some(parent) => {
+                    link = self.next_sibling(inside);
+                    inside = parent;
+                }
+            }
+        }
+    }
+
+    /// Puts a copy of a node without its children, and tells whether it is an element, which is then begun.
+    fn put_node(&self, alloc: Global, key: usize, builder: &mut TreeBuilder) -> Result<bool, Memory>
+        requires live { IsLive self.now.tree key }
+        requires accepts { IsTrue (accepts_node builder.old) }
+        ensures puts { IfOk result (λ element. IfSome (label_of self.now.tree key) (λ node. PutsNode builder.old builder.new node element)) }
+    {
+        let _root = self.root();
+        match &self.entry(key).node {
+            Node::Element { name, attrs } => {
+                builder.start(name.duplicate(alloc)?, attrs.duplicate(alloc)?)?;
+                Ok(true)
+            }
+            Node::Text(characters) => {
+                builder.text(characters.duplicate(alloc)?)?;
+                Ok(false)
+            }
+        }
     }
 
     /// The key of the root element. Constant time.
