@@ -1,12 +1,12 @@
 -- What a forest weighs once a part of it is replaced, and where the replaced parts stand.
-use Rattle.std.proofs.Common.{◌≡◌, ◌==◌, ◌<◌, ◌≤◌, ◌+◌, ℕ, zero, suc, Bool, true, false, cond, List, [], ◌∷◌, ◌++◌, Option, Some, None, IsSome, refl, sym, ap, subst, ◌∙◌, ◌⊎◌, inl, inr, arith, eqb-true, eq-eqb}
+use Rattle.std.proofs.Common.{◌≡◌, ◌==◌, ◌<◌, ◌+◌, ℕ, zero, suc, true, false, cond, List, [], ◌∷◌, ◌++◌, Option, Some, refl, sym, ap, subst, inl, inr, arith, eqb-true, eq-eqb}
 use Rattle.std.proofs.lemmas.Option.{none-some, same_Some}
 use Rattle.forest.specs.Forest.{Forest, Empty, Tree, weigh, then_tree}
 use Rattle.forest.specs.Keys.{Keyed, times, HasDistinctKeys}
-use Rattle.forest.specs.Spots.{Spot, keyed, first_key, spot}
+use Rattle.forest.specs.Spots.{Spot, spot}
 use Rattle.forest.specs.Paths.{trees_from}
 use Rattle.forest.specs.Changes.{put_children, put_after, splice}
-use Rattle.forest.proofs.SpotLaws.{chosen, first_found, spot-counted, spot-absent, distinct-parts, root-once, below-or-after, not-root, the_spot, weigh-spot}
+use Rattle.forest.proofs.SpotLaws.{chosen, first_found, spot-counted, distinct-parts, root-once, below-or-after, not-root, weigh-spot}
 
 module _ {L : Type 0} where
   -- nothing changes under a key that no node has

@@ -1,11 +1,11 @@
 -- A forest that grows in tree order: one leaf more behind all its nodes.
-use Rattle.std.proofs.Common.{◌≡◌, ◌==◌, ◌<◌, ◌≤◌, ◌+◌, ℕ, zero, suc, Bool, true, false, cond, List, [], ◌∷◌, ◌++◌, length, take, Option, Some, None, slice_get, refl, sym, ap, ap₂, subst, ◌∙◌, arith, eq-eqb, append_assoc, append-nil}
+use Rattle.std.proofs.Common.{◌≡◌, ◌<◌, ◌≤◌, ◌+◌, ℕ, zero, suc, List, [], ◌∷◌, ◌++◌, length, take, Option, Some, slice_get, refl, sym, ap, ap₂, ◌∙◌, arith, eq-eqb, append_assoc, append-nil}
 use Rattle.std.proofs.lemmas.Option.{none-some, same_Some}
 use Rattle.forest.specs.Forest.{Forest, Empty, Tree, then_tree}
 use Rattle.forest.specs.Keys.{Keyed, times, HasDistinctKeys}
 use Rattle.forest.specs.Spots.{Spot, spot}
 use Rattle.forest.specs.Changes.{put_children}
-use Rattle.forest.proofs.SpotLaws.{distinct-parts, root-once, below-or-after, not-root, the_spot, spot-root, spot-below, spot-beside, spot-counted}
+use Rattle.forest.proofs.SpotLaws.{distinct-parts, below-or-after, not-root, the_spot, spot-root, spot-below, spot-beside, spot-counted}
 use Rattle.forest.proofs.ChangeLaws.{put_children-absent}
 use Rattle.forest.proofs.StandLaws.{with_depths}
 

@@ -1,17 +1,16 @@
 -- Which of two nodes comes first, told by climbing.
-use Rattle.std.proofs.Common.{◌≡◌, ◌≢◌, ◌==◌, ◌<◌, ◌≤◌, ◌+◌, ◌-◌, ℕ, zero, suc, Bool, true, false, cond, nat_lt, List, [], ◌∷◌, ◌++◌, length, take, drop, Option, Some, None, refl, sym, ap, ap₂, subst, ◌∙◌, ◌⊎◌, inl, inr, arith, eqb-true, eq-eqb, length-append, length-take, length-drop, take-append-drop, take-take}
+use Rattle.std.proofs.Common.{◌≡◌, ◌≢◌, ◌==◌, ◌<◌, ◌≤◌, ◌+◌, ℕ, true, false, cond, nat_lt, List, [], ◌∷◌, ◌++◌, length, take, drop, Option, Some, None, refl, sym, ap, ap₂, ◌∙◌, ◌⊎◌, inl, inr, arith, eqb-true, eq-eqb, length-append, length-take, length-drop, take-append-drop, take-take}
 use Rattle.std.proofs.Math.Seq.{take-append_seam}
-use Rattle.std.proofs.lemmas.Bool.{eqb-false, cases_lt}
 use Rattle.std.proofs.lemmas.Bool.Decides.{nat_tests}
 use Rattle.std.proofs.lemmas.Option.{none-some, same_Some}
-use Rattle.forest.specs.Forest.{Forest, Empty, Tree, size, IsOneTree}
-use Rattle.forest.specs.Keys.{Keyed, times, HasDistinctKeys}
+use Rattle.forest.specs.Forest.{Forest, Empty, Tree, size}
+use Rattle.forest.specs.Keys.{Keyed, HasDistinctKeys}
 use Rattle.forest.specs.Spots.{IsLive, parent_of, index_of}
 use Rattle.forest.specs.Paths.{route, route_of}
 use Rattle.forest.specs.Order.{place_of, comes_before}
-use Rattle.forest.proofs.SpotLaws.{chosen, first_found, live-counted}
+use Rattle.forest.proofs.SpotLaws.{chosen, first_found}
 use Rattle.forest.proofs.PathLaws.{mapped-some, live-route, same-route, route-child, route-of_root, parent-live, route-path}
-use Rattle.forest.proofs.OrderLaws.{place-route, place-within}
+use Rattle.forest.proofs.OrderLaws.{place-route}
 
 -- what routes have in common decides nothing
 comes_before-common : (xs s t : List ℕ) → comes_before (xs ++ s) (xs ++ t) ≡ comes_before s t

@@ -7,3 +7,4 @@ pub mod WalkLaws
 pub mod SiblingLaws
 pub mod LevelLaws
 pub mod GrowLaws
+pub mod PlaceLaws

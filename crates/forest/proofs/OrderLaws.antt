@@ -1,19 +1,16 @@
 -- Tree order: by place, by route, and from one node to the next.
-use Rattle.std.proofs.Common.{◌≡◌, ◌==◌, ◌<◌, ◌≤◌, ◌+◌, ℕ, zero, suc, Bool, true, false, cond, not, nat_lt, if◌then◌else◌, List, [], ◌∷◌, ◌++◌, length, map, Option, Some, None, IsSome, option_map, slice_get, refl, sym, ap, subst, ◌∙◌, ◌⊎◌, inl, inr, arith, eqb, eqb-true, eq-eqb, append_assoc, append-nil, length-append, unwrap_or}
-use Rattle.std.specs.Option.{option_or}
-use Rattle.std.specs.List.{prefix_len, position_or_len}
+use Rattle.std.proofs.Common.{◌≡◌, ◌==◌, ◌<◌, ◌+◌, ℕ, true, false, cond, not, nat_lt, List, [], ◌∷◌, ◌++◌, length, Some, refl, sym, ap, ◌∙◌, inl, inr, arith, eqb-true, eq-eqb, length-append}
+use Rattle.std.specs.List.{position_or_len}
 use Rattle.std.proofs.lemmas.Option.{none-some, same_Some}
 use Rattle.std.proofs.lemmas.Bool.Decides.{nat_tests}
-use Rattle.std.proofs.lemmas.List.{map-append, length-map}
+use Rattle.std.proofs.lemmas.List.{map-append}
 use Rattle.std.proofs.lemmas.List.Folds.{prefix_len-append}
-use Rattle.forest.specs.Forest.{Forest, Empty, Tree, size, labels, IsOneTree}
+use Rattle.forest.specs.Forest.{Forest, Empty, Tree, size, labels}
 use Rattle.forest.specs.Keys.{Keyed, keys, times, HasDistinctKeys}
-use Rattle.forest.specs.Spots.{Spot, keyed, first_key, spot, spot_of, IsLive, first_child_of, next_sibling_of, parent_of}
-use Rattle.forest.specs.Paths.{route, route_of, path_of}
-use Rattle.forest.specs.Order.{place_of, Precedes, next_in_order_of, comes_before}
-use Rattle.forest.proofs.SpotLaws.{chosen, first_found, spot-counted, distinct-parts, root-once, below-or-after, not-root, the_spot, live-spot, live-counted, counted-live, some_or_none}
-use Rattle.forest.proofs.StandLaws.{route-below, route-beside, route-root, route-absent}
-use Rattle.forest.proofs.PathLaws.{live-route, same-route, route-path, route-counted, mapped-some}
+use Rattle.forest.specs.Paths.{route}
+use Rattle.forest.specs.Order.{place_of, comes_before}
+use Rattle.forest.proofs.SpotLaws.{chosen, first_found, distinct-parts, below-or-after, not-root, some_or_none}
+use Rattle.forest.proofs.PathLaws.{route-path, route-counted, mapped-some}
 
 module _ {L : Type 0} where
   pub keys-tree : (n : Keyed L) (c r : Forest (Keyed L)) → keys (Tree n c r) ≡ n.key ∷ (keys c ++ keys r)

@@ -1,13 +1,13 @@
 -- A path leads to at most one node, and each node has one path.
-use Rattle.std.proofs.Common.{◌≡◌, ◌==◌, ◌<◌, ◌≤◌, ◌+◌, ℕ, zero, suc, Bool, true, false, cond, List, [], ◌∷◌, ◌++◌, length, map, take, drop, ap₂, Option, Some, None, IsSome, option_map, refl, sym, ap, subst, ◌∙◌, ◌⊎◌, inl, inr, arith, eqb-true, eq-eqb, append_assoc, append-nil, length-append, add-one, slice_get, unwrap_or}
+use Rattle.std.proofs.Common.{◌≡◌, ◌==◌, ◌<◌, ◌+◌, ℕ, zero, suc, true, false, cond, List, [], ◌∷◌, ◌++◌, drop, ap₂, Option, Some, None, IsSome, option_map, refl, sym, ap, subst, ◌∙◌, inl, inr, arith, eqb-true, eq-eqb, slice_get}
 use Rattle.std.specs.Option.{option_or}
 use Rattle.std.proofs.lemmas.Option.{none-some, same_Some}
 use Rattle.forest.specs.Forest.{Forest, Empty, Tree, IsOneTree}
 use Rattle.forest.specs.Keys.{Keyed, times, HasDistinctKeys}
-use Rattle.forest.specs.Spots.{Spot, keyed, roots, root_keys, first_key, spot, spot_of, IsLive, IsLink, on_link, children_of, after_of, child_of, parent_of, earlier_of, index_of, label_of}
+use Rattle.forest.specs.Spots.{Spot, keyed, roots, root_keys, first_key, spot, spot_of, IsLive, children_of, after_of, child_of, parent_of, earlier_of, index_of, label_of}
 use Rattle.forest.specs.Paths.{trees_from, on_path, key_at, route, route_of, path_of}
-use Rattle.forest.proofs.SpotLaws.{chosen, first_found, spot-counted, distinct-parts, root-once, below-or-after, not-root, live-spot, live-counted, on_root, on_first, root_link, counted-live, the_some, some_or_none, the_spot, spot-root, spot-below, spot-beside}
-use Rattle.forest.proofs.StandLaws.{Stands, as_root, under, StandsAsRoot, StandsUnder, stands, route-below, route-beside, route-root, route-absent}
+use Rattle.forest.proofs.SpotLaws.{chosen, first_found, distinct-parts, live-spot, live-counted, counted-live, the_some, some_or_none, the_spot, spot-root, spot-below, spot-beside}
+use Rattle.forest.proofs.StandLaws.{as_root, under, stands, route-below, route-beside, route-root, route-absent}
 
 pub mapped-some : {A B : Type 0} (f : A → B) (o : Option A) (y : B) → option_map f o ≡ Some y → (x : A) × (o ≡ Some x) × (f x ≡ y)
 mapped-some f None y e = absurd (none-some y e)

@@ -1,12 +1,12 @@
 -- Siblings by their parent's children.
-use Rattle.std.proofs.Common.{◌≡◌, ◌<◌, ◌≤◌, ◌+◌, ◌-◌, ℕ, zero, suc, List, [], ◌∷◌, ◌++◌, length, map, Option, Some, None, slice_get, refl, sym, ap, subst, ◌∙◌, arith, append_assoc, length-append}
-use Rattle.std.proofs.lemmas.Option.{none-some, same_Some, slice_get_past}
+use Rattle.std.proofs.Common.{◌≡◌, ◌<◌, ◌+◌, ◌-◌, ℕ, zero, suc, List, [], ◌∷◌, ◌++◌, length, map, Some, None, slice_get, refl, sym, ap, ◌∙◌, arith, length-append}
+use Rattle.std.proofs.lemmas.Option.{none-some, slice_get_past}
 use Rattle.std.proofs.lemmas.List.{map-append, length-map}
 use Rattle.forest.specs.Forest.{Forest, Empty, Tree, IsOneTree}
 use Rattle.forest.specs.Keys.{Keyed, HasDistinctKeys}
-use Rattle.forest.specs.Spots.{Spot, keyed, roots, root_keys, first_key, spot_of, IsLive, earlier_of, children_of, after_of, parent_of, index_of, child_of, next_sibling_of, previous_sibling_of}
+use Rattle.forest.specs.Spots.{keyed, roots, root_keys, first_key, IsLive, earlier_of, children_of, after_of, parent_of, index_of, child_of, next_sibling_of, previous_sibling_of}
 use Rattle.forest.proofs.SpotLaws.{live-spot}
-use Rattle.forest.proofs.StandLaws.{stands, Stands, as_root, under, StandsAsRoot, StandsUnder}
+use Rattle.forest.proofs.StandLaws.{stands, as_root, under}
 use Rattle.forest.proofs.PathLaws.{roots-children}
 use Rattle.forest.proofs.WalkLaws.{slice_get-behind}
 

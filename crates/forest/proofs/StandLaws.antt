@@ -1,12 +1,12 @@
 -- How a node stands to its parent: among its siblings, on its way from the roots, and in tree order.
-use Rattle.std.proofs.Common.{◌≡◌, ◌==◌, ◌<◌, ◌≤◌, ◌+◌, ℕ, zero, suc, Bool, true, false, cond, if◌then◌else◌, List, [], ◌∷◌, ◌++◌, length, map, Option, Some, None, IsSome, option_map, refl, sym, ap, subst, ◌∙◌, ◌⊎◌, inl, inr, arith, eqb-true, eq-eqb, append_assoc, append-nil, length-append}
+use Rattle.std.proofs.Common.{◌≡◌, ◌==◌, ◌<◌, ◌+◌, ℕ, true, false, cond, if◌then◌else◌, List, [], ◌∷◌, ◌++◌, length, Option, Some, None, option_map, refl, sym, ap, ◌∙◌, inl, inr, arith, eqb-true, eq-eqb, append_assoc, length-append}
 use Rattle.std.specs.Option.{option_or}
 use Rattle.std.proofs.lemmas.Option.{none-some, same_Some}
 use Rattle.forest.specs.Forest.{Forest, Empty, Tree}
 use Rattle.forest.specs.Keys.{Keyed, times, HasDistinctKeys}
 use Rattle.forest.specs.Spots.{Spot, keyed, roots, spot}
 use Rattle.forest.specs.Paths.{route}
-use Rattle.forest.proofs.SpotLaws.{chosen, first_found, spot-counted, distinct-parts, root-once, below-or-after, not-root, the_spot, spot-root, spot-below, spot-beside, keyed-same}
+use Rattle.forest.proofs.SpotLaws.{chosen, first_found, spot-counted, distinct-parts, below-or-after, not-root, the_spot, spot-root, spot-below, spot-beside}
 
 -- the labels in tree order, each with its depth
 abbrev pub with_depths : {L : Type 0} → ℕ → Forest L → List (ℕ × L)

@@ -1,16 +1,16 @@
 -- Walks in tree order by links: what is left once the tree of a node is done.
-use Rattle.std.proofs.Common.{◌≡◌, ◌==◌, ◌<◌, ◌≤◌, ◌+◌, ℕ, zero, suc, Bool, true, false, cond, List, [], ◌∷◌, ◌++◌, length, map, Option, Some, None, IsSome, option_map, slice_get, refl, sym, ap, subst, ◌∙◌, ◌⊎◌, inl, inr, arith, eqb-true, eq-eqb, append_assoc, append-nil, length-append, unwrap_or}
+use Rattle.std.proofs.Common.{◌≡◌, ◌==◌, ◌<◌, ◌+◌, ℕ, zero, suc, true, false, cond, List, [], ◌∷◌, ◌++◌, length, map, Option, Some, None, IsSome, option_map, slice_get, refl, sym, ap, ◌∙◌, inl, inr, arith, eqb-true, append_assoc, append-nil, length-append, unwrap_or}
 use Rattle.std.specs.Option.{option_or}
 use Rattle.std.proofs.lemmas.Option.{none-some, same_Some}
 use Rattle.std.proofs.lemmas.List.{map-append}
-use Rattle.forest.specs.Forest.{Forest, Empty, Tree, size}
+use Rattle.forest.specs.Forest.{Forest, Empty, Tree}
 use Rattle.forest.specs.Keys.{Keyed, keys, times, HasDistinctKeys}
-use Rattle.forest.specs.Spots.{Spot, keyed, first_key, spot, spot_of, IsLive, children_of, after_of, first_child_of, next_sibling_of, parent_of, index_of}
+use Rattle.forest.specs.Spots.{Spot, first_key, spot, spot_of, IsLive, after_of, first_child_of, next_sibling_of, parent_of, index_of}
 use Rattle.forest.specs.Paths.{route_of}
 use Rattle.forest.specs.Order.{place_of, next_in_order_of}
-use Rattle.forest.proofs.SpotLaws.{chosen, first_found, spot-counted, distinct-parts, root-once, below-or-after, not-root, live-spot, live-counted, the_some, some_or_none}
-use Rattle.forest.proofs.StandLaws.{with_depths, follow, follow-root, follow-below, follow-beside, follow-absent, stands, Stands, as_root, under, StandsAsRoot, StandsUnder}
-use Rattle.forest.proofs.PathLaws.{mapped-some, route-child}
+use Rattle.forest.proofs.SpotLaws.{chosen, first_found, spot-counted, distinct-parts, live-spot, live-counted, the_some, some_or_none}
+use Rattle.forest.proofs.StandLaws.{with_depths, follow, follow-root, follow-below, follow-beside, follow-absent, stands, as_root, under}
+use Rattle.forest.proofs.PathLaws.{route-child}
 use Rattle.forest.proofs.OrderLaws.{keys-tree, length-keys, place-root, place-below, place-beside}
 
 -- the element so far behind the front
@@ -100,6 +100,14 @@ module _ {L : Type 0} where
               }
         ]
       ]
+
+  -- the key at a node's place is that node's
+  pub key-at-place : (f : Forest (Keyed L)) (q : ℕ) → HasDistinctKeys f → IsLive f q → slice_get (keys f) (place_of f q) ≡ Some q
+  key-at-place f q d h =
+      let s = live-spot f q h in
+      let h : Splits f q s.0 (after_tree f q) = splits f 0 None [] q s.0 (after_tree f q) d s.1 (live-follow f q h) in
+      ap (λ ks. slice_get ks (place_of f q)) h.keys
+      ∙ slice_get-behind h.front (q ∷ (keys s.0.children ++ names (after_tree f q))) (place_of f q) 0 (omega (arith, h.place))
 
   first-keys : (f : Forest (Keyed L)) (xs : List ℕ) → slice_get (keys f ++ xs) 0 ≡ option_or (first_key f) (slice_get xs 0)
   first-keys Empty xs = refl
