@@ -141,7 +141,7 @@ module _ {L : Type 0} where
       let h = path-part r0 p (e ++ n ∷ []) i path m c r (distinct-parts n c0 r0 d).1 is in
       (h.0, spot-beside p e n c0 r0 m.key h.0 d h.1, h.2, h.3, h.4)
 
-  first-tree : (g : Forest (Keyed L)) (q : ℕ) → first_key g ≡ Some q → (m : Keyed L) × (c : Forest (Keyed L)) × (r : Forest (Keyed L)) × (g ≡ Tree m c r) × (m.key ≡ q)
+  pub first-tree : (g : Forest (Keyed L)) (q : ℕ) → first_key g ≡ Some q → (m : Keyed L) × (c : Forest (Keyed L)) × (r : Forest (Keyed L)) × (g ≡ Tree m c r) × (m.key ≡ q)
   first-tree Empty q e = absurd (none-some q e)
   first-tree (Tree m c r) q e = (m, c, r, refl, same_Some _ _ e)
 

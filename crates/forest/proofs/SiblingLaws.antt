@@ -1,13 +1,14 @@
 -- Siblings by their parent's children.
-use Rattle.std.proofs.Common.{◌≡◌, ◌<◌, ◌+◌, ◌-◌, ℕ, zero, suc, List, [], ◌∷◌, ◌++◌, length, map, Some, None, slice_get, refl, sym, ap, ◌∙◌, arith, length-append}
+use Rattle.std.proofs.Common.{◌≡◌, ◌<◌, ◌+◌, ◌-◌, ℕ, zero, suc, List, [], ◌∷◌, ◌++◌, length, map, Some, None, slice_get, refl, sym, ap, subst, ◌∙◌, arith, length-append}
 use Rattle.std.proofs.lemmas.Option.{none-some, slice_get_past}
 use Rattle.std.proofs.lemmas.List.{map-append, length-map}
 use Rattle.forest.specs.Forest.{Forest, Empty, Tree, IsOneTree}
 use Rattle.forest.specs.Keys.{Keyed, HasDistinctKeys}
-use Rattle.forest.specs.Spots.{keyed, roots, root_keys, first_key, IsLive, earlier_of, children_of, after_of, parent_of, index_of, child_of, next_sibling_of, previous_sibling_of}
-use Rattle.forest.proofs.SpotLaws.{live-spot}
+use Rattle.forest.specs.Spots.{Spot, keyed, spot_of, roots, root_keys, first_key, IsLive, earlier_of, children_of, after_of, parent_of, index_of, child_of, next_sibling_of, previous_sibling_of}
+use Rattle.forest.specs.Paths.{trees_from}
+use Rattle.forest.proofs.SpotLaws.{live-spot, the_spot, spot-child, spot-next}
 use Rattle.forest.proofs.StandLaws.{stands, as_root, under}
-use Rattle.forest.proofs.PathLaws.{roots-children}
+use Rattle.forest.proofs.PathLaws.{roots-children, first-tree, first-from}
 use Rattle.forest.proofs.WalkLaws.{slice_get-behind}
 
 slice_get-before : {A : Type 0} (front ys : List A) (n : ℕ) → n < length front → slice_get (front ++ ys) n ≡ slice_get front n
@@ -72,3 +73,39 @@ module _ {L : Type 0} where
         | as_root r ↦ let a = alone f s.0.earlier (keyed q s.0.label) s.0.after one r.siblings in rw (s.1, a.0, a.1) (refl, refl)
         | under y u ↦ absurd (none-some y (sym (rw s.1 at e) ∙ u.parent))
       ]
+
+module _ {L : Type 0} where
+  no-trees : (i : ℕ) (g : Forest (Keyed L)) (m : Keyed L) (c r : Forest (Keyed L)) → g ≡ Empty → trees_from i g ≡ Tree m c r → ⊥
+  no-trees zero Empty m c r none is = cc
+  no-trees (suc i) Empty m c r none is = cc
+  no-trees i (Tree n c0 r0) m c r none is = cc
+
+module _ {L : Type 0} (f : Forest (Keyed L)) (q : ℕ) (d : HasDistinctKeys f) where
+  -- a later sibling of a child
+  later : (i : ℕ) (e : List (Keyed L)) (n m : Keyed L) (c0 r0 c r : Forest (Keyed L)) → spot_of f n.key ≡ Some (the_spot (Some q) e n.label c0 r0) → trees_from i (Tree n c0 r0) ≡ Tree m c r → (e' : List (Keyed L)) × (spot_of f m.key ≡ Some (the_spot (Some q) e' m.label c r)) × (length e' ≡ length e + i)
+  later zero e n m c0 r0 c r at is =
+      let key : n ≡ m = cc in
+      let inside : c0 ≡ c = cc in
+      let after : r0 ≡ r = cc in
+      (e, subst (λ (k : Keyed L). spot_of f k.key ≡ Some (the_spot (Some q) e k.label c r)) key (subst (λ g. spot_of f n.key ≡ Some (the_spot (Some q) e n.label g r)) inside (subst (λ g. spot_of f n.key ≡ Some (the_spot (Some q) e n.label c0 g)) after at)), omega arith)
+  later (suc i) e n m c0 Empty c r at is = absurd (no-trees i Empty m c r refl is)
+  later (suc i) e n m c0 (Tree k i0 s0) c r at is =
+      let next = spot-next f None [] n.key (the_spot (Some q) e n.label c0 (Tree k i0 s0)) k i0 s0 d at refl in
+      let h = later i (e ++ keyed n.key n.label ∷ []) k m i0 s0 c r next is in
+      (h.0, h.1, omega (arith, h.2, length-append e (keyed n.key n.label ∷ [])))
+
+  among : (i : ℕ) (g : Forest (Keyed L)) (s : Spot L) (m : Keyed L) (c r : Forest (Keyed L)) → spot_of f q ≡ Some s → s.children ≡ g → trees_from i g ≡ Tree m c r → (e : List (Keyed L)) × (spot_of f m.key ≡ Some (the_spot (Some q) e m.label c r)) × (length e ≡ i)
+  among i Empty s m c r at inside is = absurd (no-trees i Empty m c r refl is)
+  among i (Tree n c0 r0) s m c r at inside is =
+      let h = later i [] n m c0 r0 c r (spot-child f None [] q s n c0 r0 d at inside) is in
+      (h.0, h.1, omega (arith, h.2))
+
+  -- a child of a node has that node for its parent, and its index is the one that was asked for
+  pub child-is : (i k : ℕ) → IsLive f q → child_of f q i ≡ Some k → IsLive f k × (parent_of f k ≡ Some q) × (index_of f k ≡ i)
+  child-is i k live e =
+      let s = live-spot f q live in
+      let t = first-tree (trees_from i (children_of f q)) k (first-from i (children_of f q) ∙ e) in
+      let inside : s.0.children ≡ children_of f q = rw s.1 refl in
+      let h = among i (children_of f q) s.0 t.0 t.1 t.2 s.1 inside t.3 in
+      let at : spot_of f k ≡ Some (the_spot (Some q) h.0 t.0.label t.1 t.2) = subst (λ x. spot_of f x ≡ Some (the_spot (Some q) h.0 t.0.label t.1 t.2)) t.4 h.1 in
+      (rw at refl, rw at refl, rw at h.2)

@@ -3,3 +3,4 @@ pub mod Nodes
 pub mod Entries
 pub mod Levels
 pub mod Copies
+pub mod Laws
