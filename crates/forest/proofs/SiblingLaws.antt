@@ -1,14 +1,15 @@
 -- Siblings by their parent's children.
-use Rattle.std.proofs.Common.{◌≡◌, ◌<◌, ◌+◌, ◌-◌, ℕ, zero, suc, List, [], ◌∷◌, ◌++◌, length, map, Some, None, slice_get, refl, sym, ap, subst, ◌∙◌, arith, length-append}
+use Rattle.std.proofs.Common.{◌≡◌, ◌<◌, ◌+◌, ◌-◌, ◌⊎◌, inl, inr, ℕ, zero, suc, List, [], ◌∷◌, ◌++◌, length, map, Option, Some, None, slice_get, refl, sym, ap, subst, ◌∙◌, arith, length-append}
 use Rattle.std.proofs.lemmas.Option.{none-some, slice_get_past}
+use Rattle.std.proofs.lemmas.Bool.{cases_lt}
 use Rattle.std.proofs.lemmas.List.{map-append, length-map}
 use Rattle.forest.specs.Forest.{Forest, Empty, Tree, IsOneTree}
 use Rattle.forest.specs.Keys.{Keyed, HasDistinctKeys}
-use Rattle.forest.specs.Spots.{Spot, keyed, spot_of, roots, root_keys, first_key, IsLive, earlier_of, children_of, after_of, parent_of, index_of, child_of, next_sibling_of, previous_sibling_of}
+use Rattle.forest.specs.Spots.{Spot, keyed, spot_of, roots, root_keys, first_key, IsLive, IsLink, earlier_of, children_of, after_of, parent_of, index_of, child_of, next_sibling_of, previous_sibling_of}
 use Rattle.forest.specs.Paths.{trees_from}
 use Rattle.forest.proofs.SpotLaws.{live-spot, the_spot, spot-child, spot-next}
 use Rattle.forest.proofs.StandLaws.{stands, as_root, under}
-use Rattle.forest.proofs.PathLaws.{roots-children, first-tree, first-from}
+use Rattle.forest.proofs.PathLaws.{roots-children, first-tree, first-from, parent-live}
 use Rattle.forest.proofs.WalkLaws.{slice_get-behind}
 
 slice_get-before : {A : Type 0} (front ys : List A) (n : ℕ) → n < length front → slice_get (front ++ ys) n ≡ slice_get front n
@@ -80,6 +81,9 @@ module _ {L : Type 0} where
   no-trees (suc i) Empty m c r none is = cc
   no-trees i (Tree n c0 r0) m c r none is = cc
 
+  spot-says : (f : Forest (Keyed L)) (k : ℕ) (s : Spot L) (i : ℕ) → spot_of f k ≡ Some s → length s.earlier ≡ i → IsLive f k × (parent_of f k ≡ s.parent) × (index_of f k ≡ i)
+  spot-says f k s i at long = rw at (refl, refl, long)
+
 module _ {L : Type 0} (f : Forest (Keyed L)) (q : ℕ) (d : HasDistinctKeys f) where
   -- a later sibling of a child
   later : (i : ℕ) (e : List (Keyed L)) (n m : Keyed L) (c0 r0 c r : Forest (Keyed L)) → spot_of f n.key ≡ Some (the_spot (Some q) e n.label c0 r0) → trees_from i (Tree n c0 r0) ≡ Tree m c r → (e' : List (Keyed L)) × (spot_of f m.key ≡ Some (the_spot (Some q) e' m.label c r)) × (length e' ≡ length e + i)
@@ -108,4 +112,26 @@ module _ {L : Type 0} (f : Forest (Keyed L)) (q : ℕ) (d : HasDistinctKeys f) w
       let inside : s.0.children ≡ children_of f q = rw s.1 refl in
       let h = among i (children_of f q) s.0 t.0 t.1 t.2 s.1 inside t.3 in
       let at : spot_of f k ≡ Some (the_spot (Some q) h.0 t.0.label t.1 t.2) = subst (λ x. spot_of f x ≡ Some (the_spot (Some q) h.0 t.0.label t.1 t.2)) t.4 h.1 in
-      (rw at refl, rw at refl, rw at h.2)
+      spot-says f k (the_spot (Some q) h.0 t.0.label t.1 t.2) i at h.2
+
+-- Links from a node lead to nodes.
+module _ {L : Type 0} where
+  pub link-from : (f : Forest (Keyed L)) (link : Option ℕ) → ((k : ℕ) → link ≡ Some k → IsLive f k) → IsLink f link
+  link-from f None live = tt
+  link-from f (Some k) live = live k refl
+
+  pub parent-link : (f : Forest (Keyed L)) (q : ℕ) → HasDistinctKeys f → IsLive f q → IsLink f (parent_of f q)
+  parent-link f q d live = link-from f (parent_of f q) (λ k e. parent-live f q k d live e)
+
+  pub child-link : (f : Forest (Keyed L)) (q i : ℕ) → HasDistinctKeys f → IsLive f q → IsLink f (child_of f q i)
+  child-link f q i d live = link-from f (child_of f q i) (λ k e. (child-is f q d i k live e).0)
+
+  pub previous-link : (f : Forest (Keyed L)) (q : ℕ) → HasDistinctKeys f → IsOneTree f → IsLive f q → IsLink f (previous_sibling_of f q)
+  previous-link f q d one live =
+      elim (parent_of f q) as (λ (o : Option ℕ). parent_of f q ≡ o → IsLink f (previous_sibling_of f q)) [
+        | None ↦ λ e. subst (IsLink f) (sym (previous-none f q (root-alone f q d one live e).0)) tt
+        | Some x ↦ λ e. elim (cases_lt 0 (index_of f q)) [
+          | inl some ↦ subst (IsLink f) (sym (previous-is-child f q x (index_of f q - 1) d live e (omega arith))) (child-link f x (index_of f q - 1) d (parent-live f q x d live e))
+          | inr none ↦ subst (IsLink f) (sym (previous-none f q (omega arith))) tt
+        ]
+      ] refl

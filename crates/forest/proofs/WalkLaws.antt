@@ -1,5 +1,5 @@
 -- Walks in tree order by links: what is left once the tree of a node is done.
-use Rattle.std.proofs.Common.{◌≡◌, ◌==◌, ◌<◌, ◌+◌, ℕ, zero, suc, true, false, cond, List, [], ◌∷◌, ◌++◌, length, map, Option, Some, None, IsSome, option_map, slice_get, refl, sym, ap, ◌∙◌, inl, inr, arith, eqb-true, append_assoc, append-nil, length-append, unwrap_or}
+use Rattle.std.proofs.Common.{◌≡◌, ◌==◌, ◌<◌, ◌+◌, ◌⊎◌, ℕ, zero, suc, true, false, cond, List, [], ◌∷◌, ◌++◌, length, map, Option, Some, None, IsSome, option_map, slice_get, refl, sym, ap, ◌∙◌, inl, inr, arith, eqb-true, eq-eqb, append_assoc, append-nil, length-append, unwrap_or}
 use Rattle.std.specs.Option.{option_or}
 use Rattle.std.proofs.lemmas.Option.{none-some, same_Some}
 use Rattle.std.proofs.lemmas.List.{map-append}
@@ -8,7 +8,7 @@ use Rattle.forest.specs.Keys.{Keyed, keys, times, HasDistinctKeys}
 use Rattle.forest.specs.Spots.{Spot, first_key, spot, spot_of, IsLive, after_of, first_child_of, next_sibling_of, parent_of, index_of}
 use Rattle.forest.specs.Paths.{route_of}
 use Rattle.forest.specs.Order.{place_of, next_in_order_of}
-use Rattle.forest.proofs.SpotLaws.{chosen, first_found, spot-counted, distinct-parts, live-spot, live-counted, the_some, some_or_none}
+use Rattle.forest.proofs.SpotLaws.{counted-live, chosen, first_found, spot-counted, distinct-parts, live-spot, live-counted, the_some, some_or_none}
 use Rattle.forest.proofs.StandLaws.{with_depths, follow, follow-root, follow-below, follow-beside, follow-absent, stands, as_root, under}
 use Rattle.forest.proofs.PathLaws.{route-child}
 use Rattle.forest.proofs.OrderLaws.{keys-tree, length-keys, place-root, place-below, place-beside}
@@ -18,6 +18,12 @@ pub slice_get-behind : {A : Type 0} (front ys : List A) (n k : ℕ) → n ≡ le
 slice_get-behind [] ys n k e = ap (slice_get ys) (omega arith)
 slice_get-behind (x ∷ front) ys zero k e = absurd (omega arith)
 slice_get-behind (x ∷ front) ys (suc n) k e = slice_get-behind front ys n k (omega arith)
+
+-- an element of two lists
+slice_get-append-cases : (xs ys : List ℕ) (n k : ℕ) → slice_get (xs ++ ys) n ≡ Some k → (slice_get xs n ≡ Some k) ⊎ ((m : ℕ) × (slice_get ys m ≡ Some k))
+slice_get-append-cases [] ys n k e = inr (n, e)
+slice_get-append-cases (x ∷ xs) ys zero k e = inl e
+slice_get-append-cases (x ∷ xs) ys (suc n) k e = slice_get-append-cases xs ys n k e
 
 module _ {L : Type 0} where
   -- the keys of labels with depths
@@ -174,3 +180,16 @@ module _ {L : Type 0} where
   -- a parent's route is shorter
   pub shorter-route : (f : Forest (Keyed L)) (q x : ℕ) → HasDistinctKeys f → IsLive f q → parent_of f q ≡ Some x → length (route_of f q) ≡ length (route_of f x) + 1
   shorter-route f q x d h e = omega (arith, ap length (route-child f q x d h e), length-append (route_of f x) (index_of f q ∷ []))
+
+  -- a key in tree order is that of a node
+  key-counted : (f : Forest (Keyed L)) (n k : ℕ) → slice_get (keys f) n ≡ Some k → 0 < times k f
+  key-counted Empty n k e = absurd (none-some k e)
+  key-counted (Tree m c r) zero k e = rw (eq-eqb m.key k (same_Some _ _ e)) (omega arith)
+  key-counted (Tree m c r) (suc n) k e =
+      elim (slice_get-append-cases (keys c) (keys r) n k (sym (ap (λ ks. slice_get ks (suc n)) (keys-tree m c r)) ∙ e)) [
+        | inl a ↦ omega (arith, key-counted c n k a)
+        | inr b ↦ omega (arith, key-counted r b.0 k b.1)
+      ]
+
+  pub next-live : (f : Forest (Keyed L)) (q k : ℕ) → next_in_order_of f q ≡ Some k → IsLive f k
+  next-live f q k e = counted-live f k (key-counted f (place_of f q + 1) k e)

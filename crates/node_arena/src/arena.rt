@@ -2,7 +2,7 @@
 
 ghost use Rattle.std.specs.Prelude.{◌≡◌, ◌↔◌, ◌-◌, ◌<◌, IsTrue, IfOk, IfSome, IfNone, Some, length, take, option_map, option_copied, encode_utf8_all};
 ghost use Rattle.std.specs.Str.{chars};
-ghost use Rattle.forest.specs.Spots.{IsLive, label_of, first_key, parent_of, child_of, child_count_of, index_of, first_child_of, last_child_of, next_sibling_of, previous_sibling_of};
+ghost use Rattle.forest.specs.Spots.{IsLive, IsLink, label_of, first_key, parent_of, child_of, child_count_of, index_of, first_child_of, last_child_of, next_sibling_of, previous_sibling_of};
 ghost use Rattle.forest.specs.Paths.{key_at, path_of, route_of};
 ghost use Rattle.forest.specs.Order.{next_in_order_of, comes_before, Precedes};
 ghost use Rattle.node_arena.specs.Levels.{AreDistinctParents};
@@ -130,6 +130,7 @@ impl Arena {
     /// The key of the root element. Constant time.
     pub fn root(&self) -> usize
         ensures root { Some result ≡ first_key self.now.tree }
+        ensures live { IsLive self.now.tree result }
         ensures document { IsKeyedDocument self.now.tree }
     {
         self.root
@@ -145,16 +146,20 @@ impl Arena {
     /// The parent of a node; the root has none. Constant time.
     pub fn parent(&self, key: usize) -> Option<usize>
         requires { IsLive self.now.tree key }
-        ensures { result ≡ parent_of self.now.tree key }
+        ensures link { result ≡ parent_of self.now.tree key }
+        ensures live { IsLink self.now.tree result }
     {
+        let _root = self.root();
         self.entry(key).parent
     }
 
     /// The child that has so many children before it. Constant time.
     pub fn child(&self, key: usize, index: usize) -> Option<usize>
         requires { IsLive self.now.tree key }
-        ensures { result ≡ child_of self.now.tree key index }
+        ensures link { result ≡ child_of self.now.tree key index }
+        ensures live { IsLink self.now.tree result }
     {
+        let _root = self.root();
         self.entry(key).children.as_slice().get(index).copied()
     }
 
@@ -177,23 +182,28 @@ impl Arena {
     /// The first child of a node. Constant time.
     pub fn first_child(&self, key: usize) -> Option<usize>
         requires { IsLive self.now.tree key }
-        ensures { result ≡ first_child_of self.now.tree key }
+        ensures link { result ≡ first_child_of self.now.tree key }
+        ensures live { IsLink self.now.tree result }
     {
+        let _root = self.root();
         self.entry(key).children.as_slice().first().copied()
     }
 
     /// The last child of a node. Constant time.
     pub fn last_child(&self, key: usize) -> Option<usize>
         requires { IsLive self.now.tree key }
-        ensures { result ≡ last_child_of self.now.tree key }
+        ensures link { result ≡ last_child_of self.now.tree key }
+        ensures live { IsLink self.now.tree result }
     {
+        let _root = self.root();
         self.entry(key).children.as_slice().last().copied()
     }
 
     /// The sibling after a node. Constant time.
     pub fn next_sibling(&self, key: usize) -> Option<usize>
         requires { IsLive self.now.tree key }
-        ensures { result ≡ next_sibling_of self.now.tree key }
+        ensures link { result ≡ next_sibling_of self.now.tree key }
+        ensures live { IsLink self.now.tree result }
     {
         let _root = self.root();
         let parent = self.parent(key)?;
@@ -204,7 +214,8 @@ impl Arena {
     /// The sibling before a node. Constant time.
     pub fn previous_sibling(&self, key: usize) -> Option<usize>
         requires { IsLive self.now.tree key }
-        ensures { result ≡ previous_sibling_of self.now.tree key }
+        ensures link { result ≡ previous_sibling_of self.now.tree key }
+        ensures live { IsLink self.now.tree result }
     {
         let _root = self.root();
         let parent = self.parent(key)?;
@@ -216,7 +227,8 @@ impl Arena {
 
     /// The node at a path, if there is one. Time linear in the path's length.
     pub fn at(&self, path: &Path) -> Option<usize>
-        ensures { result ≡ key_at self.now.tree path.now }
+        ensures link { result ≡ key_at self.now.tree path.now }
+        ensures live { IsLink self.now.tree result }
     {
         let mut key = self.root();
         for position in path.as_slice() {
@@ -229,7 +241,8 @@ impl Arena {
     /// node, amortized, in a walk over all nodes.
     pub fn next_in_order(&self, key: usize) -> Option<usize>
         requires { IsLive self.now.tree key }
-        ensures { result ≡ next_in_order_of self.now.tree key }
+        ensures link { result ≡ next_in_order_of self.now.tree key }
+        ensures live { IsLink self.now.tree result }
     {
         let _root = self.root();
         if let Some(child) = self.first_child(key) {

@@ -14,11 +14,11 @@ climb-preserved c =
     let more : length way - c.climb._step ≡ left + 1 = omega (arith, c.climb-test.true, c.requires.deep) in
     elim c.match-parent.branch [
       | in-Some w ↦
-          let parent = sym w.in-Some.ensures in
+          let parent = sym w.in-Some.ensures.link in
           rw w.at-is (record {
             live = parent-live tree c.climb.at w.in-Some.parent distinct c.climb.invariant.live parent;
             route = step-up tree c.climb.at w.in-Some.parent left way distinct c.climb.invariant.live parent (c.climb.invariant.route ∙ ap (λ n. take n way) more) (omega arith);
           })
       | in_default w ↦
-          absurd (omega (arith, root-level tree c.climb.at distinct c.climb.invariant.live (sym w.in_default.ensures), ap length c.climb.invariant.route, length-take (length way - c.climb._step) way, c.climb-test.true, c.requires.deep))
+          absurd (omega (arith, root-level tree c.climb.at distinct c.climb.invariant.live (sym w.in_default.ensures.link), ap length c.climb.invariant.route, length-take (length way - c.climb._step) way, c.climb-test.true, c.requires.deep))
     ]

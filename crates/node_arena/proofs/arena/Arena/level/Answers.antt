@@ -7,20 +7,20 @@ pub overflow_add-level : goal.overflow_add-level
 overflow_add-level c =
     let tree = c.args.self.now.tree in
     let document = c.root-root.ensures.document in
-    omega (arith, child-level tree c.climb.at c.in-Some.parent document.distinct c.climb.invariant.live (sym c.in-Some.ensures), route-some tree c.in-Some.parent (parent-live tree c.climb.at c.in-Some.parent document.distinct c.climb.invariant.live (sym c.in-Some.ensures)), length-route tree c.args.key c.requires, c.climb.invariant.counted, document.few)
+    omega (arith, child-level tree c.climb.at c.in-Some.parent document.distinct c.climb.invariant.live (sym c.in-Some.ensures.link), route-some tree c.in-Some.parent (parent-live tree c.climb.at c.in-Some.parent document.distinct c.climb.invariant.live (sym c.in-Some.ensures.link)), length-route tree c.args.key c.requires, c.climb.invariant.counted, document.few)
 
 pub climb-smaller : goal.climb-smaller
-climb-smaller c = omega (arith, child-level c.args.self.now.tree c.climb.at c.in-Some.parent c.root-root.ensures.document.distinct c.climb.invariant.live (sym c.in-Some.ensures))
+climb-smaller c = omega (arith, child-level c.args.self.now.tree c.climb.at c.in-Some.parent c.root-root.ensures.document.distinct c.climb.invariant.live (sym c.in-Some.ensures.link))
 
 pub climb-preserved : goal.climb-preserved
 climb-preserved c =
     let tree = c.args.self.now.tree in
     let document = c.root-root.ensures.document in
     record {
-      live = parent-live tree c.climb.at c.in-Some.parent document.distinct c.climb.invariant.live (sym c.in-Some.ensures);
+      live = parent-live tree c.climb.at c.in-Some.parent document.distinct c.climb.invariant.live (sym c.in-Some.ensures.link);
       some = omega arith;
-      counted = omega (arith, child-level tree c.climb.at c.in-Some.parent document.distinct c.climb.invariant.live (sym c.in-Some.ensures), c.climb.invariant.counted);
+      counted = omega (arith, child-level tree c.climb.at c.in-Some.parent document.distinct c.climb.invariant.live (sym c.in-Some.ensures.link), c.climb.invariant.counted);
     }
 
 pub returns : goal.returns
-returns c = omega (arith, root-level c.args.self.now.tree c.climb.at c.root-root.ensures.document.distinct c.climb.invariant.live (sym c.in_default.ensures), c.climb.invariant.counted)
+returns c = omega (arith, root-level c.args.self.now.tree c.climb.at c.root-root.ensures.document.distinct c.climb.invariant.live (sym c.in_default.ensures.link), c.climb.invariant.counted)

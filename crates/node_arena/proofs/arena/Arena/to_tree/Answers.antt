@@ -11,7 +11,7 @@ use Rattle.node_arena.proofs.arena.Arena.to_tree.Goals.{then-branch, else-branch
 pub walk-init : goal.walk-init
 walk-init c =
     let tree = c.args.self.now.tree in
-    rw c.first_child-link.ensures
+    rw c.first_child-link.ensures.link
     (begun-root tree c.new-builder.result c.put_node.new.builder c.root-root.result c.in_ok-put_node.field-0 c.root-root.ensures.document c.root-root.ensures.root (subst (IsLink tree) (sym c.root-root.ensures.root) (root_link tree)) c.new-builder.ensures.empty c.in_ok-put_node.ensures.puts)
 
 pub put_node-requires-in-Some-clause-accepts : goal.put_node-requires-in-Some-clause-accepts
@@ -24,8 +24,8 @@ put c =
     let so_far = subst (IsBuilt tree c.walk.builder c.walk.inside) c.in-Some.is c.walk.invariant in
     let t = turn tree c.root-root.ensures.document c.walk.builder c.put_node-in-Some.new.builder c.walk.inside c.in-Some.key so_far c.in_ok-put_node-2.field-0 c.in_ok-put_node-2.ensures.puts in
     elim c.if-branch.branch [
-      | then-branch w ↦ rw (w.inside-is, w.link-is, w.first_child-link-then-branch.ensures, c.in-Some.is) (t.0 w.if-branch.true)
-      | else-branch w ↦ rw (w.inside-is, w.link-is, w.next_sibling-link.ensures, c.in-Some.is) (t.1 w.if-branch.false)
+      | then-branch w ↦ rw (w.inside-is, w.link-is, w.first_child-link-then-branch.ensures.link, c.in-Some.is) (t.0 w.if-branch.true)
+      | else-branch w ↦ rw (w.inside-is, w.link-is, w.next_sibling-link.ensures.link, c.in-Some.is) (t.1 w.if-branch.false)
     ]
 
 pub walk-smaller-in-Some : goal.walk-smaller-in-Some
@@ -41,13 +41,13 @@ pub finish-requires : goal.finish-requires
 finish-requires c =
     let tree = c.args.self.now.tree in
     let so_far = subst (IsBuilt tree c.walk.builder c.walk.inside) c.in_default.is c.walk.invariant in
-    is-whole tree c.walk.builder c.end.new.self c.root-root.ensures.document (finished tree c.root-root.ensures.document c.walk.builder c.walk.inside so_far (sym c.in-None.ensures)) c.end.ensures.ended
+    is-whole tree c.walk.builder c.end.new.self c.root-root.ensures.document (finished tree c.root-root.ensures.document c.walk.builder c.walk.inside so_far (sym c.in-None.ensures.link)) c.end.ensures.ended
 
 pub returns-in-None : goal.returns-in-None
 returns-in-None c =
     let tree = c.args.self.now.tree in
     let so_far = subst (IsBuilt tree c.walk.builder c.walk.inside) c.in_default.is c.walk.invariant in
-    let all = finished tree c.root-root.ensures.document c.walk.builder c.walk.inside so_far (sym c.in-None.ensures) in
+    let all = finished tree c.root-root.ensures.document c.walk.builder c.walk.inside so_far (sym c.in-None.ensures.link) in
     record { tree = c.finish.ensures.tree ∙ ap forest_of (ap (λ b. b.rows) c.end.ensures.ended ∙ all.0) ∙ forest_of-rows (without_keys tree) }
 
 -- an element that is not the root ends
@@ -55,8 +55,8 @@ ended : (c : goal.After-next_sibling-link-in-Some-parent) → IsBuilt c.args.sel
 ended c =
     let tree = c.args.self.now.tree in
     let so_far = subst (IsBuilt tree c.walk.builder c.walk.inside) c.in_default.is c.walk.invariant in
-    rw (c.next_sibling-link-in-Some-parent.ensures, c.in_default.is)
-    (ends tree c.root-root.ensures.document c.walk.builder c.end.new.self c.walk.inside c.in-Some-parent.parent so_far (sym c.in-Some-parent.ensures) c.end.ensures.ended)
+    rw (c.next_sibling-link-in-Some-parent.ensures.link, c.in_default.is)
+    (ends tree c.root-root.ensures.document c.walk.builder c.end.new.self c.walk.inside c.in-Some-parent.parent so_far (sym c.in-Some-parent.ensures.link) c.end.ensures.ended)
 
 pub walk-smaller : goal.walk-smaller
 walk-smaller c = (ended c).1
