@@ -163,8 +163,8 @@ holds-appended nodes new root f q key node s h is adds len =
     let same : (x : ℕ) → 0 < times x f → x ≢ q → now x ≡ old x = λ x k ne. adds.others x (fresh x k) ne in
     let in_c : (x : ℕ) → 0 < times x c → now x ≡ old x = λ x k. same x (omega (arith, parts (λ (n : Keyed Node). cond (n.key == x) 1 0))) (λ e. absurd (let z : 0 < times q c = subst (λ y. 0 < times y c) e k in omega (arith, own, h.distinct q))) in
     let hung : HasEntries now (Some q) 0 g =
-        entries-then_tree now c (Some q) 0 (length (root_keys c)) (keyed key node) (omega arith) (adds.added (links_at s) at_q)
-        (entries-frame now old c (Some q) 0 in_c (entries-children old f None [] 0 q s h.entries is)) in
+    entries-then_tree now c (Some q) 0 (length (root_keys c)) (keyed key node) (omega arith) (adds.added (links_at s) at_q)
+    (entries-frame now old c (Some q) 0 in_c (entries-children old f None [] 0 q s h.entries is)) in
     let weighs : (w : Keyed Node → ℕ) → weigh w (put_children q g f) + weigh w c ≡ weigh w f + weigh w g = λ w. weigh-put_children w f None [] q g s h.distinct is in
     let more : (w : Keyed Node → ℕ) → weigh w g ≡ weigh w c + (w (keyed key node) + 0) = λ w. weigh-then_tree w c (keyed key node) Empty in
     record {

@@ -1,5 +1,5 @@
 -- A tree that is put into entries from its first node to its last.
-use Rattle.std.proofs.Common.{◌≡◌, ◌==◌, ◌<◌, ◌≤◌, ◌+◌, ◌-◌, ◌^◌, ℕ, zero, suc, true, false, cond, List, [], ◌∷◌, ◌++◌, length, map, take, get_or, Option, Some, None, option_map, slice_get, refl, sym, ap, ap₂, subst, ◌∙◌, arith, take_all}
+use Rattle.std.proofs.Common.{◌≡◌, ◌==◌, ◌<◌, ◌≤◌, ◌+◌, ◌-◌, ◌^◌, ℕ, zero, suc, true, false, cond, List, [], ◌∷◌, ◌++◌, length, map, take, get_or, Option, Some, None, option_map, slice_get, refl, sym, ap, ap₂, subst, ◌∙◌, arith, take_all, Bor}
 use Rattle.std.proofs.lemmas.List.{map-append, length-map, take_more, take-map}
 use Rattle.forest.specs.Forest.{Forest, Empty, Tree, size}
 use Rattle.forest.specs.Keys.{Keyed, without_keys}
@@ -130,3 +130,14 @@ whole-document nodes root open_keys place tree s all is element few =
       element = subst HasElementRoot same element;
       few = omega (arith, few, size-without_keys s.so_far, ap size same, length-rows 0 tree);
     }
+
+-- the first node of a tree is its root
+pub shown-element : (tree : Forest Node) (name : Bor (List ℕ)) (attrs : Bor (List Attr)) (one : Row) → IsTree tree → Shows (get_or (rows 0 tree) 0 one).node (view.Element name attrs) → HasElementRoot tree
+shown-element Empty name attrs one is h = absurd is.one
+shown-element (Tree (Element its_name its_attrs) c r) name attrs one is h = tt
+shown-element (Tree (Text characters) c r) name attrs one is h = absurd h
+
+pub shown-text : (tree : Forest Node) (shown : Bor (List ℕ)) (one : Row) → IsTree tree → Shows (get_or (rows 0 tree) 0 one).node (view.Text shown) → HasElementRoot tree → ⊥
+shown-text Empty shown one is h root = is.one
+shown-text (Tree (Element its_name its_attrs) c r) shown one is h root = h
+shown-text (Tree (Text characters) c r) shown one is h root = root

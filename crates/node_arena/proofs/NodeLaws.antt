@@ -13,9 +13,10 @@ pub same-test : (x y a b : List ℕ) → chars x ≡ a → x ≡ encode_utf8_all
 same-test x y a b read_x written_x read_y written_y =
     let of_bytes : Decides (bytes_eq x y) (x ≡ y) = bytes_eq-Decides x y in
     let of_characters : Decides (bytes_eq a b) (a ≡ b) = bytes_eq-Decides a b in
-    same_from_decides (bytes_eq x y) (bytes_eq a b) of_bytes
-    ((λ e. written_x ∙ ap encode_utf8_all (of_characters.0 e) ∙ sym written_y),
-    (λ e. of_characters.1 (sym read_x ∙ ap chars e ∙ read_y)))
+    same_from_decides (bytes_eq x y) (bytes_eq a b) of_bytes (
+      (λ e. written_x ∙ ap encode_utf8_all (of_characters.0 e) ∙ sym written_y),
+      (λ e. of_characters.1 (sym read_x ∙ ap chars e ∙ read_y)),
+    )
 
 find-past : {X : Type 0} (test : X → Bool) (xs ys : List X) → find test xs ≡ None → find test (xs ++ ys) ≡ find test ys
 find-past test [] ys none = refl

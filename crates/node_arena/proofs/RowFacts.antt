@@ -21,10 +21,11 @@ bound_after bound (first ∷ rest) = bound_after (first.depth + 1) rest
 
 rows-climb : (d b : ℕ) (f : Forest Node) (rest : List Row) → d ≤ b → ((c : ℕ) → d ≤ c → Climbs c rest) → Climbs b (rows d f ++ rest)
 rows-climb d b Empty rest low more = more b low
-rows-climb d b (Tree node children after) rest low more =
-    (low,
-    subst (Climbs (d + 1)) (sym (append_assoc (rows (d + 1) children) (rows d after) rest))
-    (rows-climb (d + 1) (d + 1) children (rows d after ++ rest) (omega arith) (λ c deep. rows-climb d c after rest (omega arith) more)))
+rows-climb d b (Tree node children after) rest low more = (
+  low,
+  subst (Climbs (d + 1)) (sym (append_assoc (rows (d + 1) children) (rows d after) rest))
+      (rows-climb (d + 1) (d + 1) children (rows d after ++ rest) (omega arith) (λ c deep. rows-climb d c after rest (omega arith) more)),
+)
 
 climbs-append : (b : ℕ) (front : List Row) (one : Row) (rest : List Row) → Climbs b (front ++ one ∷ rest) → one.depth ≤ bound_after b front
 climbs-append b [] one rest h = h.0

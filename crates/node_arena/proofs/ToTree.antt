@@ -140,25 +140,29 @@ module _ (f : Forest (Keyed Node)) (d : IsKeyedDocument f) where
         let live = so_far.under.0 in
         let up = so_far.under.1 in
         let left = left-element inside key (Element name attrs) live up is in
-        let level = child-level f key inside d.distinct live up in
-        (record {
-          live = live;
-          begun = ap (λ b. b.inside) puts.built ∙ ap (λ b. b + 1) so_far.begun ∙ sym level;
-          under = first-link f key d.distinct live;
-          all = put-all (Element name attrs) element (first_child_of f key) key puts left;
-        }, omega (arith, ap length left, level))
+        let level = child-level f key inside d.distinct live up in (
+          record {
+            live = live;
+            begun = ap (λ b. b.inside) puts.built ∙ ap (λ b. b + 1) so_far.begun ∙ sym level;
+            under = first-link f key d.distinct live;
+            all = put-all (Element name attrs) element (first_child_of f key) key puts left;
+          },
+          omega (arith, ap length left, level),
+        )
 
     passes : (characters : List ℕ) (element : Bool) → Some (Text characters) ≡ label_of f key → PutsNode built new (Text characters) element → Passes
     passes characters element is puts =
         let live = so_far.under.0 in
         let up = so_far.under.1 in
-        let left = left-text inside key (Text characters) live up is (sound-at f key (Text characters) d live is) in
-        (record {
-          live = so_far.live;
-          begun = ap (λ b. b.inside) puts.built ∙ so_far.begun;
-          under = sibling-link f key inside d.distinct live up;
-          all = put-all (Text characters) element (next_sibling_of f key) inside puts left;
-        }, omega (arith, ap length left))
+        let left = left-text inside key (Text characters) live up is (sound-at f key (Text characters) d live is) in (
+          record {
+            live = so_far.live;
+            begun = ap (λ b. b.inside) puts.built ∙ so_far.begun;
+            under = sibling-link f key inside d.distinct live up;
+            all = put-all (Text characters) element (next_sibling_of f key) inside puts left;
+          },
+          omega (arith, ap length left),
+        )
 
     turn-node : (node : Node) (element : Bool) → Some node ≡ label_of f key → PutsNode built new node element → (element ≡ true → Begins) × (element ≡ false → Passes)
     turn-node (Element name attrs) element is puts = ((λ e. begins name attrs element is puts), (λ e. absurd (let h : element ≡ true = puts.kind in cc)))
@@ -174,13 +178,15 @@ module _ (f : Forest (Keyed Node)) (d : IsKeyedDocument f) where
   pub ends : (built new : Building) (inside parent : ℕ) → IsBuilt f built inside None → parent_of f inside ≡ Some parent → new ≡ record { rows = built.rows; inside = built.inside - 1 } → IsBuilt f new parent (next_sibling_of f inside) × (to_do f parent (next_sibling_of f inside) < to_do f inside None)
   ends built new inside parent so_far up is =
       let left = left-end inside parent so_far.live up in
-      let level = child-level f inside parent d.distinct so_far.live up in
-      (record {
-        live = parent-live f inside parent d.distinct so_far.live up;
-        begun = ap (λ b. b.inside) is ∙ omega (arith, so_far.begun, level);
-        under = sibling-link f inside parent d.distinct so_far.live up;
-        all = ap (λ b. b.rows ++ map row_of (left_of f parent (next_sibling_of f inside))) is ∙ ap (λ rest. built.rows ++ map row_of rest) (sym left) ∙ so_far.all;
-      }, omega (arith, ap length left, level))
+      let level = child-level f inside parent d.distinct so_far.live up in (
+        record {
+          live = parent-live f inside parent d.distinct so_far.live up;
+          begun = ap (λ b. b.inside) is ∙ omega (arith, so_far.begun, level);
+          under = sibling-link f inside parent d.distinct so_far.live up;
+          all = ap (λ b. b.rows ++ map row_of (left_of f parent (next_sibling_of f inside))) is ∙ ap (λ rest. built.rows ++ map row_of rest) (sym left) ∙ so_far.all;
+        },
+        omega (arith, ap length left, level),
+      )
 
   -- the root ends
   pub finished : (built : Building) (inside : ℕ) → IsBuilt f built inside None → parent_of f inside ≡ None → (built.rows ≡ rows 0 (without_keys f)) × (built.inside ≡ 1)

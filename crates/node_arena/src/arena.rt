@@ -18,7 +18,7 @@ use crate::entry::{Entry, append};
 use plain_types::attr::Attr;
 use plain_types::duplicate::Duplicate;
 use plain_types::memory::Memory;
-use plain_types::node::Node;
+use plain_types::node::{Node, NodeView};
 use plain_types::path::Path;
 use plain_types::tree::Tree;
 use plain_types::tree_builder::TreeBuilder;
@@ -36,8 +36,8 @@ pub struct Arena {
 impl Model for Arena {
     ghost use Rattle.plain_types.specs.contracts.node.Node as node;
     ghost use Rattle.plain_types.specs.Building.{accepts_node};
-ghost use Rattle.node_arena.specs.Copies.{PutsNode};
-ghost use Rattle.node_arena.specs.Document.{Document, coded_document};
+    ghost use Rattle.node_arena.specs.Copies.{PutsNode};
+    ghost use Rattle.node_arena.specs.Document.{Document, coded_document};
     ghost use Rattle.node_arena.specs.Entries.{tree_in, IsArena};
 
     ghost Value = { Document };
@@ -47,6 +47,17 @@ ghost use Rattle.node_arena.specs.Document.{Document, coded_document};
     ghost view = { λ arena. record { tree = tree_in arena.nodes arena.root } };
 
     ghost invariant = { λ arena. IsArena arena.nodes arena.root };
+}
+
+/// Whether the root of a tree is an element, as `Arena::from_tree` asks. Constant time.
+pub fn has_element_root(tree: &Tree) -> bool
+    ensures { IsTrue result ↔ HasElementRoot tree.now }
+{
+    let _count = tree.len();
+    match tree.node(0) {
+        NodeView::Element { name: _, attrs: _ } => true,
+        NodeView::Text { characters: _ } => false,
+    }
 }
 
 impl Arena {

@@ -32,7 +32,12 @@ pub(crate) fn push_child(nodes: &mut Slab<Entry>, parent: usize, child: usize) -
 }
 
 /// Puts a new node behind the children of a node.
-pub(crate) fn append(alloc: Global, nodes: &mut Slab<Entry>, parent: usize, node: Node) -> Result<usize, Memory>
+pub(crate) fn append(
+    alloc: Global,
+    nodes: &mut Slab<Entry>,
+    parent: usize,
+    node: Node,
+) -> Result<usize, Memory>
     requires parent { ContainsKey nodes.old parent }
     ensures appends { IfOk result (Appends (links_in nodes.old) (links_in nodes.new) parent node) }
     ensures len { OnOk result (slab_len nodes.new ≡ slab_len nodes.old + 1) }

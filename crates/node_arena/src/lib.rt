@@ -27,3 +27,5 @@ pub mod arena;
 mod copies;
 mod entry;
 pub mod laws;
+#[cfg(test)]
+mod tests;

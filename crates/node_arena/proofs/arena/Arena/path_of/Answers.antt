@@ -28,5 +28,5 @@ pub returns : goal.returns
 returns c =
     let tree = c.args.self.now.tree in
     let steps : path_of tree c.args.key ≡ reverse c.climb.steps.items =
-        ap (drop 1) (c.climb.invariant.route ∙ ap (λ way. way ++ reverse c.climb.steps.items) (route-of_root tree c.climb.at c.root-root.ensures.document.distinct c.climb.invariant.live (sym c.in_default.ensures.link))) in
+    ap (drop 1) (c.climb.invariant.route ∙ ap (λ way. way ++ reverse c.climb.steps.items) (route-of_root tree c.climb.at c.root-root.ensures.document.distinct c.climb.invariant.live (sym c.in_default.ensures.link))) in
     record { path = subst (λ way. IfOk c.of.result (λ path. path ≡ way)) (c.as_slice.ensures.value ∙ c.reverse.ensures.items ∙ sym steps) c.of.ensures.steps }
