@@ -1,0 +1,10 @@
+pub mod SpotLaws
+pub mod ChangeLaws
+pub mod StandLaws
+pub mod PathLaws
+pub mod OrderLaws
+pub mod WalkLaws
+pub mod SiblingLaws
+pub mod LevelLaws
+pub mod GrowLaws
+pub mod PlaceLaws

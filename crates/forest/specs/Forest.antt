@@ -18,6 +18,11 @@ weigh weight (Tree label children after) = weight label + (weigh weight children
 abbrev pub size : {L : Type 0} → Forest L → ℕ
 size forest = weigh (λ _. 1) forest
 
+-- there is one tree
+abbrev pub IsOneTree : {L : Type 0} → Forest L → Type 0
+IsOneTree Empty = ⊥
+IsOneTree (Tree label children after) = after ≡ Empty
+
 -- the labels in tree order
 abbrev pub labels : {L : Type 0} → Forest L → List L
 labels Empty = []

@@ -1,5 +1,6 @@
 -- Trees whose nodes have keys.
-use Rattle.std.specs.Prelude.{ℕ, ◌+◌, ◌≤◌, ◌==◌, if◌then◌else◌, List, map}
+use Rattle.std.specs.Prelude.{ℕ, ◌+◌, ◌≤◌, ◌==◌, if◌then◌else◌, List, map, refl}
+use Rattle.std.specs.Coded.{Coded, code_by, coded×, coded_ℕ}
 use Rattle.forest.specs.Forest.{Forest, Empty, Tree, labels, map_labels, size, weigh}
 
 -- a label, and the number by which its node is named
@@ -28,3 +29,7 @@ module _ {L : Type 0} where
   abbrev pub numbered : ℕ → Forest L → Forest (Keyed L)
   numbered place Empty = Empty
   numbered place (Tree label children after) = Tree (record { key = place; label = label }) (numbered (place + 1) children) (numbered (place + 1 + size children) after)
+
+-- a keyed label is stored as its key and its label
+abbrev pub coded_keyed : {L : Type 0} → Coded L → Coded (Keyed L)
+coded_keyed {L} coded = code_by (ℕ × L) (coded× coded_ℕ coded) (λ node. (node.key, node.label)) (λ pair. record { key = pair.0; label = pair.1 }) (λ _. refl)

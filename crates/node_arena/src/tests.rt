@@ -1,0 +1,297 @@
+//! Every shape of up to four nodes, compared in all calls with the depths that it is made from.
+
+ghost use Rattle.forest.specs.Spots.{IsLive};
+
+use crate::arena::{Arena, has_element_root};
+use plain_types::attr::Attr;
+use plain_types::list::List;
+use plain_types::memory::Memory;
+use plain_types::path::Path;
+use plain_types::text::Text;
+use plain_types::tree::Tree;
+use plain_types::tree_builder::TreeBuilder;
+use std::alloc::Global;
+use std::test::Fail;
+
+/// A leaf at an odd place is a text; all other nodes are elements.
+fn is_text(depths: &[usize], place: usize) -> bool {
+    let leaf = match (depths.get(place), depths.iter().skip(place).nth(1)) {
+        (Some(depth), Some(next)) => next <= depth,
+        _ => true,
+    };
+    place % 2 == 1 && leaf
+}
+
+/// The tree of a shape, whose elements are `n` with the attribute `a` of value `v`, and whose texts are `t`.
+fn tree_of(alloc: Global, depths: &[usize]) -> Result<Option<Tree>, Memory> {
+    let mut builder = TreeBuilder::new(alloc);
+    let mut open = 0;
+    for (place, &depth) in depths.iter().enumerate() {
+        for _ended in depth..open {
+            if builder.is_inside() {
+                builder.end();
+            }
+        }
+        if !builder.accepts_node() {
+            return Ok(None);
+        }
+        if is_text(depths, place) {
+            builder.text(Text::from_str(alloc, "t")?)?;
+            open = depth;
+        } else {
+            let mut attrs = List::new(alloc);
+            attrs.push(Attr {
+                name: Text::from_str(alloc, "a")?,
+                value: Text::from_str(alloc, "v")?,
+            })?;
+            builder.start(Text::from_str(alloc, "n")?, attrs)?;
+            open = depth.saturating_add(1);
+        }
+    }
+    for _ended in 0..open {
+        if builder.is_inside() {
+            builder.end();
+        }
+    }
+    if builder.is_whole() {
+        Ok(Some(builder.finish()))
+    } else {
+        Ok(None)
+    }
+}
+
+/// The nearest node before it that is less deep.
+fn parent_of(depths: &[usize], place: usize) -> Option<usize> {
+    let depth = depths.get(place)?;
+    for other in (0..place).rev() {
+        if depths.get(other)? < depth {
+            return Some(other);
+        }
+    }
+    None
+}
+
+/// The nodes whose parent it is; the root alone has none.
+fn children_of(
+    alloc: Global,
+    depths: &[usize],
+    parent: Option<usize>,
+) -> Result<Vec<usize>, Memory> {
+    let mut children = Vec::new(alloc);
+    for place in 0..depths.len() {
+        if parent_of(depths, place) == parent {
+            children.push(place)?;
+        }
+    }
+    Ok(children)
+}
+
+/// The keys in tree order.
+fn keys_of(alloc: Global, arena: &Arena) -> Result<Vec<usize>, Memory> {
+    let mut keys = Vec::new(alloc);
+    let mut at = arena.root();
+    'walk: for _step in 0..8 {
+        keys.push(at)?;
+        match arena.next_in_order(at) {
+            Some(next) => at = next,
+            None => break,
+        }
+    }
+    Ok(keys)
+}
+
+fn key_of(keys: &[usize], place: Option<&usize>) -> Option<usize> {
+    keys.get(*place?).copied()
+}
+
+/// Whether a node has the parent and the children of its place.
+fn has_its_links(
+    alloc: Global,
+    arena: &Arena,
+    depths: &[usize],
+    keys: &[usize],
+    place: usize,
+    at: usize,
+) -> Result<bool, Memory>
+    requires { IsLive arena.now.tree at }
+{
+    let parent = parent_of(depths, place);
+    let children = children_of(alloc, depths, Some(place))?;
+    for index in 0..5 {
+        if arena.child(at, index) != key_of(keys, children.as_slice().get(index)) {
+            return Ok(false);
+        }
+    }
+    Ok(
+        arena.parent(at) == key_of(keys, parent.as_ref())
+            && arena.child_count(at) == children.len()
+            && arena.first_child(at) == key_of(keys, children.as_slice().first())
+            && arena.last_child(at) == key_of(keys, children.as_slice().last()),
+    )
+}
+
+/// Whether a node has the index and the siblings of its place, and its path ends so.
+fn has_its_siblings(
+    alloc: Global,
+    arena: &Arena,
+    depths: &[usize],
+    keys: &[usize],
+    place: usize,
+    at: usize,
+) -> Result<bool, Memory>
+    requires { IsLive arena.now.tree at }
+{
+    let siblings = children_of(alloc, depths, parent_of(depths, place))?;
+    let index = arena.index_of(at);
+    let previous = match index.checked_sub(1) {
+        Some(before) => key_of(keys, siblings.as_slice().get(before)),
+        None => None,
+    };
+    let path = arena.path_of(alloc, at)?;
+    let last = path.as_slice().last().copied();
+    Ok(
+        key_of(keys, siblings.as_slice().get(index)) == Some(at)
+            && arena.previous_sibling(at) == previous
+            && arena.next_sibling(at)
+                == key_of(keys, siblings.as_slice().get(index.saturating_add(1)))
+            && arena.at(&path) == Some(at)
+            && Some(path.as_slice().len()) == depths.get(place).copied()
+            && last.unwrap_or(0) == index,
+    )
+}
+
+/// Whether a node comes before just those of later places.
+fn has_its_order(arena: &Arena, place: usize, at: usize) -> bool
+    requires { IsLive arena.now.tree at }
+{
+    let mut other = arena.root();
+    'walk: for other_place in 0..8 {
+        if arena.precedes(at, other) != (place < other_place) {
+            return false;
+        }
+        match arena.next_in_order(other) {
+            Some(next) => other = next,
+            None => break,
+        }
+    }
+    true
+}
+
+/// Whether a node says what its place says.
+fn has_its_words(arena: &Arena, depths: &[usize], place: usize, at: usize) -> bool
+    requires { IsLive arena.now.tree at }
+{
+    if is_text(depths, place) {
+        arena.name(at).is_none()
+            && arena.characters(at) == Some("t")
+            && arena.attrs(at).is_empty()
+            && arena.attr(at, "a").is_none()
+    } else {
+        arena.name(at) == Some("n")
+            && arena.characters(at).is_none()
+            && arena.attrs(at).len() == 1
+            && arena.attr(at, "a") == Some("v")
+            && arena.attr(at, "A").is_none()
+    }
+}
+
+/// Whether all calls on a node give what its place gives.
+fn is_right_at(
+    alloc: Global,
+    arena: &Arena,
+    depths: &[usize],
+    keys: &[usize],
+    place: usize,
+    at: usize,
+) -> Result<bool, Memory>
+    requires { IsLive arena.now.tree at }
+{
+    Ok(
+        has_its_links(alloc, arena, depths, keys, place, at)?
+            && has_its_siblings(alloc, arena, depths, keys, place, at)?
+            && has_its_order(arena, place, at)
+            && has_its_words(arena, depths, place, at),
+    )
+}
+
+/// Whether all calls on each node give what its place gives.
+fn is_right_everywhere(
+    alloc: Global,
+    arena: &Arena,
+    depths: &[usize],
+    keys: &[usize],
+) -> Result<bool, Memory> {
+    let mut at = arena.root();
+    'walk: for place in 0..8 {
+        if !is_right_at(alloc, arena, depths, keys, place, at)? {
+            return Ok(false);
+        }
+        match arena.next_in_order(at) {
+            Some(next) => at = next,
+            None => return Ok(place + 1 == depths.len()),
+        }
+    }
+    Ok(false)
+}
+
+/// Whether a tree has nodes of these depths.
+fn has_depths(tree: &Tree, depths: &[usize]) -> bool {
+    let mut same = tree.len() == depths.len();
+    for (place, depth) in depths.iter().enumerate() {
+        same = same && place < tree.len() && tree.depth(place) == *depth;
+    }
+    same
+}
+
+/// Whether an arena of this shape gives in all calls what the shape gives.
+fn is_right(alloc: Global, depths: &[usize]) -> Result<bool, Memory> {
+    let Some(tree) = tree_of(alloc, depths)? else {
+        return Ok(false);
+    };
+    if !has_element_root(&tree) {
+        return Ok(false);
+    }
+    let arena = Arena::from_tree(alloc, &tree)?;
+    let keys = keys_of(alloc, &arena)?;
+    let back = arena.to_tree(alloc)?;
+    Ok(has_depths(&back, depths) && is_right_everywhere(alloc, &arena, depths, keys.as_slice())?)
+}
+
+#[test]
+fn every_shape_up_to_four_nodes(rt: HostRuntime) -> Result<(), Fail> {
+    let alloc = rt.alloc();
+    for third in 1..3 {
+        for fourth in 1..4 {
+            let depths = [0, 1, third, fourth];
+            for count in 1..5 {
+                let deepest = if fourth > third + 1 {
+                    third + 1
+                } else {
+                    fourth
+                };
+                let shape = [depths[0], depths[1], depths[2], deepest];
+                assert!(rt;
+                    is_right(alloc, &shape[..count])?,
+                    "{third} {fourth} {count}"
+                );
+            }
+        }
+    }
+    Ok(())
+}
+
+#[test]
+fn paths_past_the_tree_lead_nowhere(rt: HostRuntime) -> Result<(), Fail> {
+    let alloc = rt.alloc();
+    let Some(tree) = tree_of(alloc, &[0, 1, 1])? else {
+        assert!(rt; false);
+        return Ok(());
+    };
+    assert!(rt; has_element_root(&tree));
+    let arena = Arena::from_tree(alloc, &tree)?;
+    for (position, found) in [(0, true), (1, true), (2, false), (usize::MAX, false)] {
+        assert_eq!(rt; arena.at(&Path::of(alloc, &[position])?).is_some(), found);
+        assert!(rt; arena.at(&Path::of(alloc, &[position, 0])?).is_none());
+    }
+    Ok(())
+}
