@@ -1,7 +1,13 @@
 pub mod Characters
 pub mod Documents
 pub mod Dump
+pub mod Identifiers
 pub mod Items
 pub mod Nodes
+pub mod Punctuation
+pub mod Reading
+pub mod SheetCharacters
+pub mod SheetText
 pub mod Spelling
 pub mod Thin
+pub mod Words
