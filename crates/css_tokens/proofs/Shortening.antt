@@ -3,9 +3,9 @@ use Rattle.std.proofs.Common.{◌≡◌, ℕ, zero, suc, ◌+◌, ◌*◌, ◌<�
 use Rattle.std.specs.Prelude.{codes}
 use Rattle.std.proofs.Math.IntN.{ℤ}
 use Rattle.std.proofs.lemmas.Bool.{eqb-true}
-use Rattle.definitions.specs.Characters.{is_blank, is_digit}
+use Rattle.definitions.specs.Characters.{is_blank, is_digit, is_hexadecimal_digit, is_quote}
 use Rattle.definitions.specs.Reading.{◌then◌, ◌otherwise◌, span, span_of, past_character, past_text, past_one, begins}
-use Rattle.definitions.specs.SheetCharacters.{is_ident_start, is_ident_character, is_hex_digit, is_quote}
+use Rattle.definitions.specs.SheetCharacters.{is_ident_start, is_ident_character}
 use Rattle.definitions.specs.Identifiers.{hex_escape, past_blank, escape_at, is_escape, ident_character_at, ident_sequence_at, starts_letter, starts_identifier, identifier_at}
 use Rattle.definitions.proofs.Runs.{chosen}
 use Rattle.definitions.proofs.Following.{Follows, here, later, left, nothing, ended, none_ends, Follows-trans, Leaves, Ends, follow_if, rest_if, leave_if, end_if, leave_otherwise, leave_then, end_then, ends_then, leaves_end, leave_more, end_more, leave_within, one_follows, character_ends, text_ends, span_follows, span_of_follows, TakesOne, takes_shorter, run_follows, run_takes}
@@ -23,7 +23,7 @@ blank_follows (c ∷ cs) = rest_if (is_blank c) _ _ (later c here) here
 pub escape_leaves : (cs : List ℕ) → Leaves cs (escape_at cs)
 unfolding escape_at
 escape_leaves [] = left _ here
-escape_leaves (c ∷ cs) = leave_if (eqb c 10) _ _ nothing (leave_if (is_hex_digit c) _ _ (left _ (Follows-trans (span_of_follows 6 is_hex_digit (c ∷ cs)) (blank_follows (span_of 6 is_hex_digit (c ∷ cs)).1))) (left _ (later c here)))
+escape_leaves (c ∷ cs) = leave_if (eqb c 10) _ _ nothing (leave_if (is_hexadecimal_digit c) _ _ (left _ (Follows-trans (span_of_follows 6 is_hexadecimal_digit (c ∷ cs)) (blank_follows (span_of 6 is_hexadecimal_digit (c ∷ cs)).1))) (left _ (later c here)))
 
 pub ident_takes : TakesOne ident_character_at
 unfolding ident_character_at
@@ -165,7 +165,7 @@ named_follows name = follow_if (begins 40 name.1) _ _ (Follows-trans (one_follow
 escaped : (cs : List ℕ) → is_escape cs ≡ true → is_some (escape_at cs) ≡ true
 unfolding escape_at
 escaped [] e = refl
-escaped (c ∷ cs) e = go (eqb c 10) (is_hex_digit c) (hex_escape (span_of 6 is_hex_digit (c ∷ cs))) e
+escaped (c ∷ cs) e = go (eqb c 10) (is_hexadecimal_digit c) (hex_escape (span_of 6 is_hexadecimal_digit (c ∷ cs))) e
   where
     go : (line_feed hex : Bool) (x : ℕ × List ℕ) → not line_feed ≡ true → is_some (cond line_feed None (cond hex (Some x) (Some (c, cs)))) ≡ true
     go true hex x e = absurd cc
@@ -236,9 +236,12 @@ token_leaves c cs =
 
 pub piece_takes : TakesOne piece_at
 unfolding piece_at token_at string_at hash_at number_at named_at at_keyword_at
-piece_takes = record { none = refl; leaves = λ c cs.
-    leave_otherwise (comment_at (c ∷ cs) then λ rest. Some (None, rest)) _ (end_then (comment_at (c ∷ cs)) _ (comment_ends c cs) (λ rest p. left _ p))
-        (leave_then (token_at (c ∷ cs)) _ (token_leaves c cs) (λ x p. left _ p)) }
+piece_takes = record {
+  none = refl;
+  leaves = λ c cs.
+      leave_otherwise (comment_at (c ∷ cs) then λ rest. Some (None, rest)) _ (end_then (comment_at (c ∷ cs)) _ (comment_ends c cs) (λ rest p. left _ p))
+      (leave_then (token_at (c ∷ cs)) _ (token_leaves c cs) (λ x p. left _ p));
+}
 
 pub placed_takes : TakesOne placed_at
 unfolding placed_at

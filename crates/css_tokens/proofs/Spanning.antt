@@ -67,14 +67,17 @@ module _ (text : List ℕ) (utf8 : IsUtf8 text) where
   spanned : (k : Option TokenKind) (cs mid : List ℕ) (place : ℕ) (more_tokens : List Token) → piece_at cs ≡ Some (k, mid) → Follows (chars text) cs → Follows cs mid → place ≤ whole - width cs
       → ((from : ℕ) → from ≤ whole - width mid → AreSpans text from more_tokens) → AreSpans text place (token_from k (whole - width cs) (whole - width mid) ++ more_tokens)
   spanned None cs mid place more_tokens e p q le go = go place (omega (arith, Follows-width q))
-  spanned (Some k) cs mid place more_tokens e p q le go = (record {
-    from = le;
-    forward = omega (arith, Follows-width q);
-    within = omega (arith, width_is text utf8);
-    starts = bound cs p;
-    ends = bound mid (Follows-trans p q);
-    slice = rw (from cs p, from mid (Follows-trans p q)) (token_is cs mid k e);
-  }, go (whole - width mid) (omega arith))
+  spanned (Some k) cs mid place more_tokens e p q le go = (
+    record {
+      from = le;
+      forward = omega (arith, Follows-width q);
+      within = omega (arith, width_is text utf8);
+      starts = bound cs p;
+      ends = bound mid (Follows-trans p q);
+      slice = rw (from cs p, from mid (Follows-trans p q)) (token_is cs mid k e);
+    },
+    go (whole - width mid) (omega arith),
+  )
 
   placed_is : (cs mid : List ℕ) (x : Piece) (o : Option (Option TokenKind × List ℕ)) → piece_at cs ≡ o → (o then λ y. some_piece (record { kind = y.0; from = width cs; after = width y.1 }, y.1)) ≡ some_piece (x, mid)
       → (k : Option TokenKind) × (piece_at cs ≡ Some (k, mid)) × (x ≡ record { kind = k; from = width cs; after = width mid })

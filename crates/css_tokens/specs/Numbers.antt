@@ -1,12 +1,12 @@
 -- Numeric tokens: CSS Syntax 3, 4.3.3, 4.3.10, 4.3.12 and 4.3.13. Our own: only the value of a whole
 -- number counts, and it saturates.
 use Rattle.std.specs.Prelude.{ℕ, Bool, true, false, ◌||◌, ◌==◌, if◌then◌else◌, List, [], ◌∷◌, Option, Some, None, is_some, ℤ, pos, neg_ℤ}
+use Rattle.std.specs.Str.Parse.{digits_value}
 use Rattle.std.specs.Int.{int_max, int_min}
 use Rattle.plain_types.specs.declared.count.TheConstants.{COUNT_LOW, COUNT_HIGH}
 use Rattle.definitions.specs.Characters.{is_digit}
 use Rattle.definitions.specs.Punctuation.{percent_sign, plus_sign, hyphen_minus, full_stop}
 use Rattle.definitions.specs.Reading.{◌then◌, ◌otherwise◌, begins, past_character, past_one, span}
-use Rattle.definitions.specs.SheetCharacters.{number_after}
 use Rattle.definitions.specs.Identifiers.{starts_identifier, ident_sequence_at}
 use Rattle.css_tokens.specs.declared.token.TokenKind.{TokenKind}
 use Rattle.css_tokens.specs.declared.token.TokenKind.TheVariants as kind
@@ -63,7 +63,7 @@ after_digits negative number characters =
 -- after the sign: digits, or a fraction alone
 abbrev pub unsigned_at : Bool × List ℕ → Option (TokenKind × List ℕ)
 unsigned_at sign =
-    (digits_at sign.1 then λ digits. Some (after_digits sign.0 (number_after 10 0 digits.0) digits.1))
+    (digits_at sign.1 then λ digits. Some (after_digits sign.0 (digits_value 10 digits.0) digits.1))
     otherwise (fraction_at sign.1 then λ rest. Some (after_fraction false (pos 0) rest))
 
 unfoldable pub number_at : List ℕ → Option (TokenKind × List ℕ)

@@ -1,8 +1,8 @@
 -- String tokens: CSS Syntax 3, 4.3.5.
 use Rattle.std.specs.Prelude.{ℕ, Bool, ◌||◌, ◌==◌, if◌then◌else◌, List, [], ◌∷◌, Option, Some, None}
+use Rattle.definitions.specs.Characters.{is_quote}
 use Rattle.definitions.specs.Punctuation.{line_feed, reverse_solidus}
 use Rattle.definitions.specs.Reading.{◌then◌, run_at}
-use Rattle.definitions.specs.SheetCharacters.{is_quote}
 use Rattle.definitions.specs.Identifiers.{escape_at}
 use Rattle.css_tokens.specs.declared.token.TokenKind.{TokenKind}
 use Rattle.css_tokens.specs.declared.token.TokenKind.TheVariants as kind

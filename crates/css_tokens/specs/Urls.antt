@@ -1,9 +1,9 @@
 -- Identifiers, functions and addresses: CSS Syntax 3, 4.3.4, 4.3.6 and 4.3.14.
 use Rattle.std.specs.Prelude.{ℕ, Bool, false, ◌&&◌, ◌||◌, not, ◌==◌, if◌then◌else◌, codes, List, [], ◌∷◌, Option, Some, None}
-use Rattle.definitions.specs.Characters.{is_blank}
+use Rattle.definitions.specs.Characters.{is_blank, is_quote}
 use Rattle.definitions.specs.Punctuation.{left_parenthesis, right_parenthesis, reverse_solidus, commercial_at}
 use Rattle.definitions.specs.Reading.{◌then◌, ◌otherwise◌, begins, past_character, past_one, span, run_at}
-use Rattle.definitions.specs.SheetCharacters.{is_quote, is_non_printable}
+use Rattle.definitions.specs.SheetCharacters.{is_non_printable}
 use Rattle.definitions.specs.Identifiers.{escape_at, identifier_at}
 use Rattle.definitions.specs.Words.{is_word}
 use Rattle.css_tokens.specs.declared.token.TokenKind.{TokenKind}

@@ -3,9 +3,9 @@
 ghost use Rattle.std.specs.Prelude.{◌≡◌, ◌∷◌, ◌++◌, [], MatchOption, IfSome};
 ghost use Rattle.std.specs.Char.{encode_utf8};
 ghost use Rattle.std.specs.Str.{chars, IsUtf8};
-ghost use Rattle.definitions.specs.Characters.{is_blank, is_digit};
+ghost use Rattle.definitions.specs.Characters.{is_blank, is_digit, is_hexadecimal_digit, is_quote};
 ghost use Rattle.definitions.specs.Reading.{Reads, begins, past_character, past_one};
-ghost use Rattle.definitions.specs.SheetCharacters.{is_ident_start, is_ident_character, is_hex_digit, is_quote};
+ghost use Rattle.definitions.specs.SheetCharacters.{is_ident_start, is_ident_character};
 ghost use Rattle.css_tokens.specs.Tokens.{blanks_at};
 ghost use Rattle.css_tokens.specs.Urls.{past_blanks};
 
@@ -32,8 +32,8 @@ pub(crate) fn is_digit(c: char) -> bool
     c.is_ascii_digit()
 }
 
-pub(crate) fn is_hex_digit(c: char) -> bool
-    ensures { result ≡ is_hex_digit c }
+pub(crate) fn is_hexadecimal_digit(c: char) -> bool
+    ensures { result ≡ is_hexadecimal_digit c }
 {
     is_digit(c) || (c >= 'A' && c <= 'F') || (c >= 'a' && c <= 'f')
 }
@@ -108,5 +108,9 @@ pub(crate) fn blanks(text: &str) -> Option<&str>
     ensures text { IfSome result (λ x. IsUtf8 x.now) }
 {
     let (first, rest) = first_char(text)?;
-    if is_blank(first) { Some(past_blanks(rest)) } else { None }
+    if is_blank(first) {
+        Some(past_blanks(rest))
+    } else {
+        None
+    }
 }

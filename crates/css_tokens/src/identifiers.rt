@@ -1,19 +1,24 @@
 //! Escapes and identifiers.
 
 ghost use Rattle.std.specs.Prelude.{◌≡◌, ◌-◌, ◌^◌, min, IfSome, IfOk, IsTrue};
+ghost use Rattle.std.specs.Char.{digit_value};
 ghost use Rattle.std.specs.Str.{chars, IsUtf8};
+ghost use Rattle.std.specs.Str.Parse.{digits_value};
 ghost use Rattle.definitions.specs.Reading.{Reads, span_of};
-ghost use Rattle.definitions.specs.SheetCharacters.{is_hex_digit, digit_value, number_after};
+ghost use Rattle.definitions.specs.Characters.{is_hexadecimal_digit};
 ghost use Rattle.definitions.specs.Identifiers.{character_of, past_blank, escape_at, is_escape, ident_character_at, ident_sequence_at, starts_letter, starts_identifier, identifier_at};
 
-use crate::characters::{begins, first_char, is_blank, is_digit, is_hex_digit, is_ident_character, is_ident_start};
+use crate::characters::{
+    begins, first_char, is_blank, is_digit, is_hexadecimal_digit, is_ident_character,
+    is_ident_start,
+};
 use plain_types::memory::Memory;
 use plain_types::text::Text;
 use std::alloc::Global;
 
 /// The number of a hexadecimal digit.
 pub(crate) fn digit_value(c: char) -> u64
-    requires { IsTrue (is_hex_digit c) }
+    requires { IsTrue (is_hexadecimal_digit c) }
     ensures { result ≡ digit_value c }
 {
     if is_digit(c) {
@@ -27,8 +32,8 @@ pub(crate) fn digit_value(c: char) -> u64
 
 /// The number of at most six hexadecimal digits, and the text after them.
 fn hex_digits(text: &str) -> (u64, &str)
-    ensures number { result.0 ≡ min (number_after 16 0 (span_of 6 is_hex_digit (chars text.now)).0) (2 ^ 64 - 1) }
-    ensures rest { chars result.1.now ≡ (span_of 6 is_hex_digit (chars text.now)).1 }
+    ensures number { result.0 ≡ min (digits_value 16 (span_of 6 is_hexadecimal_digit (chars text.now)).0) (2 ^ 64 - 1) }
+    ensures rest { chars result.1.now ≡ (span_of 6 is_hexadecimal_digit (chars text.now)).1 }
     ensures text { IsUtf8 result.1.now }
 {
     let mut number: u64 = 0;
@@ -38,7 +43,7 @@ fn hex_digits(text: &str) -> (u64, &str)
         let Some((first, after)) = first_char(rest) else {
             break;
         };
-        if !is_hex_digit(first) {
+        if !is_hexadecimal_digit(first) {
             break;
         }
         number = number.saturating_mul(16).saturating_add(digit_value(first));
@@ -83,7 +88,7 @@ pub(crate) fn escape(text: &str) -> Option<(char, &str)>
     };
     if first == '\n' {
         None
-    } else if is_hex_digit(first) {
+    } else if is_hexadecimal_digit(first) {
         let (number, rest) = hex_digits(text);
         Some((character_of(number), past_blank(rest)))
     } else {

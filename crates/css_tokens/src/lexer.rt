@@ -69,7 +69,10 @@ fn past_comment_open(text: &str) -> Option<&str>
     ensures gives { Reads (λ x. chars x.now) result (past_text (codes "<!--") (chars text.now)) }
     ensures text { IfSome result (λ x. IsUtf8 x.now) }
 {
-    past_character('-', past_character('-', past_character('!', past_character('<', text)?)?)?)
+    past_character(
+        '-',
+        past_character('-', past_character('!', past_character('<', text)?)?)?,
+    )
 }
 
 /// The token at the front, where no comment stands there, and the text after it.
@@ -123,7 +126,12 @@ fn piece(alloc: Global, text: &str) -> Result<Option<(Option<TokenKind>, &str)>,
     }
 }
 
-fn push_token(tokens: &mut List<Token>, kind: Option<TokenKind>, start: usize, end: usize) -> Result<(), Memory>
+fn push_token(
+    tokens: &mut List<Token>,
+    kind: Option<TokenKind>,
+    start: usize,
+    end: usize,
+) -> Result<(), Memory>
     ensures ok { OnOk result (tokens.new ≡ tokens.old ++ token_from kind start end) }
 {
     if let Some(kind) = kind {

@@ -2,9 +2,9 @@
 
 ghost use Rattle.std.specs.Prelude.{◌≡◌, ◌-◌, ◌^◌, min, IfSome};
 ghost use Rattle.std.specs.Str.{chars, IsUtf8};
+ghost use Rattle.std.specs.Str.Parse.{digits_value};
 ghost use Rattle.definitions.specs.Characters.{is_digit};
 ghost use Rattle.definitions.specs.Reading.{Reads, span};
-ghost use Rattle.definitions.specs.SheetCharacters.{number_after};
 ghost use Rattle.css_tokens.specs.Numbers.{sign_at, digits_at, saturated, fraction_at, exponent_at, number_end, after_fraction, after_digits, number_at};
 ghost use Rattle.css_tokens.specs.Counting.{counted};
 
@@ -32,7 +32,7 @@ fn sign(text: &str) -> (bool, &str)
 
 /// The number of the digits at the front, and the text after them.
 fn digit_run(text: &str) -> (u64, &str)
-    ensures number { result.0 ≡ min (number_after 10 0 (span is_digit (chars text.now)).0) (2 ^ 64 - 1) }
+    ensures number { result.0 ≡ min (digits_value 10 (span is_digit (chars text.now)).0) (2 ^ 64 - 1) }
     ensures rest { chars result.1.now ≡ (span is_digit (chars text.now)).1 }
     ensures text { IsUtf8 result.1.now }
 {
@@ -54,7 +54,11 @@ fn digits(text: &str) -> Option<(u64, &str)>
     ensures text { IfSome result (λ x. IsUtf8 x.1.now) }
 {
     let (first, _) = first_char(text)?;
-    if is_digit(first) { Some(digit_run(text)) } else { None }
+    if is_digit(first) {
+        Some(digit_run(text))
+    } else {
+        None
+    }
 }
 
 /// The nearest count.

@@ -6,7 +6,9 @@ ghost use Rattle.definitions.specs.Reading.{Reads, run_at};
 ghost use Rattle.definitions.specs.SheetCharacters.{is_non_printable};
 ghost use Rattle.css_tokens.specs.Urls.{is_url_character, url_character_at, bad_url_character_at, past_bad_url, url_end, url_at, begins_quote, function_of, named_of, named_at, at_keyword_at};
 
-use crate::characters::{begins, first_char, is_blank, is_quote, past_blanks, past_character, past_one};
+use crate::characters::{
+    begins, first_char, is_blank, is_quote, past_blanks, past_character, past_one,
+};
 use crate::identifiers::{escape, identifier};
 use crate::token::TokenKind;
 use crate::words::is_word;

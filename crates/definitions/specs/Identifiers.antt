@@ -1,9 +1,10 @@
 -- Escapes and identifiers of sheets: CSS Syntax 3, 4.3.7 to 4.3.9 and 4.3.11.
 use Rattle.std.specs.Prelude.{ℕ, Bool, true, false, ◌&&◌, ◌||◌, not, ◌==◌, nat_le, if◌then◌else◌, List, [], ◌∷◌, Option, Some, None}
-use Rattle.definitions.specs.Characters.{is_between, is_blank}
+use Rattle.std.specs.Str.Parse.{digits_value}
+use Rattle.definitions.specs.Characters.{is_between, is_blank, is_hexadecimal_digit}
 use Rattle.definitions.specs.Punctuation.{line_feed, hyphen_minus, reverse_solidus, replacement_character}
 use Rattle.definitions.specs.Reading.{begins, span_of, run_at}
-use Rattle.definitions.specs.SheetCharacters.{is_ident_start, is_ident_character, is_hex_digit, number_after}
+use Rattle.definitions.specs.SheetCharacters.{is_ident_start, is_ident_character}
 
 -- 4.3.7: zero, a surrogate and what is above the greatest code point are U+FFFD
 abbrev pub character_of : ℕ → ℕ
@@ -15,7 +16,7 @@ past_blank [] = []
 past_blank (first ∷ rest) = if is_blank first then rest else first ∷ rest
 
 abbrev pub hex_escape : List ℕ × List ℕ → ℕ × List ℕ
-hex_escape digits = (character_of (number_after 16 0 digits.0), past_blank digits.1)
+hex_escape digits = (character_of (digits_value 16 digits.0), past_blank digits.1)
 
 -- 4.3.7 and 4.3.8: the character that is escaped by a `\` before these characters. There is none
 -- before a line feed. Up to six hexadecimal digits are its number; the end of the text is U+FFFD.
@@ -23,7 +24,7 @@ unfoldable pub escape_at : List ℕ → Option (ℕ × List ℕ)
 escape_at [] = Some (replacement_character, [])
 escape_at (first ∷ rest) =
     if first == line_feed then None
-    else (if is_hex_digit first then Some (hex_escape (span_of 6 is_hex_digit (first ∷ rest))) else Some (first, rest))
+    else (if is_hexadecimal_digit first then Some (hex_escape (span_of 6 is_hexadecimal_digit (first ∷ rest))) else Some (first, rest))
 
 -- 4.3.8: a `\` before these characters begins an escape
 abbrev pub is_escape : List ℕ → Bool

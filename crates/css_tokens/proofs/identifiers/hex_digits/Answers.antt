@@ -1,14 +1,14 @@
 use Rattle.std.proofs.Common.{◌≡◌, ℕ, List, ◌∷◌, ◌^◌, ◌<◌, ◌-◌, ◌≤◌, min, Bool, true, false, ap, sym, ◌∙◌, refl, arith}
 use Rattle.std.specs.Str.{chars}
-use Rattle.definitions.specs.SheetCharacters.{is_hex_digit}
+use Rattle.definitions.specs.Characters.{is_hexadecimal_digit}
 use Rattle.css_tokens.proofs.Digits.{hex_more, hex_end}
 use Rattle.css_tokens.proofs.identifiers.hex_digits.Goals as goal
-use Rattle.css_tokens.proofs.identifiers.hex_digits.Goals.{else-digits-test, then-digits-test+in_default, then-digits-test+in-Some+then-not-is_hex_digit}
+use Rattle.css_tokens.proofs.identifiers.hex_digits.Goals.{else-digits-test, then-digits-test+in_default, then-digits-test+in-Some+then-not-is_hexadecimal_digit}
 
 pub digits-preserved : goal.digits-preserved
 digits-preserved c = record {
   utf8 = c.in-Some.ensures.text;
-  counts = hex_more _ _ _ _ _ c.in-Some.first _ _ c.digits.invariant.counts (omega arith) c.in-Some.ensures.chars (sym c.is_hex_digit.ensures ∙ c.if-not-is_hex_digit.false)
+  counts = hex_more _ _ _ _ _ c.in-Some.first _ _ c.digits.invariant.counts (omega arith) c.in-Some.ensures.chars (sym c.is_hexadecimal_digit.ensures ∙ c.if-not-is_hexadecimal_digit.false)
       (c.saturating_add-number.ensures ∙ rw (c.saturating_mul.ensures, c.digit_value.ensures) refl);
 }
 
@@ -22,7 +22,7 @@ returns-clause-number c =
     elim c.digits-test.branch [
       | else-digits-test w ↦ absurd (omega arith)
       | then-digits-test+in_default w ↦ absurd (let h = w.in_default.ensures.chars in cc)
-      | then-digits-test+in-Some+then-not-is_hex_digit w ↦ (let same = head_is _ _ _ _ _ e w.in-Some.ensures.chars in rw same (sym w.is_hex_digit.ensures ∙ w.if-not-is_hex_digit.true))
+      | then-digits-test+in-Some+then-not-is_hexadecimal_digit w ↦ (let same = head_is _ _ _ _ _ e w.in-Some.ensures.chars in rw same (sym w.is_hexadecimal_digit.ensures ∙ w.if-not-is_hexadecimal_digit.true))
     ])).0
 
 pub returns-clause-rest : goal.returns-clause-rest
@@ -31,5 +31,5 @@ returns-clause-rest c =
     elim c.digits-test.branch [
       | else-digits-test w ↦ absurd (omega arith)
       | then-digits-test+in_default w ↦ absurd (let h = w.in_default.ensures.chars in cc)
-      | then-digits-test+in-Some+then-not-is_hex_digit w ↦ (let same = head_is _ _ _ _ _ e w.in-Some.ensures.chars in rw same (sym w.is_hex_digit.ensures ∙ w.if-not-is_hex_digit.true))
+      | then-digits-test+in-Some+then-not-is_hexadecimal_digit w ↦ (let same = head_is _ _ _ _ _ e w.in-Some.ensures.chars in rw same (sym w.is_hexadecimal_digit.ensures ∙ w.if-not-is_hexadecimal_digit.true))
     ])).1
