@@ -1,19 +1,12 @@
--- Words that count in any ASCII case: CSS Values 4, 2.1 and 2.3, and Infra, 4.6 "ASCII case-insensitive match".
-use Rattle.std.specs.Prelude.{ℕ, ◌+◌, Bool, true, false, ◌&&◌, ◌==◌, nat_le, if◌then◌else◌, List, [], ◌∷◌}
+-- Words that count in any ASCII case: CSS Values 4, 2.1 and 2.3, and Infra, 4.7 "ASCII case-insensitive match".
+use Rattle.std.specs.Prelude.{ℕ, Bool, nat_lt, List}
 use Rattle.std.specs.List.{list_all}
-use Rattle.definitions.specs.Characters.{is_between}
+use Rattle.std.specs.Str.{str_eq_ignore_ascii_case}
 
--- ASCII lowercase
-abbrev pub lower : ℕ → ℕ
-lower c = if is_between 65 90 c then c + 32 else c
-
--- the two are the same word
+-- the text is this word, in any case
 abbrev pub is_word : List ℕ → List ℕ → Bool
-is_word [] [] = true
-is_word [] (d ∷ ds) = false
-is_word (c ∷ cs) [] = false
-is_word (c ∷ cs) (d ∷ ds) = lower c == lower d && is_word cs ds
+is_word text word = str_eq_ignore_ascii_case text word
 
--- all the bytes are ASCII, so they are the characters
+-- the bytes are ASCII, so each is a character
 abbrev pub is_ascii : List ℕ → Bool
-is_ascii bytes = list_all (λ byte. nat_le byte 127) bytes
+is_ascii bytes = list_all (λ byte. nat_lt byte 128) bytes
