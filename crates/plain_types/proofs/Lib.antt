@@ -1,2 +1,5 @@
 pub mod RowLemmas
 pub mod ForestLemmas
+pub mod StyleNameLemmas
+pub mod TextLemmas
+pub mod PlaceLemmas

@@ -7,6 +7,7 @@
 //!   it in tree order, `specs/Rows.antt`.
 //! - Style sheets as they are read (`selector`, `declaration`, `counter_style`, `sheet`), and styles as
 //!   the cascade makes them (`style`, `content`), in the terms of the CSS modules.
+//! - Tables of finished counter styles (`table`), and the names under which they are kept (`style_name`).
 //! - Counters and boxes (`count`, `counter`, `box_id`, `box_kind`), and edits (`edit`).
 //!
 //! ```text
@@ -36,7 +37,9 @@ pub mod selector;
 pub mod selector_parts;
 pub mod sheet;
 pub mod style;
+pub mod style_name;
 pub mod style_ref;
+pub mod table;
 pub mod text;
 pub mod tree;
 pub mod tree_builder;

@@ -35,7 +35,7 @@ impl Duplicate for System {
     }
 }
 
-/// A counter style that `symbols()` writes in place (CSS Counter Styles 3, 5).
+/// A counter style that `symbols()` writes in place (CSS Counter Styles 3, 4).
 #[derive(Drop)]
 pub struct Anonymous {
     pub system: System,
