@@ -129,7 +129,7 @@ fn function(alloc: Global, name: Text, text: &str) -> Result<(TokenKind, &str), 
     ensures gives { IfOk result (λ x. function_of name (chars text.now) ≡ (x.0, chars x.1.now)) }
     ensures text { IfOk result (λ x. IsUtf8 x.1.now) }
 {
-    if is_word(&name, "url") && !begins_quote(past_blanks(text)) {
+    if is_word(name.as_str(), "url") && !begins_quote(past_blanks(text)) {
         url(alloc, text)
     } else {
         Ok((TokenKind::Function(name), text))
