@@ -1,0 +1,6 @@
+pub mod Contents
+pub mod Declared
+pub mod Described
+pub mod Lists
+pub mod Parts
+pub mod Styles
