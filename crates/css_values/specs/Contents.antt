@@ -45,32 +45,37 @@ quote_of kind = word_of kind then quote_word
 
 -- Attributes, counters and targets.
 
--- `attr( <name> )`, and where an address is wanted also `attr( <name> url )`; the name is any identifier
+-- `attr( <name>`: the name is any identifier
 abbrev pub attr_name_at : List TokenKind → Option (List ℕ × List TokenKind)
 attr_name_at kinds = past_function (codes "attr") kinds then word_at
 
+-- `attr( <name> )`
 unfoldable pub attr_at : List TokenKind → Option (List ℕ × List TokenKind)
 attr_at kinds = attr_name_at kinds then λ name. past_close name.1 then λ end. Some (name.0, end)
 
+-- `attr( <name> ) | attr( <name> url )`
 unfoldable pub attr_url_at : List TokenKind → Option (List ℕ × List TokenKind)
-attr_url_at kinds = attr_name_at kinds then λ name. past_keyword (codes "url") name.1 then λ rest. past_close rest then λ end. Some (name.0, end)
+attr_url_at kinds =
+    attr_at kinds
+    otherwise (attr_name_at kinds then λ name. past_keyword (codes "url") name.1 then λ rest. past_close rest then λ end. Some (name.0, end))
 
 abbrev pub url_token_of : TokenKind → Option (List ℕ)
 url_token_of (kind.Url value) = Some value
 url_token_of _ = None
 
+abbrev pub url_token_at : List TokenKind → Option (List ℕ × List TokenKind)
+url_token_at kinds = one_at url_token_of kinds
+
 -- `url( <string> )`
-unfoldable pub url_function_at : List TokenKind → Option (List ℕ × List TokenKind)
+abbrev pub url_function_at : List TokenKind → Option (List ℕ × List TokenKind)
 url_function_at kinds = past_function (codes "url") kinds then λ rest. string_at rest then λ string. past_close string.1 then λ end. Some (string.0, end)
 
--- `<string> | <url> | attr()`
+-- `<string> | <url>`
+unfoldable pub address_at : List TokenKind → Option (List ℕ × List TokenKind)
+address_at kinds = string_at kinds otherwise url_token_at kinds otherwise url_function_at kinds
+
 unfoldable pub url_at : List TokenKind → Option (Url × List TokenKind)
-url_at kinds =
-    (string_at kinds then λ string. Some (url.Given string.0, string.1))
-    otherwise (one_at url_token_of kinds then λ token. Some (url.Given token.0, token.1))
-    otherwise (url_function_at kinds then λ string. Some (url.Given string.0, string.1))
-    otherwise (attr_at kinds then λ name. Some (url.FromAttr name.0, name.1))
-    otherwise (attr_url_at kinds then λ name. Some (url.FromAttr name.0, name.1))
+url_at kinds = (address_at kinds then λ address. Some (url.Given address.0, address.1)) otherwise (attr_url_at kinds then λ name. Some (url.FromAttr name.0, name.1))
 
 -- a name, a comma and a string: what `counters()` and `target-counters()` have in common
 unfoldable pub name_between_at : List TokenKind → Option ((List ℕ × List ℕ) × List TokenKind)
@@ -88,16 +93,20 @@ counters_at kinds =
     past_function (codes "counters") kinds then λ rest. name_between_at rest then λ names. last_style_at names.1 then λ style.
     Some (item.Counters names.0.0 names.0.1 style.0, style.1)
 
+-- a target function of this name begins with an address
+abbrev pub target_at : List ℕ → List TokenKind → Option (Url × List TokenKind)
+target_at function kinds = past_function function kinds then url_at
+
 -- 5.1: `target-counter( <url> , <counter-name> [, <counter-style> ]? )`
 unfoldable pub target_counter_at : List TokenKind → Option (Item × List TokenKind)
 target_counter_at kinds =
-    past_function (codes "target-counter") kinds then λ rest. url_at rest then λ url. past_comma url.1 then λ next. name_at next then λ name. last_style_at name.1 then λ style.
+    target_at (codes "target-counter") kinds then λ url. past_comma url.1 then λ next. name_at next then λ name. last_style_at name.1 then λ style.
     Some (item.TargetCounter url.0 name.0 style.0, style.1)
 
 -- 5.2: `target-counters( <url> , <counter-name> , <string> [, <counter-style> ]? )`
 unfoldable pub target_counters_at : List TokenKind → Option (Item × List TokenKind)
 target_counters_at kinds =
-    past_function (codes "target-counters") kinds then λ rest. url_at rest then λ url. past_comma url.1 then λ next. name_between_at next then λ names. last_style_at names.1 then λ style.
+    target_at (codes "target-counters") kinds then λ url. past_comma url.1 then λ next. name_between_at next then λ names. last_style_at names.1 then λ style.
     Some (item.TargetCounters url.0 names.0.0 names.0.1 style.0, style.1)
 
 -- `content | before | after`
@@ -119,7 +128,7 @@ last_part_at kinds =
 -- 5.3: `target-text( <url> [, <part> ]? )`
 unfoldable pub target_text_at : List TokenKind → Option (Item × List TokenKind)
 target_text_at kinds =
-    past_function (codes "target-text") kinds then λ rest. url_at rest then λ url. last_part_at url.1 then λ part.
+    target_at (codes "target-text") kinds then λ url. last_part_at url.1 then λ part.
     Some (item.TargetText url.0 part.0, part.1)
 
 -- Content.

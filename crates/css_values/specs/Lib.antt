@@ -1,6 +1,6 @@
 pub mod Contents
-pub mod Declared
-pub mod Described
+pub mod Declarations
+pub mod Descriptors
 pub mod Lists
 pub mod Parts
 pub mod Styles

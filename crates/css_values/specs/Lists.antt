@@ -1,5 +1,6 @@
 -- The values of `list-style` and of the counter properties: CSS Lists 3, 3.5, 4.1 and 4.2.
 use Rattle.std.specs.Prelude.{ℕ, Bool, true, false, ◌||◌, ◌&&◌, ◌+◌, ◌==◌, nat_le, if◌then◌else◌, List, [], ◌∷◌, length, Option, Some, None, unwrap_or, codes, ℤ, pos}
+use Rattle.std.specs.List.{count_by}
 use Rattle.plain_types.specs.declared.style.CounterOp.{CounterOp}
 use Rattle.plain_types.specs.declared.style.ListType.{ListType}
 use Rattle.plain_types.specs.declared.style.ListType.TheVariants as list_type
@@ -9,8 +10,8 @@ use Rattle.definitions.specs.Reading.{◌then◌, ◌otherwise◌, run_at}
 use Rattle.css_tokens.specs.declared.token.TokenKind.{TokenKind}
 use Rattle.css_values.specs.Parts.{is_alone, past_keyword, past_function, past_close, name_at, integer_at, optional, all_of}
 use Rattle.css_values.specs.Styles.{list_type_at}
-use Rattle.css_values.specs.declared.list_style.Part.{Part}
-use Rattle.css_values.specs.declared.list_style.Part.TheVariants as part
+use Rattle.css_values.specs.declared.list_style.ListStylePart.{ListStylePart}
+use Rattle.css_values.specs.declared.list_style.ListStylePart.TheVariants as part
 
 -- `none`, or one or more
 abbrev pub none_or : {X : Type 0} → (List TokenKind → Option (X × List TokenKind)) → List TokenKind → Option (List X)
@@ -56,42 +57,42 @@ assigns kinds = none_or (counter_op_at (pos 0)) kinds
 
 -- 3.5, `<'list-style-position'> || <'list-style-image'> || <'list-style-type'>` (our own: no image but
 -- `none`). `inside` and `outside` are positions, and `none` is an image or a type.
-unfoldable pub part_at : List TokenKind → Option (Part × List TokenKind)
+unfoldable pub part_at : List TokenKind → Option (ListStylePart × List TokenKind)
 part_at kinds =
     (past_keyword (codes "inside") kinds then λ rest. Some (part.Position, rest))
     otherwise (past_keyword (codes "outside") kinds then λ rest. Some (part.Position, rest))
     otherwise (past_keyword (codes "none") kinds then λ rest. Some (part.Nothing, rest))
     otherwise (list_type_at kinds then λ type. Some (part.Type type.0, type.1))
 
-abbrev pub positions : List Part → ℕ
-positions [] = 0
-positions (part.Position ∷ parts) = positions parts + 1
-positions (part.Nothing ∷ parts) = positions parts
-positions (part.Type type ∷ parts) = positions parts
+abbrev pub is_position : ListStylePart → Bool
+is_position part.Position = true
+is_position _ = false
 
-abbrev pub nones : List Part → ℕ
-nones [] = 0
-nones (part.Position ∷ parts) = nones parts
-nones (part.Nothing ∷ parts) = nones parts + 1
-nones (part.Type type ∷ parts) = nones parts
+abbrev pub is_nothing : ListStylePart → Bool
+is_nothing part.Nothing = true
+is_nothing _ = false
 
-abbrev pub types : List Part → List ListType
-types [] = []
-types (part.Position ∷ parts) = types parts
-types (part.Nothing ∷ parts) = types parts
-types (part.Type type ∷ parts) = type ∷ types parts
+abbrev pub is_type : ListStylePart → Bool
+is_type (part.Type type) = true
+is_type _ = false
 
--- each stands there once at most, and a `none` is another one
-abbrev pub fits : List Part → Bool
-fits parts = nat_le (positions parts) 1 && (nat_le (length (types parts)) 1 && nat_le (length (types parts) + nones parts) 2)
+-- a position, an image and a type at most
+abbrev pub fits : List ListStylePart → Bool
+fits parts = nat_le (count_by is_position parts) 1 && (nat_le (count_by is_type parts) 1 && nat_le (count_by is_type parts + count_by is_nothing parts) 2)
 
--- the type that is given, else `none` where that stands there, and else `disc`
-abbrev pub type_set : List ListType → ℕ → ListType
-type_set [] count = if count == 0 then list_type.Style (style_ref.Name (codes "disc")) else list_type.Style style_ref.Nothing
-type_set (type ∷ types) count = type
+-- the type that stands there
+abbrev pub given_type : List ListStylePart → Option ListType
+given_type [] = None
+given_type (part.Position ∷ parts) = given_type parts
+given_type (part.Nothing ∷ parts) = given_type parts
+given_type (part.Type type ∷ parts) = Some type
 
-abbrev pub type_of : List Part → Option ListType
-type_of parts = if fits parts then Some (type_set (types parts) (nones parts)) else None
+-- without one `none`, where that stands there, and else `disc`
+abbrev pub default_type : ℕ → ListType
+default_type count = if count == 0 then list_type.Style (style_ref.Name (codes "disc")) else list_type.Style style_ref.Nothing
+
+abbrev pub type_of : List ListStylePart → Option ListType
+type_of parts = if fits parts then Some (unwrap_or (given_type parts) (default_type (count_by is_nothing parts))) else None
 
 unfoldable pub list_style : List TokenKind → Option ListType
 list_style kinds = all_of part_at kinds then type_of

@@ -1,7 +1,6 @@
 -- The parts of which values are made: CSS Values 4. Blanks may stand between all of them and mean
 -- nothing, so values are read from the kinds of the tokens without Blanks.
-use Rattle.std.specs.Prelude.{ℕ, Bool, true, false, ◌&&◌, not, ◌==◌, if◌then◌else◌, List, [], ◌∷◌, Option, Some, None, codes, ℤ, pos}
-use Rattle.std.specs.Int.{int_lt}
+use Rattle.std.specs.Prelude.{ℕ, Bool, true, false, ◌&&◌, not, ◌==◌, if◌then◌else◌, List, [], ◌∷◌, Option, Some, None, codes, ℤ, pos, int_lt}
 use Rattle.std.specs.List.{list_any}
 use Rattle.plain_types.specs.StyleNames.{style_name}
 use Rattle.definitions.specs.Punctuation.{comma, right_parenthesis}

@@ -25,6 +25,9 @@ symbols_type word =
 abbrev pub symbols_type_of : TokenKind → Option System
 symbols_type_of kind = word_of kind then symbols_type
 
+abbrev pub or_symbolic : Option System × List TokenKind → System × List TokenKind
+or_symbolic type = (unwrap_or type.0 system.Symbolic, type.1)
+
 -- how many strings a system needs
 abbrev pub least_symbols : System → ℕ
 least_symbols system.Numeric = 2
@@ -37,12 +40,16 @@ anonymous system symbols = if nat_le (least_symbols system) (length symbols) the
 abbrev pub strings_at : System → List (List ℕ) × List TokenKind → Option (Anonymous × List TokenKind)
 strings_at system strings = anonymous system strings.0 then λ style. past_close strings.1 then λ rest. Some (style, rest)
 
-abbrev pub arguments_at : Option System × List TokenKind → Option (Anonymous × List TokenKind)
-arguments_at type = strings_at (unwrap_or type.0 system.Symbolic) (run_at string_at type.1)
+-- the type that is given, and else `symbolic`
+abbrev pub symbols_system_at : List TokenKind → System × List TokenKind
+symbols_system_at kinds = or_symbolic (optional (one_at symbols_type_of kinds) kinds)
 
--- `symbols( <symbols-type>? <string>+ )`, the type being `symbolic` where none is given
+abbrev pub arguments_at : System × List TokenKind → Option (Anonymous × List TokenKind)
+arguments_at system = strings_at system.0 (run_at string_at system.1)
+
+-- `symbols( <symbols-type>? <string>+ )`
 unfoldable pub symbols_at : List TokenKind → Option (Anonymous × List TokenKind)
-symbols_at kinds = past_function (codes "symbols") kinds then λ rest. arguments_at (optional (one_at symbols_type_of rest) rest)
+symbols_at kinds = past_function (codes "symbols") kinds then λ rest. arguments_at (symbols_system_at rest)
 
 -- `<counter-style> | none`
 unfoldable pub style_at : List TokenKind → Option (StyleRef × List TokenKind)

@@ -1,6 +1,5 @@
 -- Descriptors of `@counter-style`: CSS Counter Styles 3, 3.
-use Rattle.std.specs.Prelude.{ℕ, Bool, true, false, ◌&&◌, not, if◌then◌else◌, List, [], ◌∷◌, Option, Some, None, unwrap_or, codes, ℤ, pos}
-use Rattle.std.specs.Int.{int_lt}
+use Rattle.std.specs.Prelude.{ℕ, Bool, true, false, ◌&&◌, not, if◌then◌else◌, List, [], ◌∷◌, Option, Some, None, unwrap_or, codes, ℤ, pos, int_lt}
 use Rattle.plain_types.specs.declared.counter_style.Bounds.{Bounds}
 use Rattle.plain_types.specs.declared.counter_style.Descriptor.{Descriptor}
 use Rattle.plain_types.specs.declared.counter_style.Descriptor.TheVariants as descriptor
@@ -10,7 +9,7 @@ use Rattle.plain_types.specs.declared.style_ref.System.TheVariants as system
 use Rattle.definitions.specs.Reading.{◌then◌, ◌otherwise◌}
 use Rattle.definitions.specs.Words.{is_word}
 use Rattle.css_tokens.specs.declared.token.TokenKind.{TokenKind}
-use Rattle.css_values.specs.Parts.{one_at, word_of, is_alone, past_keyword, integer_at, natural_at, symbol_at, style_name_at, optional, alone, all_of, comma_list}
+use Rattle.css_values.specs.Parts.{one_at, word_of, is_alone, past_keyword, integer_at, natural_at, symbol_at, style_name_at, optional, only, alone, all_of, comma_list}
 
 -- `cyclic | numeric | alphabetic | symbolic | additive`
 abbrev pub system_word : List ℕ → Option System
@@ -24,22 +23,32 @@ system_word word =
 abbrev pub system_of : TokenKind → Option System
 system_of kind = word_of kind then system_word
 
+abbrev pub plain_system_at : List TokenKind → Option (System × List TokenKind)
+plain_system_at kinds = one_at system_of kinds
+
 abbrev pub fixed_of : Option ℤ × List TokenKind → System × List TokenKind
 fixed_of first = (system.Fixed (unwrap_or first.0 (pos 1)), first.1)
 
 -- 3.1: also `[ fixed <integer>? ]` and `[ extends <counter-style-name> ]`
 unfoldable pub system_at : List TokenKind → Option (System × List TokenKind)
 system_at kinds =
-    one_at system_of kinds
+    plain_system_at kinds
     otherwise (past_keyword (codes "fixed") kinds then λ rest. Some (fixed_of (optional (integer_at rest) rest)))
     otherwise (past_keyword (codes "extends") kinds then λ rest. style_name_at rest then λ name. Some (system.Extends name.0, name.1))
 
-abbrev pub negative_of : List ℕ → Option (List ℕ) × List TokenKind → Descriptor × List TokenKind
-negative_of before after = (descriptor.Negative before (unwrap_or after.0 []), after.1)
+-- an empty text where no symbol stands there
+abbrev pub or_empty : Option (List ℕ) × List TokenKind → List ℕ × List TokenKind
+or_empty symbol = (unwrap_or symbol.0 [], symbol.1)
+
+abbrev pub optional_symbol_at : List TokenKind → List ℕ × List TokenKind
+optional_symbol_at kinds = or_empty (optional (symbol_at kinds) kinds)
+
+abbrev pub negative_of : List ℕ → List ℕ × List TokenKind → Option Descriptor
+negative_of before after = only (descriptor.Negative before after.0) after.1
 
 -- 3.2: `<symbol> <symbol>?`
-unfoldable pub negative_at : List TokenKind → Option (Descriptor × List TokenKind)
-negative_at kinds = symbol_at kinds then λ before. Some (negative_of before.0 (optional (symbol_at before.1) before.1))
+unfoldable pub negative_value : List TokenKind → Option Descriptor
+negative_value kinds = symbol_at kinds then λ before. negative_of before.0 (optional_symbol_at before.1)
 
 -- 3.5: `<integer> | infinite`
 abbrev pub bound_at : List TokenKind → Option (Option ℤ × List TokenKind)
@@ -91,16 +100,25 @@ additive_value kinds = comma_list weight_at kinds then λ weights. if are_fallin
 abbrev pub symbol_value : List TokenKind → Option (List ℕ)
 symbol_value kinds = alone (symbol_at kinds)
 
+abbrev pub system_value : List TokenKind → Option Descriptor
+system_value kinds = alone (system_at kinds) then λ system. Some (descriptor.System system)
+
+abbrev pub fallback_value : List TokenKind → Option Descriptor
+fallback_value kinds = alone (style_name_at kinds) then λ name. Some (descriptor.Fallback name)
+
+abbrev pub symbols_value : List TokenKind → Option Descriptor
+symbols_value kinds = all_of symbol_at kinds then λ symbols. Some (descriptor.Symbols symbols)
+
 -- what a descriptor of this name with these tokens says, if it is one that we know
 unfoldable pub described : List ℕ → List TokenKind → Option Descriptor
 described name kinds =
-    if is_word name (codes "system") then (alone (system_at kinds) then λ system. Some (descriptor.System system))
-    else (if is_word name (codes "negative") then alone (negative_at kinds)
+    if is_word name (codes "system") then system_value kinds
+    else (if is_word name (codes "negative") then negative_value kinds
     else (if is_word name (codes "prefix") then (symbol_value kinds then λ symbol. Some (descriptor.Prefix symbol))
     else (if is_word name (codes "suffix") then (symbol_value kinds then λ symbol. Some (descriptor.Suffix symbol))
     else (if is_word name (codes "range") then range_value kinds
     else (if is_word name (codes "pad") then pad_value kinds
-    else (if is_word name (codes "fallback") then (alone (style_name_at kinds) then λ name. Some (descriptor.Fallback name))
-    else (if is_word name (codes "symbols") then (all_of symbol_at kinds then λ symbols. Some (descriptor.Symbols symbols))
+    else (if is_word name (codes "fallback") then fallback_value kinds
+    else (if is_word name (codes "symbols") then symbols_value kinds
     else (if is_word name (codes "additive-symbols") then additive_value kinds
     else None))))))))

@@ -6,6 +6,7 @@ use Rattle.plain_types.specs.declared.declaration.Said.{Said}
 use Rattle.plain_types.specs.declared.declaration.Said.TheVariants as said
 use Rattle.plain_types.specs.declared.style.Display.{Display}
 use Rattle.plain_types.specs.declared.style.Display.TheVariants as display
+use Rattle.plain_types.specs.declared.style.ListType.{ListType}
 use Rattle.definitions.specs.Reading.{◌then◌, ◌otherwise◌}
 use Rattle.definitions.specs.Words.{is_word}
 use Rattle.css_tokens.specs.declared.token.TokenKind.{TokenKind}
@@ -33,7 +34,7 @@ display_of kind = word_of kind then display_word
 abbrev pub display_value : List TokenKind → Option Display
 display_value kinds = alone (one_at display_of kinds)
 
-abbrev pub list_type_value : List TokenKind → Option _
+abbrev pub list_type_value : List TokenKind → Option ListType
 list_type_value kinds = alone (list_type_at kinds)
 
 -- CSS Cascade 5, 7.3: every property has these keywords (our own: neither `revert` nor `revert-layer`)
