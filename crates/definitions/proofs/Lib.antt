@@ -1,3 +1,5 @@
 pub mod Chains
 pub mod DecimalLaws
 pub mod FallbackLaws
+pub mod Following
+pub mod Runs

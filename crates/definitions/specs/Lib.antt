@@ -4,11 +4,17 @@ pub mod Documents
 pub mod Dump
 pub mod Faults
 pub mod Fragments
+pub mod Identifiers
 pub mod Items
 pub mod Nodes
 pub mod PredefinedStyles
 pub mod Prepared
+pub mod Punctuation
+pub mod Reading
 pub mod Representation
+pub mod SheetCharacters
+pub mod SheetText
 pub mod Spelling
 pub mod Texts
 pub mod Thin
+pub mod Words

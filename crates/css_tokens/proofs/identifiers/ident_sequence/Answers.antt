@@ -1,0 +1,18 @@
+use Rattle.std.proofs.Common.{◌≡◌, ◌++◌, ◌∷◌, [], ap, sym, ◌∙◌, refl}
+use Rattle.std.specs.Str.{chars}
+use Rattle.definitions.proofs.Runs.{Goes-start, Goes-more, Goes-read}
+use Rattle.css_tokens.proofs.Shortening.{ident_shorter}
+use Rattle.definitions.specs.Identifiers.{ident_character_at}
+use Rattle.css_tokens.proofs.identifiers.ident_sequence.Goals as goal
+
+pub pieces-init : goal.pieces-init
+pieces-init c = record { utf8 = c.utf8.text; goes = rw c.new-name.ensures.empty (Goes-start _ (chars c.args.text.now)) }
+
+pub pieces-smaller : goal.pieces-smaller
+pieces-smaller c = ident_shorter (chars c.pieces.rest.now) _ c.in-Some.ensures.gives
+
+pub pieces-preserved : goal.pieces-preserved
+pieces-preserved c = record { utf8 = c.in-Some.ensures.text; goes = rw c.in_ok-push.ensures.ok (Goes-more _ _ _ _ c.in-Some.c _ c.pieces.invariant.goes c.in-Some.ensures.gives) }
+
+pub returns-clause-gives : goal.returns-clause-gives
+returns-clause-gives c = Goes-read ident_character_at ident_shorter _ _ _ c.pieces.invariant.goes c.in_default.ensures.gives

@@ -1,0 +1,13 @@
+use Rattle.std.proofs.Common.{length}
+use denote.Text.{Utf8}
+use denote.Shadow.{shadow}
+use Rattle.std.specs.Str.{chars}
+use Rattle.definitions.specs.Identifiers.{ident_character_at}
+use Rattle.definitions.proofs.Runs.{Goes}
+use Rattle.css_tokens.proofs.identifiers.ident_sequence.Given as goal
+
+abbrev pub invariant-pieces : goal.invariant-pieces
+invariant-pieces l = record { utf8 : shadow (Utf8 l.rest); goes : Goes ident_character_at (chars l.text) l.name (chars l.rest) }
+
+abbrev pub decreases-pieces : goal.decreases-pieces
+decreases-pieces l = length (chars l.rest)

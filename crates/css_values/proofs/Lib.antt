@@ -1,0 +1,4 @@
+pub mod Listing
+pub mod PartLists
+pub mod Shortening
+pub mod Words

@@ -1,0 +1,12 @@
+-- Words that count in any ASCII case: CSS Values 4, 2.1 and 2.3, and Infra, 4.7 "ASCII case-insensitive match".
+use Rattle.std.specs.Prelude.{ℕ, Bool, nat_lt, List}
+use Rattle.std.specs.List.{list_all}
+use Rattle.std.specs.Str.{str_eq_ignore_ascii_case}
+
+-- the text is this word, in any case
+abbrev pub is_word : List ℕ → List ℕ → Bool
+is_word text word = str_eq_ignore_ascii_case text word
+
+-- the bytes are ASCII, so each is a character
+abbrev pub is_ascii : List ℕ → Bool
+is_ascii bytes = list_all (λ byte. nat_lt byte 128) bytes
