@@ -1,0 +1,54 @@
+//! What the scripts of `bench/` time.
+//!
+//! The program does one piece of work and prints how large it was; a script runs it at two sizes and
+//! compares the times. Its words are the piece of work and a size.
+//!
+//! | Words | Work |
+//! |---|---|
+//! | `wide N tree`, `deep N tree` | builds the tree of an element with N children, or of N nested elements |
+//! | `.. from` | and makes an arena of it |
+//! | `.. to` | and makes a tree of the arena again |
+//! | `.. walk` | and goes over the arena's nodes by links, instead |
+//! | `.. precedes` | and asks a hundred times which of the first and the last node comes first, instead |
+//! | `tokens FILE` | reads the tokens of a style sheet |
+#![tactic(auto)]
+
+mod arena;
+mod sheet;
+
+use std::env;
+use std::process::ExitCode;
+
+/// What the words ask for, or nothing where they ask for nothing that is here.
+fn perform(rt: &HostRuntime, words: &[String]) -> Option<usize> {
+    match words {
+        [shape, size, work] => {
+            let size = size.as_str().parse::<usize>().ok()?;
+            arena::perform(rt.alloc(), shape.as_str(), size, work.as_str())
+        }
+        [work, file] if work.as_str() == "tokens" => sheet::count_tokens(rt, file.as_str()),
+        _ => None,
+    }
+}
+
+fn words(rt: &HostRuntime) -> Option<Vec<String>> {
+    let mut words = Vec::new(rt.alloc());
+    for word in env::args(rt).ok()?.skip(1) {
+        words.push(word).ok()?;
+    }
+    Some(words)
+}
+
+fn main(rt: HostRuntime) -> ExitCode {
+    let answer = match words(&rt) {
+        Some(words) => perform(&rt, words.as_slice()),
+        None => None,
+    };
+    match answer {
+        Some(size) => match println!(rt; "{size}") {
+            Ok(()) => ExitCode::SUCCESS,
+            Err(_) => ExitCode::FAILURE,
+        },
+        None => ExitCode::FAILURE,
+    }
+}
