@@ -179,7 +179,7 @@ same_first one other front rest others more s t e =
     let pairs : ◌≡◌ {A = Item × List ℕ} (one, rest) (other, more) = cc in
     (ap (λ (x : Item × List ℕ). x.0) pairs, ap (λ (x : Item × List ℕ). x.1) pairs)
 
--- Each item has a character, and the first item is read from its own characters alone.
+-- Each item has a character, so what is left behind it is shorter.
 
 item_filled : (item : Item) (front : List ℕ) → Spells front item → 0 < length front
 unfolding item_at

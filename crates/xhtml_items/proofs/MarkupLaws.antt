@@ -195,6 +195,7 @@ external_again (both_identifiers before between after {public} {system} some par
 
 -- Doctypes.
 
+-- the parts of a doctype, one behind the other
 joined : (cs word a front b name c identifier d after e rest : List ℕ) → cs ≡ word ++ a → a ≡ front ++ b → b ≡ name ++ c → c ≡ identifier ++ d → d ≡ after ++ e → e ≡ 62 ∷ rest
     → cs ≡ (word ++ front ++ name ++ identifier ++ after ++ 62 ∷ []) ++ rest
 joined cs word a front b name c identifier d after e rest p q r s t u = rw (p, q, r, s, t, u) (sym (simp append_assoc))

@@ -45,7 +45,7 @@ strip_word word text (Some x) small utf8 h =
     let parts : text ≡ word ++ x.now = h.1.1 ∙ ap (λ (t : List ℕ). word ++ t) (sym h.2) in
     ap (past_word word) (ap chars parts ∙ word_chars word x.now (IsAscii-from_test word small)) ∙ past_word_again word (chars x.now)
 
--- of two fronts, the second followed by a word of which the first text has none before, the second is no shorter
+-- a word that stands in a front, with the word behind it, stands there in the whole text
 seam : (text inside stop rest before after : List ℕ) → text ≡ inside ++ (stop ++ rest) → inside ++ stop ≡ before ++ (stop ++ after)
     → drop (length before) text ≡ stop ++ (after ++ rest)
 seam text inside stop rest before after parts e =
