@@ -1,12 +1,12 @@
 -- What the entries say of the tree that they hold.
-use Rattle.std.proofs.Common.{◌≡◌, ◌≢◌, ◌==◌, ◌<◌, ◌≤◌, ◌+◌, ℕ, suc, zero, Bool, true, false, cond, List, [], ◌∷◌, ◌++◌, length, map, Option, Some, None, IsSome, option_map, refl, sym, ap, subst, ◌∙◌, ◌⊎◌, inl, inr, arith, eqb-true, eq-eqb, length-append}
+use Rattle.std.proofs.Common.{◌≡◌, ◌≢◌, ◌==◌, ◌<◌, ◌≤◌, ◌+◌, ℕ, suc, zero, true, false, cond, List, [], ◌∷◌, ◌++◌, length, Option, Some, None, IsSome, option_map, refl, sym, ap, subst, ◌∙◌, inl, inr, arith, eqb-true, eq-eqb, length-append}
 use Rattle.std.proofs.lemmas.Bool.{eqb-false}
 use Rattle.std.proofs.lemmas.Option.{none-some, same_Some}
 use Rattle.forest.specs.Forest.{Forest, Empty, Tree, size, weigh, then_tree, IsOneTree}
-use Rattle.forest.specs.Keys.{Keyed, times, HasDistinctKeys, without_keys}
-use Rattle.forest.specs.Spots.{Spot, keyed, first_key, roots, root_keys, spot, spot_of, IsLive}
+use Rattle.forest.specs.Keys.{Keyed, times}
+use Rattle.forest.specs.Spots.{Spot, keyed, first_key, root_keys, spot, spot_of, IsLive}
 use Rattle.forest.specs.Changes.{put_children}
-use Rattle.forest.proofs.SpotLaws.{chosen, first_found, spot-counted, live-spot, weigh-spot}
+use Rattle.forest.proofs.SpotLaws.{chosen, first_found, live-spot, weigh-spot}
 use Rattle.forest.proofs.ChangeLaws.{weigh-put_children, weigh-then_tree}
 use Rattle.slab.specs.Slab.{Slab, get, slab_len}
 use Rattle.plain_types.specs.declared.node.Node.{Node}

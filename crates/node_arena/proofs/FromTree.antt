@@ -1,5 +1,5 @@
 -- A tree that is put into entries from its first node to its last.
-use Rattle.std.proofs.Common.{◌≡◌, ◌==◌, ◌<◌, ◌≤◌, ◌+◌, ◌-◌, ◌^◌, ℕ, zero, suc, true, false, cond, List, [], ◌∷◌, ◌++◌, length, map, take, get_or, Option, Some, None, option_map, slice_get, refl, sym, ap, ap₂, subst, ◌∙◌, arith, take_all, Bor}
+use Rattle.std.proofs.Common.{◌≡◌, ◌==◌, ◌<◌, ◌≤◌, ◌+◌, ◌^◌, ℕ, zero, suc, true, false, cond, List, [], ◌∷◌, ◌++◌, length, map, take, get_or, Some, None, option_map, slice_get, refl, sym, ap, ap₂, subst, ◌∙◌, arith, take_all, Bor}
 use Rattle.std.proofs.lemmas.List.{map-append, length-map, take_more, take-map}
 use Rattle.forest.specs.Forest.{Forest, Empty, Tree, size}
 use Rattle.forest.specs.Keys.{Keyed, without_keys}

@@ -1,5 +1,5 @@
 -- Nodes of one level, and tests of tree order.
-use Rattle.std.proofs.Common.{◌≡◌, ◌≢◌, ◌<◌, ◌+◌, ◌-◌, ◌↔◌, ◌⊎◌, inl, inr, min, ℕ, Bool, true, nat_lt, Option, Some, None, IsTrue, length, take, sym, ap, ap₂, refl, ◌∙◌, arith, ltb-true, lt-ltb}
+use Rattle.std.proofs.Common.{◌≡◌, ◌≢◌, ◌<◌, ◌-◌, ◌↔◌, ◌⊎◌, inl, inr, min, ℕ, Bool, nat_lt, Option, Some, None, IsTrue, length, take, sym, ap, ap₂, refl, ◌∙◌, arith, ltb-true, lt-ltb}
 use Rattle.std.proofs.lemmas.Bool.{cases_lt}
 use Rattle.forest.specs.Forest.{Forest}
 use Rattle.forest.specs.Keys.{Keyed, HasDistinctKeys}

@@ -1,5 +1,5 @@
 -- Attributes by name, and nodes as they are shown.
-use Rattle.std.proofs.Common.{◌≡◌, ◌<◌, ◌+◌, ℕ, Bool, true, false, cond, nat_eq, List, [], ◌∷◌, ◌++◌, length, take, drop, get_or, find, Option, Some, None, option_map, refl, sym, ap, subst, ◌∙◌, chars, encode_utf8_all, take-append-drop, append_assoc, arith, Decides}
+use Rattle.std.proofs.Common.{◌≡◌, ◌<◌, ◌+◌, ℕ, Bool, true, false, cond, nat_eq, List, [], ◌∷◌, ◌++◌, length, take, drop, get_or, find, Some, None, option_map, refl, sym, ap, ◌∙◌, chars, encode_utf8_all, take-append-drop, append_assoc, Decides}
 use Rattle.std.specs.Cmp.Lexicographic.{pointwise}
 use Rattle.std.specs.Str.{bytes_eq}
 use Rattle.std.proofs.lemmas.Bool.Decides.{same_from_decides}

@@ -1,6 +1,6 @@
 -- The rows of a tree, one after the other.
-use Rattle.std.proofs.Common.{◌≡◌, ◌<◌, ◌≤◌, ◌+◌, ◌-◌, ℕ, zero, suc, List, [], ◌∷◌, ◌++◌, length, map, take, drop, get_or, refl, sym, ap, subst, ◌∙◌, arith, append_assoc, append-nil, length-append, take-append-drop, drop-cons}
-use Rattle.std.proofs.lemmas.List.{map-append, length-map}
+use Rattle.std.proofs.Common.{◌≡◌, ◌<◌, ◌≤◌, ◌+◌, ℕ, zero, suc, List, [], ◌∷◌, ◌++◌, length, map, take, drop, get_or, refl, sym, ap, subst, ◌∙◌, arith, append_assoc, append-nil, length-append, take-append-drop, drop-cons}
+use Rattle.std.proofs.lemmas.List.{map-append}
 use Rattle.forest.specs.Forest.{Forest, Empty, Tree, size}
 use Rattle.forest.specs.Keys.{Keyed, without_keys}
 use Rattle.forest.proofs.StandLaws.{with_depths}

@@ -1,11 +1,10 @@
 -- A tree that is read from links, in tree order.
-use Rattle.std.proofs.Common.{◌≡◌, ◌==◌, ◌<◌, ◌≤◌, ◌+◌, ◌-◌, ◌*◌, IfSome, ℕ, zero, suc, Bool, true, false, cond, IsTrue, List, [], ◌∷◌, ◌++◌, length, map, Option, Some, None, option_map, refl, sym, ap, ap₂, subst, ◌∙◌, ◌⊎◌, inl, inr, arith, append_assoc, append-nil, length-append}
+use Rattle.std.proofs.Common.{◌≡◌, ◌==◌, ◌<◌, ◌+◌, ◌-◌, ◌*◌, IfSome, ℕ, Bool, true, false, IsTrue, List, [], ◌∷◌, ◌++◌, length, map, Option, Some, None, refl, sym, ap, ap₂, subst, ◌∙◌, inl, inr, arith, append_assoc, append-nil}
 use Rattle.std.proofs.lemmas.Option.{none-some, same_Some}
 use Rattle.std.proofs.lemmas.Bool.Decides.{nat_tests}
-use Rattle.std.proofs.lemmas.List.{map-append, length-map}
-use Rattle.forest.specs.Forest.{Forest, Empty, Tree, size, IsOneTree}
+use Rattle.forest.specs.Forest.{Forest, Empty, Tree}
 use Rattle.forest.specs.Keys.{Keyed, without_keys, HasDistinctKeys}
-use Rattle.forest.specs.Spots.{Spot, keyed, first_key, spot, spot_of, on_link, IsLive, IsLink, label_of, parent_of, children_of, after_of, first_child_of, next_sibling_of}
+use Rattle.forest.specs.Spots.{Spot, keyed, first_key, spot, spot_of, on_link, IsLive, label_of, parent_of, children_of, after_of, first_child_of, next_sibling_of}
 use Rattle.forest.specs.Paths.{route_of}
 use Rattle.forest.proofs.SpotLaws.{chosen, first_found, live-spot, the_spot, spot-child, spot-next, spot-root, on_first, on_next, on_key}
 use Rattle.forest.proofs.StandLaws.{with_depths, follow-root}
@@ -13,16 +12,14 @@ use Rattle.forest.proofs.PathLaws.{parent-live}
 use Rattle.forest.proofs.SiblingLaws.{root-alone}
 use Rattle.forest.proofs.WalkLaws.{after_tree, left-under, left-nothing}
 use Rattle.forest.proofs.LevelLaws.{child-level, root-level, route-some}
-use Rattle.plain_types.specs.Rows.{row, rows, forest_of}
+use Rattle.plain_types.specs.Rows.{row, rows}
 use Rattle.plain_types.specs.Tree.{IsTree, AreSound, HasDistinctNames}
 use Rattle.plain_types.specs.declared.attr.Attr.{Attr}
 use Rattle.plain_types.specs.declared.node.Node.{Node}
 use Rattle.plain_types.specs.declared.node.Node.TheVariants.{Element, Text}
-use Rattle.plain_types.specs.declared.row.Row.{Row}
 use Rattle.plain_types.specs.Building.{Building, accepts_node, is_inside, is_whole}
-use Rattle.plain_types.proofs.ForestLemmas.{forest_of-rows}
 use Rattle.node_arena.specs.Document.{IsKeyedDocument, HasElementRoot}
-use Rattle.node_arena.specs.Copies.{PutsNode, is_element, inside_after}
+use Rattle.node_arena.specs.Copies.{PutsNode, inside_after}
 use Rattle.node_arena.proofs.EntryLaws.{one-tree}
 use Rattle.node_arena.proofs.RowFacts.{row_of, rows-with_depths}
 

@@ -1,5 +1,5 @@
 -- Documents whose nodes have keys.
-use Rattle.std.specs.Prelude.{ℕ, ◌<◌, ◌^◌, refl}
+use Rattle.std.specs.Prelude.{◌<◌, ◌^◌, refl}
 use Rattle.std.specs.Coded.{Coded, code_by}
 use Rattle.forest.specs.Forest.{Forest, Empty, Tree, size, coded_forest}
 use Rattle.forest.specs.Keys.{Keyed, HasDistinctKeys, without_keys, coded_keyed}

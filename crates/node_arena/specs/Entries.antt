@@ -1,7 +1,7 @@
 -- How entries under keys stand for a keyed tree.
 use Rattle.std.specs.Prelude.{◌≡◌, ◌≢◌, ℕ, zero, suc, ◌+◌, ◌≤◌, List, [], ◌∷◌, ◌++◌, length, Option, Some, None, option_map}
 use Rattle.forest.specs.Forest.{Forest, Empty, Tree, size}
-use Rattle.forest.specs.Keys.{Keyed, HasDistinctKeys, without_keys}
+use Rattle.forest.specs.Keys.{Keyed, HasDistinctKeys}
 use Rattle.forest.specs.Spots.{keyed, root_keys, parent_of, index_of, children_of, label_of}
 use Rattle.slab.specs.Slab.{Slab, get, slab_len}
 use Rattle.plain_types.specs.declared.node.Node.{Node}

@@ -35,8 +35,6 @@ pub struct Arena {
 
 impl Model for Arena {
     ghost use Rattle.plain_types.specs.contracts.node.Node as node;
-    ghost use Rattle.plain_types.specs.Building.{accepts_node};
-    ghost use Rattle.node_arena.specs.Copies.{PutsNode};
     ghost use Rattle.node_arena.specs.Document.{Document, coded_document};
     ghost use Rattle.node_arena.specs.Entries.{tree_in, IsArena};
 
@@ -67,9 +65,8 @@ impl Arena {
         requires element { HasElementRoot tree.now }
         ensures tree { IfOk result (λ arena. without_keys arena.tree ≡ tree.now) }
     {
-        let mut nodes = Slab::new(alloc);
         let count = tree.len();
-        nodes.reserve(count)?;
+        let mut nodes = Slab::with_capacity(alloc, count)?;
         let root = nodes.insert(Entry {
             parent: None,
             position: 0,
@@ -125,7 +122,6 @@ impl Arena {
         requires accepts { IsTrue (accepts_node builder.old) }
         ensures puts { IfOk result (λ element. IfSome (label_of self.now.tree key) (λ node. PutsNode builder.old builder.new node element)) }
     {
-        let _root = self.root();
         match &self.entry(key).node {
             Node::Element { name, attrs } => {
                 builder.start(name.duplicate(alloc)?, attrs.duplicate(alloc)?)?;
@@ -139,6 +135,9 @@ impl Arena {
     }
 
     /// The key of the root element. Constant time.
+    ///
+    /// Its contract also tells what holds of every document. A method that begins with a call of it does
+    /// so for these facts.
     pub fn root(&self) -> usize
         ensures root { Some result ≡ first_key self.now.tree }
         ensures live { IsLive self.now.tree result }
@@ -149,7 +148,8 @@ impl Arena {
 
     fn entry(&self, key: usize) -> &Entry
         requires { IsLive self.now.tree key }
-        ensures { IsEntryOf self.now.tree key result.now }
+        ensures says { IsEntryOf self.now.tree key result.now }
+        ensures document { IsKeyedDocument self.now.tree }
     {
         &self.nodes[key]
     }
@@ -160,17 +160,15 @@ impl Arena {
         ensures link { result ≡ parent_of self.now.tree key }
         ensures live { IsLink self.now.tree result }
     {
-        let _root = self.root();
         self.entry(key).parent
     }
 
-    /// The child that has so many children before it. Constant time.
+    /// The child of this index: the one with so many siblings before it. Constant time.
     pub fn child(&self, key: usize, index: usize) -> Option<usize>
         requires { IsLive self.now.tree key }
         ensures link { result ≡ child_of self.now.tree key index }
         ensures live { IsLink self.now.tree result }
     {
-        let _root = self.root();
         self.entry(key).children.as_slice().get(index).copied()
     }
 
@@ -196,7 +194,6 @@ impl Arena {
         ensures link { result ≡ first_child_of self.now.tree key }
         ensures live { IsLink self.now.tree result }
     {
-        let _root = self.root();
         self.entry(key).children.as_slice().first().copied()
     }
 
@@ -206,7 +203,6 @@ impl Arena {
         ensures link { result ≡ last_child_of self.now.tree key }
         ensures live { IsLink self.now.tree result }
     {
-        let _root = self.root();
         self.entry(key).children.as_slice().last().copied()
     }
 
@@ -216,10 +212,9 @@ impl Arena {
         ensures link { result ≡ next_sibling_of self.now.tree key }
         ensures live { IsLink self.now.tree result }
     {
-        let _root = self.root();
-        let parent = self.parent(key)?;
-        let siblings = self.entry(parent).children.as_slice();
-        siblings.get(self.index_of(key) + 1).copied()
+        let entry = self.entry(key);
+        let siblings = self.entry(entry.parent?).children.as_slice();
+        siblings.get(entry.position + 1).copied()
     }
 
     /// The sibling before a node. Constant time.
@@ -228,12 +223,9 @@ impl Arena {
         ensures link { result ≡ previous_sibling_of self.now.tree key }
         ensures live { IsLink self.now.tree result }
     {
-        let _root = self.root();
-        let parent = self.parent(key)?;
-        match self.index_of(key) {
-            0 => None,
-            index => self.child(parent, index - 1),
-        }
+        let entry = self.entry(key);
+        let siblings = self.entry(entry.parent?).children.as_slice();
+        siblings.get(entry.position.checked_sub(1)?).copied()
     }
 
     /// The node at a path, if there is one. Time linear in the path's length.

@@ -295,3 +295,83 @@ fn paths_past_the_tree_lead_nowhere(rt: HostRuntime) -> Result<(), Fail> {
     }
     Ok(())
 }
+
+/// A root with so many elements in it: one in the other, or side by side.
+fn large_tree(alloc: Global, count: usize, nested: bool) -> Result<Option<Tree>, Memory> {
+    let mut builder = TreeBuilder::new(alloc);
+    builder.start(Text::from_str(alloc, "n")?, List::new(alloc))?;
+    for _element in 0..count {
+        if !builder.accepts_node() {
+            return Ok(None);
+        }
+        builder.start(Text::from_str(alloc, "n")?, List::new(alloc))?;
+        if !nested && builder.is_inside() {
+            builder.end();
+        }
+    }
+    for _element in 0..count {
+        if nested && builder.is_inside() {
+            builder.end();
+        }
+    }
+    if builder.is_inside() {
+        builder.end();
+    }
+    if builder.is_whole() {
+        Ok(Some(builder.finish()))
+    } else {
+        Ok(None)
+    }
+}
+
+/// How many nodes a walk in tree order meets behind the root, up to so many, and whether the root
+/// precedes the last and the last has a path of this length and this last position.
+fn is_walked(
+    alloc: Global,
+    arena: &Arena,
+    count: usize,
+    length: usize,
+    position: usize,
+) -> Result<bool, Memory> {
+    let mut at = arena.root();
+    let mut met = 0;
+    'walk: for step in 0..count {
+        match arena.next_in_order(at) {
+            Some(next) => at = next,
+            None => break,
+        }
+        met = step;
+    }
+    let path = arena.path_of(alloc, at)?;
+    Ok(
+        met == count.saturating_sub(1)
+            && arena.next_in_order(at).is_none()
+            && arena.precedes(arena.root(), at)
+            && !arena.precedes(at, arena.root())
+            && path.as_slice().len() == length
+            && path.as_slice().last().copied() == Some(position)
+            && arena.at(&path) == Some(at),
+    )
+}
+
+#[test]
+fn deep_and_wide_trees(rt: HostRuntime) -> Result<(), Fail> {
+    let alloc = rt.alloc();
+    for (count, nested, length, position) in [
+        (100_000, true, 100_000, 0),
+        (1_000_000, false, 1, 999_999),
+    ] {
+        let Some(tree) = large_tree(alloc, count, nested)? else {
+            assert!(rt; false, "{count}");
+            return Ok(());
+        };
+        assert!(rt; has_element_root(&tree));
+        let arena = Arena::from_tree(alloc, &tree)?;
+        assert!(rt;
+            is_walked(alloc, &arena, count, length, position)?,
+            "{count}"
+        );
+        assert_eq!(rt; arena.to_tree(alloc)?.len(), count + 1);
+    }
+    Ok(())
+}

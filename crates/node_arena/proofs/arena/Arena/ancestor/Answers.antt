@@ -1,4 +1,4 @@
-use Rattle.std.proofs.Common.{◌≡◌, ◌+◌, ◌-◌, ◌≤◌, length, take, sym, ap, ◌∙◌, arith, length-take}
+use Rattle.std.proofs.Common.{◌≡◌, ◌+◌, ◌-◌, length, take, sym, ap, ◌∙◌, arith, length-take}
 use Rattle.forest.specs.Paths.{route_of}
 use Rattle.forest.proofs.PathLaws.{parent-live}
 use Rattle.forest.proofs.LevelLaws.{root-level, step-up}

@@ -1,4 +1,4 @@
-use Rattle.std.proofs.Common.{◌≡◌, ◌<◌, ◌∙◌, sym, ap, subst, Some, None, take, List, ℕ, drop, [], ◌+◌, ◌++◌, ◌∷◌, get_or, length, take-append-drop}
+use Rattle.std.proofs.Common.{◌≡◌, ◌<◌, ◌∙◌, sym, ap, Some, None, take, drop, ◌+◌, get_or, length, take-append-drop}
 use Rattle.std.proofs.lemmas.List.{take_more}
 use Rattle.forest.specs.Paths.{key_at}
 use Rattle.forest.specs.Spots.{child_of}

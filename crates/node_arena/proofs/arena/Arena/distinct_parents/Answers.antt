@@ -1,8 +1,4 @@
-use Rattle.std.proofs.Common.{◌≡◌, ◌<◌, None, Some, sym, ap, ◌∙◌, subst, IfNone, arith, ℕ, Option, length}
-use Rattle.forest.specs.Spots.{parent_of}
-use Rattle.forest.specs.Paths.{route_of}
-use Rattle.forest.proofs.PathLaws.{parent-live}
-use Rattle.forest.proofs.LevelLaws.{route-some, root-level, child-level}
+use Rattle.std.proofs.Common.{sym, ◌∙◌}
 use Rattle.node_arena.proofs.LevelFacts.{both-none}
 use Rattle.node_arena.proofs.arena.Arena.distinct_parents.Goals as goal
 

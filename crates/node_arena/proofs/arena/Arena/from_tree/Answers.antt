@@ -1,4 +1,4 @@
-use Rattle.std.proofs.Common.{◌≡◌, ◌<◌, ◌≤◌, ◌+◌, ◌-◌, ◌∙◌, ◌++◌, ◌∷◌, [], sym, ap, subst, refl, length, get_or, arith}
+use Rattle.std.proofs.Common.{◌<◌, ◌≤◌, ◌+◌, ◌-◌, ◌∙◌, ◌++◌, ◌∷◌, [], sym, ap, subst, refl, length, get_or, arith}
 use Rattle.forest.specs.Keys.{without_keys}
 use Rattle.plain_types.specs.Rows.{row, rows}
 use Rattle.plain_types.specs.declared.row.Row.{Row}
@@ -17,7 +17,7 @@ loop-place-init c =
     let root = c.in_ok-root.root in
     subst (λ keys. IsSoFar c.insert.new.self root keys 1 tree)
     (sym (c.in_ok-push.ensures.items ∙ ap (λ front. front ++ root ∷ []) c.new-open.ensures.items))
-    (started c.reserve.new.self c.insert.new.self root _ tree c.in_ok-root.ensures.updates c.in_ok-root.ensures.len refl refl c.new.ensures.items (rows-some tree c.len-count.ensures.sound)
+    (started c.in_ok-nodes.nodes c.insert.new.self root _ tree c.in_ok-root.ensures.updates c.in_ok-root.ensures.len refl refl c.new.ensures.items (rows-some tree c.len-count.ensures.sound)
     (λ any. c.in_ok-copied_node.ensures.same ∙ shown-is _ _ (c.node.ensures.shown any)))
 
 pub overflow_sub-len : goal.overflow_sub-len

@@ -1,4 +1,4 @@
-use Rattle.std.proofs.Common.{sym, ap, ◌∙◌, Some, None, slice_get, arith}
+use Rattle.std.proofs.Common.{sym, ap, ◌∙◌, slice_get, arith}
 use Rattle.forest.proofs.PathLaws.{parent-live}
 use Rattle.forest.proofs.WalkLaws.{names, next-child, next-left, left-sibling, left-parent, left-nothing, shorter-route}
 use Rattle.node_arena.proofs.arena.Arena.next_in_order.Goals as goal

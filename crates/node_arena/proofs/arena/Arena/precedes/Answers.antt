@@ -1,4 +1,4 @@
-use Rattle.std.proofs.Common.{◌≡◌, sym, ap, ◌∙◌, arith}
+use Rattle.std.proofs.Common.{◌∙◌, arith}
 use Rattle.forest.specs.Order.{place_of}
 use Rattle.forest.proofs.LevelLaws.{route-some}
 use Rattle.node_arena.proofs.LevelFacts.{test-less, in-line, parted}

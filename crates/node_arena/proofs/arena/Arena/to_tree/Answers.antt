@@ -1,4 +1,4 @@
-use Rattle.std.proofs.Common.{◌≡◌, ◌<◌, sym, ap, ◌∙◌, Some, None, subst, true, false}
+use Rattle.std.proofs.Common.{◌<◌, sym, ap, ◌∙◌, subst}
 use Rattle.plain_types.specs.Rows.{forest_of}
 use Rattle.plain_types.proofs.ForestLemmas.{forest_of-rows}
 use Rattle.forest.specs.Keys.{without_keys}
