@@ -5,3 +5,5 @@ pub mod Wholes
 pub mod Beginnings
 pub mod Places
 pub mod Nodes
+pub mod Texts
+pub mod Keeps
