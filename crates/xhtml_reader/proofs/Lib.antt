@@ -7,3 +7,4 @@ pub mod Places
 pub mod Nodes
 pub mod Texts
 pub mod Keeps
+pub mod Advances

@@ -210,4 +210,54 @@ impl<'a> OpenTree<'a> {
             Token::Character(character) => self.add_character(character),
         }
     }
+    /// Adds what the text goes on with, an item or several plain characters, if it may come now, and
+    /// gives the text after it.
+    pub(crate) fn advance(&mut self, alloc: Global, text: &'a str) -> Result<Option<&'a str>, Memory>
+        ensures advances { IfOk result (λ after. Advances (kept self.old) (chars text.now) (chars_of after) (kept self.new)) }
+        ensures kind { self.new.kind ≡ self.old.kind }
+        ensures shorter { IfOk result (λ after. IfSome after (λ rest. length (chars rest.now) < length (chars text.now))) }
+        ensures text { IfOk result (λ after. IfSome after (λ rest. IsUtf8 rest.now)) }
+    {
+        if self.accepts_characters(true) {
+            let (characters, after) = split_while(Class::Plain, text);
+            if !characters.is_empty() {
+                self.characters.push_str(characters)?;
+                return Ok(Some(after));
+            }
+        }
+        match first_item(alloc, text) {
+            Err(memory) => Err(memory),
+            Ok(None) => Ok(None),
+            Ok(Some((token, after))) => {
+                if self.add(alloc, token)? {
+                    Ok(Some(after))
+                } else {
+                    Ok(None)
+                }
+            }
+        }
+    }
+
+    /// Puts the characters that wait into a text, where no node has come before.
+    fn end_text(&mut self, alloc: Global) -> Result<(), Memory>
+        ensures { OnOk result (self.new.builder ≡ ended (kept self.old)) }
+    {
+        if self.builder.accepts_node() && !self.builder.is_inside() {
+            self.put_text(alloc)?;
+        }
+        Ok(())
+    }
+
+    /// The tree, if the text may end now.
+    pub(crate) fn finish(mut self, alloc: Global) -> Result<Option<Tree>, Memory>
+        ensures { IfOk result (Finishes (kept self.entry)) }
+    {
+        self.end_text(alloc)?;
+        let OpenTree { builder, .. } = self;
+        if builder.is_whole() {
+            Ok(Some(builder.finish()))
+        } else {
+            Ok(None)
+        }
+    }
 }
