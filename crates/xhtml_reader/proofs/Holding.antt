@@ -122,8 +122,13 @@ start_steps items h item t e = first item e
 doctype_steps : (items : List Item) → HasDoctype items → (item : Item) (t : State) → step_prolog after_doctype item ≡ some_state t → Holds Document (items ++ item ∷ []) t
 doctype_steps items h item t e =
     elim (prolog_steps items after_doctype (rw h.4 (with_doctype h.0 h.1 h.2 h.3)) item t e) [
-      | inl w ↦ rw (← w.1) (outside (items ++ item ∷ []) after_doctype (h.0, h.1 ++ item ∷ [], h.2, AreMisc-push h.1 item h.3 w.0,
-          ap (λ (t : List Item). t ++ item ∷ []) h.4 ∙ append_assoc h.0 (doctype ∷ h.1) (item ∷ [])))
+      | inl w ↦ rw (← w.1) (outside (items ++ item ∷ []) after_doctype (
+        h.0,
+        h.1 ++ item ∷ [],
+        h.2,
+        AreMisc-push h.1 item h.3 w.0,
+        ap (λ (t : List Item). t ++ item ∷ []) h.4 ∙ append_assoc h.0 (doctype ∷ h.1) (item ∷ []),
+      ))
       | inr w ↦ w
     ]
 

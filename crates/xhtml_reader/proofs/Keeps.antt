@@ -49,7 +49,6 @@ pub not_false : (b : Bool) → not b ≡ false → b ≡ true
 not_false true e = refl
 not_false false e = sym e
 
-
 or_true : (a b : Bool) → b ≡ true → (a || b) ≡ true
 or_true true b e = refl
 or_true false b e = e
@@ -267,8 +266,7 @@ ends_inside all f frames here name front keeps names =
     let inside_was : all.built.inside ≡ length (f ∷ frames) = ap (λ (built : Building). built.inside) keeps.built_is in
     let inside_now : all.built.inside - 1 ≡ length frames = omega arith in
     let built_now : record (with_text all.built all.waiting) { inside = all.built.inside - 1 } ≡ built_of (rows_before frames ++ rows (length frames) (then_element f.before f.name f.attrs here)) (length frames)
-        = (λ i. built_of (closed_rows all f frames here keeps i).rows (inside_now i)) in
-    (
+    = (λ i. built_of (closed_rows all f frames here keeps i).rows (inside_now i)) in (
       closed_in frames (then_element f.before f.name f.attrs here),
       rw equal refl,
       closed_keeps all _ front frames (then_element f.before f.name f.attrs here) last.0 built_now (no_text_after f.before f.name f.attrs here) (not_empty_after f.before (Element f.name f.attrs) here),
@@ -326,6 +324,7 @@ more_inside all frames here cs keeps = record {
   names_are = keeps.names_are;
   built_is = keeps.built_is;
 }
+
 -- what the test of characters means
 taken : (all : Kept) (some : Bool) → is_inside all.built ≡ false → accepts_characters all some ≡ true → (is_fragment all.kind ≡ true) × ((not some || accepts_node all.built) ≡ true)
 taken all some none e = and_parts (is_fragment all.kind) (not some || accepts_node all.built) (or_second _ _ none e)
@@ -351,28 +350,25 @@ text_keeps all (c ∷ cs) e = (e, λ none. cc)
 -- an item that leaves characters, where they may stand
 pub added_left : (all : Kept) (s : State) (item : Item) (cs : List ℕ) (some : Bool) → left_by item ≡ Some cs → (some ≡ false → cs ≡ []) → Keeps all s → accepts_characters all some ≡ true → Added all.kind s item (waits_more all cs)
 added_left all at_start item cs some left empty keeps e =
-    let kind_is = as_fragment all.kind (taken all some (outside_is all _ _ _ _ keeps) e).0 in
-    (
+    let kind_is = as_fragment all.kind (taken all some (outside_is all _ _ _ _ keeps) e).0 in (
       outside_text cs,
       ap (λ (kind : Kind). step kind at_start item) kind_is ∙ left_start item cs left,
       text_keeps (waits_more all cs) cs (ap (λ (k : Kept). waits_more k cs) (keeps ∙ ap (λ (kind : Kind). kept_outside kind false [] []) kind_is)),
     )
 added_left all after_doctype item cs some left empty keeps e = absurd (
-  let kind_is = (taken all some (outside_is all _ _ _ _ keeps) e).0 in
-  let bad : true ≡ false = sym kind_is ∙ ap (λ (k : Kept). is_fragment k.kind) keeps in cc)
-added_left all (in_text ds) item cs some left empty keeps e =
-    (
-      outside_text (ds ++ cs),
-      ap (λ (k : Kept). step k.kind (in_text ds) item) keeps.0 ∙ ap (leave_text ds) left,
-      text_keeps (waits_more all cs) (ds ++ cs) (ap (λ (k : Kept). waits_more k cs) keeps.0),
-    )
+    let kind_is = (taken all some (outside_is all _ _ _ _ keeps) e).0 in
+    let bad : true ≡ false = sym kind_is ∙ ap (λ (k : Kept). is_fragment k.kind) keeps in cc)
+added_left all (in_text ds) item cs some left empty keeps e = (
+  outside_text (ds ++ cs),
+  ap (λ (k : Kept). step k.kind (in_text ds) item) keeps.0 ∙ ap (leave_text ds) left,
+  text_keeps (waits_more all cs) (ds ++ cs) (ap (λ (k : Kept). waits_more k cs) keeps.0),
+)
 added_left all (inside f frames here) item cs some left empty keeps e = (inside f frames (then_characters here cs), character_steps all.kind item cs left f frames here, more_inside all (f ∷ frames) here cs keeps)
 added_left all (at_end tree) item cs some left empty keeps e =
     let both = taken all some (outside_is all _ _ _ _ keeps.0) e in
     let kind_is = as_fragment all.kind both.0 in
     let no_node : accepts_node all.built ≡ false = ap (λ (k : Kept). accepts_node k.built) keeps.0 ∙ whole_rows (rows 0 tree) (rows_some tree keeps.1) in
-    let none : cs ≡ [] = empty (not_some some (accepts_node all.built) no_node both.1) in
-    (
+    let none : cs ≡ [] = empty (not_some some (accepts_node all.built) no_node both.1) in (
       at_end tree,
       ap (λ (kind : Kind). step kind (at_end tree) item) kind_is ∙ ap (leave_nothing (at_end tree)) (left ∙ ap (λ (t : List ℕ). Some t) none),
       subst (λ (k : Kept). Keeps k (at_end tree)) (sym (waits_none all) ∙ ap (waits_more all) (sym none)) keeps,
@@ -401,8 +397,8 @@ refused_left all at_start item cs some left full other keeps e = at_first all.ki
     at_first : (kind : Kind) → all.kind ≡ kind → step kind at_start item ≡ None
     at_first Document is = first item cs left (other (ap is_fragment is))
     at_first Fragment is = absurd (
-      let may : accepts_characters all some ≡ true = ap (λ (k : Kept). accepts_characters k some) (keeps ∙ ap (λ (k : Kind). kept_outside k false [] []) is) ∙ or_true (not some) true refl in
-      let bad : true ≡ false = sym may ∙ e in cc)
+        let may : accepts_characters all some ≡ true = ap (λ (k : Kept). accepts_characters k some) (keeps ∙ ap (λ (k : Kind). kept_outside k false [] []) is) ∙ or_true (not some) true refl in
+        let bad : true ≡ false = sym may ∙ e in cc)
 refused_left all after_doctype item cs some left full other keeps e =
     ap (λ (k : Kept). step k.kind after_doctype item) keeps ∙ second item cs left (other (ap (λ (k : Kept). is_fragment k.kind) keeps))
   where
@@ -417,11 +413,11 @@ refused_left all after_doctype item cs some left full other keeps e =
     second (section ds) cs left plain = refl
     second (plain_character c) cs left plain = rw plain refl
 refused_left all (in_text ds) item cs some left full other keeps e = absurd (
-  let may : accepts_characters all some ≡ true = ap (λ (k : Kept). accepts_characters k some) keeps.0 ∙ or_true (not some) true refl in
-  let bad : true ≡ false = sym may ∙ e in cc)
+    let may : accepts_characters all some ≡ true = ap (λ (k : Kept). accepts_characters k some) keeps.0 ∙ or_true (not some) true refl in
+    let bad : true ≡ false = sym may ∙ e in cc)
 refused_left all (inside f frames here) item cs some left full other keeps e = absurd (
-  let may : accepts_characters all some ≡ true = or_first _ _ (inside_is all f frames here keeps) in
-  let bad : true ≡ false = sym may ∙ e in cc)
+    let may : accepts_characters all some ≡ true = or_first _ _ (inside_is all f frames here keeps) in
+    let bad : true ≡ false = sym may ∙ e in cc)
 refused_left all (at_end tree) item cs some left full other keeps e = at_last all.kind refl
   where
     at_last : (kind : Kind) → all.kind ≡ kind → step kind (at_end tree) item ≡ None
@@ -478,8 +474,7 @@ pub added_run : (cs : List ℕ) (all : Kept) (s : State) → Keeps all s → acc
 added_run [] all s keeps e = (s, refl, subst (λ (k : Kept). Keeps k s) (sym (waits_none all)) keeps)
 added_run (c ∷ cs) all s keeps e =
     let one = added_left all s (plain_character c) (c ∷ []) true refl (λ bad. absurd (let h = bad in cc)) keeps e in
-    let more = added_run cs (waits_more all (c ∷ [])) one.0 one.2 e in
-    (
+    let more = added_run cs (waits_more all (c ∷ [])) one.0 one.2 e in (
       more.0,
       ap (λ (o : Option State). run all.kind o (map plain_character cs)) one.1 ∙ more.1,
       subst (λ (k : Kept). Keeps k more.0) (ap (λ (t : List ℕ). record all { waiting = t }) (append_assoc all.waiting (c ∷ []) cs)) more.2,
@@ -502,16 +497,16 @@ added_doctype all after_doctype keeps e = absurd (let bad : true ≡ false = sym
 added_doctype all (in_text cs) keeps e = absurd (let bad : true ≡ false = sym (ap (λ (k : Kept). is_fragment k.kind) keeps.0) ∙ (doctype_parts all e).0 in cc)
 added_doctype all (inside f frames here) keeps e = absurd (let bad : true ≡ false = sym (inside_is all f frames here keeps) ∙ (doctype_parts all e).3 in cc)
 added_doctype all (at_end tree) keeps e = absurd (
-  let no_node : accepts_node all.built ≡ false = ap (λ (k : Kept). accepts_node k.built) keeps.0 ∙ whole_rows (rows 0 tree) (rows_some tree keeps.1) in
-  let bad : true ≡ false = sym (doctype_parts all e).2 ∙ no_node in cc)
+    let no_node : accepts_node all.built ≡ false = ap (λ (k : Kept). accepts_node k.built) keeps.0 ∙ whole_rows (rows 0 tree) (rows_some tree keeps.1) in
+    let bad : true ≡ false = sym (doctype_parts all e).2 ∙ no_node in cc)
 
 pub refused_doctype : (all : Kept) (s : State) → Keeps all s → accepts_doctype all ≡ false → step all.kind s doctype ≡ None
 refused_doctype all at_start keeps e = first all.kind refl
   where
     first : (kind : Kind) → all.kind ≡ kind → step kind at_start doctype ≡ None
     first Document is = absurd (
-      let may : accepts_doctype all ≡ true = ap accepts_doctype (keeps ∙ ap (λ (k : Kind). kept_outside k false [] []) is) in
-      let bad : true ≡ false = sym may ∙ e in cc)
+        let may : accepts_doctype all ≡ true = ap accepts_doctype (keeps ∙ ap (λ (k : Kind). kept_outside k false [] []) is) in
+        let bad : true ≡ false = sym may ∙ e in cc)
     first Fragment is = refl
 refused_doctype all after_doctype keeps e = ap (λ (k : Kept). step k.kind after_doctype doctype) keeps
 refused_doctype all (in_text cs) keeps e = ap (λ (k : Kept). step k.kind (in_text cs) doctype) keeps.0

@@ -14,3 +14,4 @@ pub mod Lines
 pub mod Prepares
 pub mod Names
 pub mod Progress
+pub mod Examples

@@ -155,9 +155,9 @@ characters_step (in_text cs) nodes there item characters left few = (outside_tex
 characters_step (inside f frames here) nodes none item characters left few = absurd none
 characters_step (at_end tree) nodes there item [] left few = (at_end tree, rw left refl, there)
 characters_step (at_end tree) nodes there item (c ∷ cs) left few = absurd (
-  let root = there.1 in
-  let few_here : IsFew (then_some_characters (Tree (Element root.0 root.1) root.2 Empty) (c ∷ cs)) = rw (there.0 ∙ root.3) at few in
-  let bad = few_here in cc)
+    let root = there.1 in
+    let few_here : IsFew (then_some_characters (Tree (Element root.0 root.1) root.2 Empty) (c ∷ cs)) = rw (there.0 ∙ root.3) at few in
+    let bad = few_here in cc)
 
 content_leads : {items : List Item} {nodes : Forest Node} → IsContent items nodes → IsFew nodes → (s : State) × (run Fragment (Some at_start) items ≡ some_state s) × Leads s nodes
 content_leads no_content few = (at_start, refl, refl)
@@ -168,8 +168,7 @@ content_leads (and_characters {before} {nodes} d item characters left) few =
 content_leads (and_element {before} {one} {nodes} {children} {name} {attrs} d e) few =
     let none = none_before nodes name attrs children few in
     let q = content_leads d (rw none tt) in
-    let start : q.0 ≡ at_start = first q.0 nodes none q.2 in
-    (
+    let start : q.0 ≡ at_start = first q.0 nodes none q.2 in (
       at_end (Tree (Element name attrs) children Empty),
       run-append Fragment (Some at_start) before one ∙ ap (λ (o : Option State). run Fragment o one) (q.1 ∙ ap some_state start) ∙ root_runs Fragment e at_start refl refl,
       (rw none refl, (name, attrs, children, refl)),

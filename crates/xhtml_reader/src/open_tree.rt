@@ -66,8 +66,7 @@ impl<'a> OpenTree<'a> {
     fn accepts_characters(&self, are_some: bool) -> bool
         ensures { result ≡ accepts_characters (kept self.now) are_some }
     {
-        self.builder.is_inside()
-            || self.is_fragment() && (!are_some || self.builder.accepts_node())
+        self.builder.is_inside() || self.is_fragment() && (!are_some || self.builder.accepts_node())
     }
 
     /// Whether a doctype may come now.
@@ -212,7 +211,11 @@ impl<'a> OpenTree<'a> {
     }
     /// Adds what the text goes on with, an item or several plain characters, if it may come now, and
     /// gives the text after it.
-    pub(crate) fn advance(&mut self, alloc: Global, text: &'a str) -> Result<Option<&'a str>, Memory>
+    pub(crate) fn advance(
+        &mut self,
+        alloc: Global,
+        text: &'a str,
+    ) -> Result<Option<&'a str>, Memory>
         ensures advances { IfOk result (λ after. Advances (kept self.old) (chars text.now) (chars_of after) (kept self.new)) }
         ensures kind { self.new.kind ≡ self.old.kind }
         ensures shorter { IfOk result (λ after. IfSome after (λ rest. length (chars rest.now) < length (chars text.now))) }
