@@ -1,13 +1,16 @@
--- Where a text stops being a document or a fragment. The place of a fault is our own; that of the first
--- error is what XML 1.0, 1.2 "fatal error" leaves to the reader.
+-- Where a text stops being a document or a fragment. Which place that is, is our own.
 use Rattle.std.specs.Prelude.{◌≡◌, ℕ, ◌+◌, ◌≤◌, if◌then◌else◌, ◌==◌, List, [], ◌∷◌, ◌++◌, length, take}
 use Rattle.std.specs.List.{list_any}
 use Rattle.forest.specs.Forest.{Forest}
 use Rattle.plain_types.specs.declared.node.Node.{Node}
+use Rattle.definitions.specs.Documents.{IsDocument}
+use Rattle.definitions.specs.Fragments.{IsFragment}
 use Rattle.definitions.specs.Items.{Item, ArePieces}
 use Rattle.definitions.specs.Prepared.{prepared}
 use Rattle.definitions.specs.Spelling.{Spells}
 use Rattle.definitions.specs.Texts.{Grammar, HasTree}
+
+-- Lines.
 
 -- how many line feeds there are
 abbrev pub line_feeds : List ℕ → ℕ
@@ -19,8 +22,10 @@ abbrev pub last_line : List ℕ → List ℕ
 last_line [] = []
 last_line (first ∷ rest) = if list_any (λ c. c == 10) (first ∷ rest) then last_line rest else first ∷ rest
 
+-- Places.
+
 module _ (Allows : Grammar) where
-  -- The items of some text that has a tree begin with these.
+  -- the items of some text that the grammar allows begin with these
   pub record Begins (items : List Item) : Type 0 where
     pub text : List ℕ
     pub more : List Item
@@ -28,7 +33,7 @@ module _ (Allows : Grammar) where
     pub spelled : ArePieces Spells text (items ++ more)
     pub allowed : Allows (items ++ more) tree
 
-  -- the characters spell items with which those of some text that has a tree begin
+  -- the characters spell items with which those of some allowed text begin
   abbrev pub IsSound : List ℕ → Type 0
   IsSound characters = (items : List Item) × ArePieces Spells characters items × Begins items
 
@@ -38,10 +43,18 @@ module _ (Allows : Grammar) where
     pub sound : IsSound (take place characters)
     pub longest : (other : ℕ) → other ≤ length characters → IsSound (take other characters) → other ≤ place
 
-  -- The text has no tree, and its fault is on this line, from 1, and in this column, from 1.
-  pub record FailsAt (text : List ℕ) (line column : ℕ) : Type 0 where
-    pub none : (tree : Forest Node) → HasTree Allows (prepared text) tree → ⊥
+  -- The characters have no tree, and their fault is on this line and in this column, both from 1.
+  pub record FailsAt (characters : List ℕ) (line column : ℕ) : Type 0 where
+    pub none : (tree : Forest Node) → HasTree Allows characters tree → ⊥
     pub place : ℕ
-    pub fault : IsFaultPlace (prepared text) place
-    pub line_is : line ≡ 1 + line_feeds (take place (prepared text))
-    pub column_is : column ≡ 1 + length (last_line (take place (prepared text)))
+    pub fault : IsFaultPlace characters place
+    pub line_is : line ≡ 1 + line_feeds (take place characters)
+    pub column_is : column ≡ 1 + length (last_line (take place characters))
+
+-- the text is no document, and its fault is here
+abbrev pub FailsAsDocument : List ℕ → ℕ → ℕ → Type 0
+FailsAsDocument text line column = FailsAt IsDocument (prepared text) line column
+
+-- the text is no fragment, and its fault is here
+abbrev pub FailsAsFragment : List ℕ → ℕ → ℕ → Type 0
+FailsAsFragment text line column = FailsAt IsFragment (prepared text) line column

@@ -8,11 +8,11 @@ use Rattle.definitions.specs.Items.{Item, ArePieces}
 use Rattle.definitions.specs.Prepared.{prepared}
 use Rattle.definitions.specs.Spelling.{Spells}
 
--- which lists of items have which trees
+-- which lists of items are allowed, and of which trees
 abbrev pub Grammar : Type 1
 Grammar = List Item → Forest Node → Type 0
 
--- The characters spell items, and by the grammar these have this tree.
+-- The characters spell items that the grammar allows, with this tree.
 pub record HasTree (Allows : Grammar) (characters : List ℕ) (tree : Forest Node) : Type 0 where
   pub items : List Item
   pub spelled : ArePieces Spells characters items

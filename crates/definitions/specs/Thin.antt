@@ -1,18 +1,14 @@
--- Thin documents (our own): plain lists, without attributes, references and style sheets.
-use Rattle.std.specs.Prelude.{◌≡◌, ℕ, ◌+◌, Bool, true, false, ◌&&◌, ◌||◌, ◌==◌, not, IsTrue, List, [], ◌∷◌, ◌++◌, codes, map, filter, count_by, length}
+-- Thin trees (our own): plain lists, without attributes and style sheets.
+use Rattle.std.specs.Prelude.{ℕ, ◌+◌, Bool, true, false, ◌&&◌, ◌==◌, not, List, [], ◌∷◌, ◌++◌, codes, map, filter, count_by, length}
 use Rattle.std.specs.Fmt.{decimal}
-use Rattle.std.specs.List.{list_all, list_any}
+use Rattle.std.specs.List.{list_any}
 use Rattle.std.specs.Str.{bytes_eq}
 use Rattle.forest.specs.Forest.{Forest, Empty, Tree}
 use Rattle.forest.specs.Places.{Place, places}
 use Rattle.plain_types.specs.declared.box_kind.BoxKind.TheVariants.{Marker}
 use Rattle.plain_types.specs.declared.node.Node.{Node}
 use Rattle.plain_types.specs.declared.node.Node.TheVariants.{Element, Text}
-use Rattle.definitions.specs.Characters.{is_digit, is_lower_letter}
-pub use Rattle.definitions.specs.Characters.{is_plain}
-use Rattle.definitions.specs.Documents.{IsElement}
 use Rattle.definitions.specs.Dump.{Line}
-use Rattle.definitions.specs.Items.{Item, ArePieces, doctype, comment, instruction, start_tag, empty_tag, end_tag, reference, section, plain_character}
 
 -- Which trees (`IsTree`) are thin.
 
@@ -45,36 +41,7 @@ are_thin parent (Tree (Text characters) children after) = are_thin parent after
 abbrev pub is_thin : Forest Node → Bool
 is_thin tree = are_thin [] tree
 
--- Which texts are thin documents.
-
--- a lower-case letter, and then lower-case letters and digits
-abbrev pub is_plain_name : List ℕ → Bool
-is_plain_name [] = false
-is_plain_name (first ∷ rest) = is_lower_letter first && list_all (λ c. is_lower_letter c || is_digit c) rest
-
--- the characters spell this item plainly: a tag without attributes or blanks, or a character
-abbrev pub SpellsPlainly : List ℕ → Item → Type 0
-SpellsPlainly characters doctype = ⊥
-SpellsPlainly characters comment = ⊥
-SpellsPlainly characters instruction = ⊥
-SpellsPlainly characters (start_tag name attrs) = (attrs ≡ []) × IsTrue (is_plain_name name) × (characters ≡ 60 ∷ (name ++ 62 ∷ []))
-SpellsPlainly characters (empty_tag name attrs) = (attrs ≡ []) × IsTrue (is_plain_name name) × (characters ≡ 60 ∷ (name ++ 47 ∷ 62 ∷ []))
-SpellsPlainly characters (end_tag name) = IsTrue (is_plain_name name) × (characters ≡ 60 ∷ 47 ∷ (name ++ 62 ∷ []))
-SpellsPlainly characters (reference character) = ⊥
-SpellsPlainly characters (section inside) = ⊥
-SpellsPlainly characters (plain_character character) = IsTrue (is_plain character) × (characters ≡ character ∷ [])
-
--- The characters are one element, plainly spelled, and nothing else; its tree is this one, and thin.
-pub record IsThinDocument (characters : List ℕ) (tree : Forest Node) : Type 0 where
-  pub items : List Item
-  pub name : List ℕ
-  pub children : Forest Node
-  pub spelled : ArePieces SpellsPlainly characters items
-  pub element : IsElement items name [] children
-  pub root : tree ≡ Tree (Element name []) children Empty
-  pub thin : IsTrue (is_thin tree)
-
--- What is dumped of a thin document with an empty style sheet: its list markers, which are decimal.
+-- What is dumped of a thin tree with an empty style sheet: its list markers, which are decimal.
 
 abbrev pub is_element : Node → Bool
 is_element (Element name attrs) = true

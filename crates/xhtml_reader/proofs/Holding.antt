@@ -13,7 +13,7 @@ use Rattle.definitions.specs.Items.{Item, doctype, comment, instruction, start_t
 use Rattle.definitions.specs.Nodes.{then_element, then_characters}
 use Rattle.xhtml_reader.specs.declared.kind.Kind.{Kind}
 use Rattle.xhtml_reader.specs.declared.kind.Kind.TheVariants.{Document, Fragment}
-use Rattle.xhtml_reader.specs.Machine.{Frame, frame, State, at_start, after_doctype, in_text, inside, at_end, some_state, closed_in, with_text, leave_text, leave_nothing, step_prolog, step_doctype, step_node, step}
+use Rattle.xhtml_reader.specs.Machine.{Frame, frame, State, at_start, after_doctype, in_text, inside, at_end, some_state, closed_in, outside_text, leave_text, leave_nothing, step_prolog, step_doctype, step_node, step}
 use Rattle.xhtml_reader.proofs.Lists.{passed}
 
 -- the items may stand before the outermost element
@@ -122,8 +122,13 @@ start_steps items h item t e = first item e
 doctype_steps : (items : List Item) → HasDoctype items → (item : Item) (t : State) → step_prolog after_doctype item ≡ some_state t → Holds Document (items ++ item ∷ []) t
 doctype_steps items h item t e =
     elim (prolog_steps items after_doctype (rw h.4 (with_doctype h.0 h.1 h.2 h.3)) item t e) [
-      | inl w ↦ rw (← w.1) (outside (items ++ item ∷ []) after_doctype (h.0, h.1 ++ item ∷ [], h.2, AreMisc-push h.1 item h.3 w.0,
-          ap (λ (t : List Item). t ++ item ∷ []) h.4 ∙ append_assoc h.0 (doctype ∷ h.1) (item ∷ [])))
+      | inl w ↦ rw (← w.1) (outside (items ++ item ∷ []) after_doctype (
+        h.0,
+        h.1 ++ item ∷ [],
+        h.2,
+        AreMisc-push h.1 item h.3 w.0,
+        ap (λ (t : List Item). t ++ item ∷ []) h.4 ∙ append_assoc h.0 (doctype ∷ h.1) (item ∷ []),
+      ))
       | inr w ↦ w
     ]
 
@@ -136,7 +141,7 @@ document_steps items (at_end tree) d item t e = let p = passed (is_misc item) (a
 
 -- ---- an item more, round the node of a fragment
 
-text_top : (items : List Item) (characters : List ℕ) → IsContent items (then_characters Empty characters) → Top Fragment items (with_text characters)
+text_top : (items : List Item) (characters : List ℕ) → IsContent items (then_characters Empty characters) → Top Fragment items (outside_text characters)
 text_top items [] d = d
 text_top items (c ∷ cs) d = (d, λ none. cc)
 
@@ -148,19 +153,19 @@ node_steps items d (start_tag n a) t e = led Fragment _ _ t e (opened items d n 
 node_steps items d (empty_tag n a) t e = led Fragment _ _ t e (outside _ _ (root_top Fragment items d (empty_element n a)))
 node_steps items d (end_tag n) t e = absurd cc
 node_steps items d (reference c) t e = led Fragment _ _ t e (outside _ (in_text (c ∷ [])) (text_top _ (c ∷ []) (and_characters d (reference c) (c ∷ []) refl)))
-node_steps items d (section cs) t e = led Fragment _ _ t e (outside _ (with_text cs) (text_top _ cs (and_characters d (section cs) cs refl)))
+node_steps items d (section cs) t e = led Fragment _ _ t e (outside _ (outside_text cs) (text_top _ cs (and_characters d (section cs) cs refl)))
 node_steps items d (plain_character c) t e = led Fragment _ _ t e (outside _ (in_text (c ∷ [])) (text_top _ (c ∷ []) (and_characters d (plain_character c) (c ∷ []) refl)))
 
-more_text : (items : List Item) (characters more : List ℕ) → characters ≢ [] → IsContent items (then_characters (Tree (Text characters) Empty Empty) more) → Top Fragment items (with_text (characters ++ more))
+more_text : (items : List Item) (characters more : List ℕ) → characters ≢ [] → IsContent items (then_characters (Tree (Text characters) Empty Empty) more) → Top Fragment items (outside_text (characters ++ more))
 more_text items [] more some d = absurd (some refl)
-more_text items (c ∷ cs) [] some d = subst (λ (t : List ℕ). Top Fragment items (with_text t)) (sym (append-nil (c ∷ cs))) (d, some)
+more_text items (c ∷ cs) [] some d = subst (λ (t : List ℕ). Top Fragment items (outside_text t)) (sym (append-nil (c ∷ cs))) (d, some)
 more_text items (c ∷ cs) (x ∷ more) some d = (d, λ none. cc)
 
 text_steps : (items : List Item) (characters : List ℕ) → IsContent items (Tree (Text characters) Empty Empty) → characters ≢ [] → (item : Item) (o : Option (List ℕ)) → left_by item ≡ o → (t : State)
     → leave_text characters o ≡ some_state t → Holds Fragment (items ++ item ∷ []) t
 text_steps items characters d some item None left t e = absurd cc
 text_steps items characters d some item (Some more) left t e =
-    led Fragment _ _ t e (outside _ (with_text (characters ++ more)) (more_text _ characters more some (and_characters d item more left)))
+    led Fragment _ _ t e (outside _ (outside_text (characters ++ more)) (more_text _ characters more some (and_characters d item more left)))
 
 end_steps : (items : List Item) (tree : Forest Node) → IsContent items tree → IsRoot tree → (item : Item) (o : Option (List ℕ)) → left_by item ≡ o → (t : State)
     → leave_nothing (at_end tree) o ≡ some_state t → Holds Fragment (items ++ item ∷ []) t

@@ -5,3 +5,13 @@ pub mod Wholes
 pub mod Beginnings
 pub mod Places
 pub mod Nodes
+pub mod Texts
+pub mod Keeps
+pub mod Advances
+pub mod Words
+pub mod ThinTrees
+pub mod Lines
+pub mod Prepares
+pub mod Names
+pub mod Progress
+pub mod Examples

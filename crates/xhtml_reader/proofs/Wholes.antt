@@ -13,7 +13,7 @@ use Rattle.definitions.specs.Items.{Item, doctype, comment, instruction, start_t
 use Rattle.definitions.specs.Nodes.{then_element, joined_with, then_some_characters, then_characters}
 use Rattle.xhtml_reader.specs.declared.kind.Kind.{Kind}
 use Rattle.xhtml_reader.specs.declared.kind.Kind.TheVariants.{Document, Fragment}
-use Rattle.xhtml_reader.specs.Machine.{State, at_start, after_doctype, in_text, inside, at_end, some_state, with_text, leave_text, leave_nothing, IsFinal, allows, step, run}
+use Rattle.xhtml_reader.specs.Machine.{State, at_start, after_doctype, in_text, inside, at_end, some_state, outside_text, leave_text, leave_nothing, IsFinal, allows, step, run}
 use Rattle.xhtml_reader.proofs.Machine.{run-append, root_runs}
 
 -- a whole text leads to a state whose tree is this one
@@ -124,7 +124,7 @@ none_before (Tree node inner after) name attrs children few = absurd (not_none a
     not_none (Tree n i a) e = cc
 
 -- an item that leaves characters
-left_first : (item : Item) (characters : List ℕ) → left_by item ≡ Some characters → step Fragment at_start item ≡ some_state (with_text characters)
+left_first : (item : Item) (characters : List ℕ) → left_by item ≡ Some characters → step Fragment at_start item ≡ some_state (outside_text characters)
 left_first doctype cs e = absurd cc
 left_first comment cs e = let is : [] ≡ cs = cc in rw (← is) refl
 left_first instruction cs e = let is : [] ≡ cs = cc in rw (← is) refl
@@ -135,29 +135,29 @@ left_first (reference c) cs e = let is : c ∷ [] ≡ cs = cc in rw (← is) ref
 left_first (section ds) cs e = let is : ds ≡ cs = cc in rw (← is) refl
 left_first (plain_character c) cs e = let is : c ∷ [] ≡ cs = cc in rw (← is) refl
 
-pub left_start : (item : Item) (characters : List ℕ) → left_by item ≡ Some characters → step Fragment at_start item ≡ some_state (with_text characters)
+pub left_start : (item : Item) (characters : List ℕ) → left_by item ≡ Some characters → step Fragment at_start item ≡ some_state (outside_text characters)
 left_start item characters e = left_first item characters e
 
-begun : (characters : List ℕ) → Leads (with_text characters) (then_characters Empty characters)
+begun : (characters : List ℕ) → Leads (outside_text characters) (then_characters Empty characters)
 begun [] = refl
 begun (c ∷ cs) = (refl, λ none. cc)
 
-added : (characters more : List ℕ) → characters ≢ [] → Leads (with_text (characters ++ more)) (then_characters (Tree (Text characters) Empty Empty) more)
+added : (characters more : List ℕ) → characters ≢ [] → Leads (outside_text (characters ++ more)) (then_characters (Tree (Text characters) Empty Empty) more)
 added [] more some = absurd (some refl)
 added (c ∷ cs) [] some = (ap (λ (t : List ℕ). Tree (Text t) Empty Empty) (sym (append-nil (c ∷ cs))), λ none. some (sym (append-nil (c ∷ cs)) ∙ none))
 added (c ∷ cs) (x ∷ more) some = (refl, λ none. cc)
 
 characters_step : (s : State) (nodes : Forest Node) → Leads s nodes → (item : Item) (characters : List ℕ) → left_by item ≡ Some characters → IsFew (then_characters nodes characters)
     → (t : State) × (step Fragment s item ≡ some_state t) × Leads t (then_characters nodes characters)
-characters_step at_start nodes none item characters left few = (with_text characters, left_first item characters left, rw none (begun characters))
+characters_step at_start nodes none item characters left few = (outside_text characters, left_first item characters left, rw none (begun characters))
 characters_step after_doctype nodes none item characters left few = absurd none
-characters_step (in_text cs) nodes there item characters left few = (with_text (cs ++ characters), rw left refl, rw there.0 (added cs characters there.1))
+characters_step (in_text cs) nodes there item characters left few = (outside_text (cs ++ characters), rw left refl, rw there.0 (added cs characters there.1))
 characters_step (inside f frames here) nodes none item characters left few = absurd none
 characters_step (at_end tree) nodes there item [] left few = (at_end tree, rw left refl, there)
 characters_step (at_end tree) nodes there item (c ∷ cs) left few = absurd (
-  let root = there.1 in
-  let few_here : IsFew (then_some_characters (Tree (Element root.0 root.1) root.2 Empty) (c ∷ cs)) = rw (there.0 ∙ root.3) at few in
-  let bad = few_here in cc)
+    let root = there.1 in
+    let few_here : IsFew (then_some_characters (Tree (Element root.0 root.1) root.2 Empty) (c ∷ cs)) = rw (there.0 ∙ root.3) at few in
+    let bad = few_here in cc)
 
 content_leads : {items : List Item} {nodes : Forest Node} → IsContent items nodes → IsFew nodes → (s : State) × (run Fragment (Some at_start) items ≡ some_state s) × Leads s nodes
 content_leads no_content few = (at_start, refl, refl)
@@ -168,8 +168,7 @@ content_leads (and_characters {before} {nodes} d item characters left) few =
 content_leads (and_element {before} {one} {nodes} {children} {name} {attrs} d e) few =
     let none = none_before nodes name attrs children few in
     let q = content_leads d (rw none tt) in
-    let start : q.0 ≡ at_start = first q.0 nodes none q.2 in
-    (
+    let start : q.0 ≡ at_start = first q.0 nodes none q.2 in (
       at_end (Tree (Element name attrs) children Empty),
       run-append Fragment (Some at_start) before one ∙ ap (λ (o : Option State). run Fragment o one) (q.1 ∙ ap some_state start) ∙ root_runs Fragment e at_start refl refl,
       (rw none refl, (name, attrs, children, refl)),

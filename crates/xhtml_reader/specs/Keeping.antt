@@ -1,5 +1,5 @@
 -- What the reader keeps of a state.
-use Rattle.std.specs.Prelude.{◌≡◌, ◌≢◌, ℕ, Bool, true, false, ◌||◌, ◌&&◌, ◌==◌, not, MatchBool, MatchOption, Option, List, [], ◌∷◌, ◌++◌, length, map, Some, None, encode_utf8_all}
+use Rattle.std.specs.Prelude.{◌≡◌, ◌≢◌, ℕ, Bool, true, false, ◌||◌, ◌&&◌, ◌==◌, not, cond, MatchBool, MatchOption, Option, List, [], ◌∷◌, ◌++◌, length, map, Some, None, encode_utf8_all}
 use Rattle.std.specs.Borrow.{Bor}
 use Rattle.std.specs.Str.{chars}
 use Rattle.forest.specs.Forest.{Forest, Empty, Tree}
@@ -10,6 +10,9 @@ use Rattle.plain_types.specs.declared.node.Node.TheVariants.{Element, Text}
 use Rattle.plain_types.specs.declared.row.Row.{Row}
 use Rattle.definitions.specs.Items.{Item}
 use Rattle.definitions.specs.Nodes.{then_characters}
+use Rattle.plain_types.specs.Tree.{HasDistinctNames}
+use Rattle.xhtml_items.specs.declared.token.Token.{Token}
+use Rattle.xhtml_items.specs.declared.token.Token.TheVariants.{Doctype, Comment, Instruction, StartTag, EmptyTag, EndTag, Reference, Section, Character}
 use Rattle.xhtml_reader.specs.Machine.{Frame, State, at_start, after_doctype, in_text, inside, at_end, IsFinal, step}
 use Rattle.xhtml_reader.specs.Reading.{Leads, Stops}
 use Rattle.xhtml_reader.specs.declared.kind.Kind.{Kind}
@@ -77,6 +80,10 @@ accepts_characters all are_some = is_inside all.built || (is_fragment all.kind &
 abbrev pub accepts_doctype : Kept → Bool
 accepts_doctype all = not (is_fragment all.kind) && (not all.has_doctype && (accepts_node all.built && not (is_inside all.built)))
 
+-- the nodes once the characters that wait are a node of their own, where one may come
+abbrev pub ended : Kept → Building
+ended all = cond (accepts_node all.built && not (is_inside all.built)) (with_text all.built all.waiting) all.built
+
 pub record KeepsInside (all : Kept) (frames : List Frame) (here : Forest Node) : Type 0 where
   pub done : Forest Node
   pub here_is : here ≡ then_characters done all.waiting
@@ -95,6 +102,18 @@ Keeps all (at_end tree) = (all ≡ kept_outside all.kind all.has_doctype (rows 0
 abbrev pub Adds : Kept → Item → Bool → Kept → Type 0
 Adds old item fits new =
     (state : State) → Keeps old state → MatchBool fits ((next : State) × (step old.kind state item ≡ Some next) × Keeps new next) (step old.kind state item ≡ None)
+
+-- the attributes of a tag have distinct names
+abbrev pub HasSoundNames : Token → Type 0
+HasSoundNames Doctype = Unit {0}
+HasSoundNames Comment = Unit {0}
+HasSoundNames Instruction = Unit {0}
+HasSoundNames (StartTag name attrs) = HasDistinctNames attrs
+HasSoundNames (EmptyTag name attrs) = HasDistinctNames attrs
+HasSoundNames (EndTag name) = Unit {0}
+HasSoundNames (Reference character) = Unit {0}
+HasSoundNames (Section characters) = Unit {0}
+HasSoundNames (Character character) = Unit {0}
 
 abbrev pub chars_of : Option (Bor (List ℕ)) → Option (List ℕ)
 chars_of None = None

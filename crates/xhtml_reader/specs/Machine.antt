@@ -53,13 +53,13 @@ abbrev pub while_misc : Item → State → Option State
 while_misc item state = cond (is_misc item) (Some state) None
 
 -- the characters so far, where no element is open
-abbrev pub with_text : List ℕ → State
-with_text [] = at_start
-with_text (first ∷ rest) = in_text (first ∷ rest)
+abbrev pub outside_text : List ℕ → State
+outside_text [] = at_start
+outside_text (first ∷ rest) = in_text (first ∷ rest)
 
 abbrev pub leave_text : List ℕ → Option (List ℕ) → Option State
 leave_text characters None = None
-leave_text characters (Some more) = Some (with_text (characters ++ more))
+leave_text characters (Some more) = Some (outside_text (characters ++ more))
 
 abbrev pub leave_nothing : State → Option (List ℕ) → Option State
 leave_nothing state None = None
@@ -104,7 +104,7 @@ step_node (start_tag name attrs) = Some (opens name attrs)
 step_node (empty_tag name attrs) = Some (stands name attrs)
 step_node (end_tag name) = None
 step_node (reference character) = Some (in_text (character ∷ []))
-step_node (section characters) = Some (with_text characters)
+step_node (section characters) = Some (outside_text characters)
 step_node (plain_character character) = Some (in_text (character ∷ []))
 
 -- an item that stands in no element

@@ -1,0 +1,67 @@
+-- What the text goes on with.
+use Rattle.std.proofs.Common.{◌≡◌, ◌≢◌, ℕ, ◌+◌, ◌<◌, Bool, true, false, cond, List, [], ◌∷◌, ◌++◌, length, map, ◌⊎◌, inl, inr, Option, Some, None, refl, sym, ap, subst, ◌∙◌, arith}
+use Rattle.std.specs.List.{list_all}
+use Rattle.std.proofs.lemmas.Bool.{and_parts, cases_Bool}
+use Rattle.std.proofs.lemmas.List.{length-append}
+use Rattle.definitions.specs.Characters.{is_plain}
+use Rattle.definitions.specs.Items.{Item, ArePieces, plain_character}
+use Rattle.definitions.specs.Spelling.{Spells}
+use Rattle.xhtml_items.specs.Reading.{span, item_at}
+use Rattle.xhtml_items.specs.Tokens.{item_of}
+use Rattle.xhtml_items.specs.declared.token.Token.{Token}
+use Rattle.xhtml_items.specs.declared.token.Token.TheVariants.{Doctype, Comment, Instruction, StartTag, EmptyTag, EndTag, Reference, Section, Character}
+use Rattle.xhtml_items.proofs.ItemLaws.{item_takes, start_tag_distinct, empty_tag_distinct}
+use Rattle.xhtml_items.proofs.StepLaws.{span_takes}
+use Rattle.xhtml_reader.specs.Keeping.{Kept, Keeps, Adds, HasSoundNames, accepts_characters}
+use Rattle.xhtml_reader.specs.Machine.{State}
+use Rattle.xhtml_reader.specs.Reading.{Leads, Stops}
+use Rattle.xhtml_reader.proofs.Keeps.{added_run, waits_more}
+use Rattle.xhtml_reader.proofs.Places.{Leads-one}
+
+-- the parts of a span
+pub record Spanned (test : ℕ → Bool) (text front after : List ℕ) : Type 0 where
+  pub parts : text ≡ front ++ after
+  pub passing : list_all test front ≡ true
+
+pub spanned : (test : ℕ → Bool) (text front after : List ℕ) → span test text ≡ (front, after) → Spanned test text front after
+spanned test text front after e =
+    let takes = span_takes test text in
+    subst (λ (t : List ℕ × List ℕ). Spanned test text t.0 t.1) e (record { parts = takes.1; passing = takes.0 })
+
+pub after_some : (text front after : List ℕ) → text ≡ front ++ after → front ≢ [] → length after < length text
+after_some text [] after e some = absurd (some refl)
+after_some text (c ∷ cs) after e some = omega (arith, ap length e, length-append cs after)
+
+spelled_run : (front : List ℕ) → list_all is_plain front ≡ true → ArePieces Spells front (map plain_character front)
+spelled_run [] plain = refl
+spelled_run (c ∷ cs) plain = let p = and_parts (is_plain c) (list_all is_plain cs) plain in (c ∷ [], cs, (p.0, refl), spelled_run cs p.1, refl)
+
+-- a run of characters
+pub run_fits : (old new : Kept) (text front after : List ℕ) → Spanned is_plain text front after → accepts_characters old true ≡ true → new ≡ waits_more old front
+    → (s : State) → Keeps old s → (next : State) × Leads old.kind text s after next × Keeps new next
+run_fits old new text front after read may new_is s keeps =
+    let added = added_run front old s keeps may in (
+      added.0,
+      record { items = map plain_character front; front = front; spelled = spelled_run front read.passing; parts = read.parts; ran = added.1 },
+      subst (λ (all : Kept). Keeps all added.0) (sym new_is) added.2,
+    )
+
+pub item_fits : (old new : Kept) (text : List ℕ) (item : Item) (after : List ℕ) → item_at text ≡ Some (item, after) → Adds old item true new
+    → (s : State) → Keeps old s → (next : State) × Leads old.kind text s after next × Keeps new next
+item_fits old new text item after e adds s keeps = let added = adds s keeps in (added.0, Leads-one old.kind text s item after added.0 e added.1, added.2)
+
+pub item_stops : (old new : Kept) (text : List ℕ) (item : Item) (after : List ℕ) → item_at text ≡ Some (item, after) → Adds old item false new
+    → (s : State) → Keeps old s → Stops old.kind text s
+item_stops old new text item after e refuses s keeps = inr ((item, after), e, refuses s keeps)
+
+-- a tag that is read has distinct names
+pub sound_names : (text : List ℕ) (token : Token) (after : List ℕ) → item_at text ≡ Some (item_of token, after) → HasSoundNames token
+sound_names text Doctype after e = tt
+sound_names text Comment after e = tt
+sound_names text Instruction after e = tt
+sound_names text (StartTag name attrs) after e = let takes = item_takes text _ e in start_tag_distinct takes.0 _ attrs takes.1
+sound_names text (EmptyTag name attrs) after e = let takes = item_takes text _ e in empty_tag_distinct takes.0 _ attrs takes.1
+sound_names text (EndTag name) after e = tt
+sound_names text (Reference character) after e = tt
+sound_names text (Section characters) after e = tt
+sound_names text (Character character) after e = tt

@@ -1,0 +1,14 @@
+use Rattle.std.proofs.Common.{◌≡◌, ◌≢◌, ◌++◌, ◌∷◌, not, [], true, false, Bool, sym, ◌∙◌, refl, ap, eqb, length}
+use Rattle.std.specs.Str.{chars}
+use Rattle.definitions.specs.Items.{doctype, comment, instruction, reference, section, plain_character}
+use Rattle.xhtml_reader.specs.Keeping.{Kept, Keeps, kept}
+use Rattle.xhtml_reader.proofs.Keeps.{added_left, moved, waits_more}
+use Rattle.xhtml_reader.proofs.Texts.{empty_chars, full_chars}
+use Rattle.xhtml_reader.proofs.open_tree.OpenTree.add_reference.Goals as goal
+
+pub returns-clause-adds : goal.returns-clause-adds
+returns-clause-adds c = λ s keeps.
+    let old = kept c.args.self.now in
+    let cs = c.args.character ∷ [] in
+    moved old.kind s (reference c.args.character) (waits_more old cs) _ (ap (λ waiting. record old { waiting = waiting }) c.in_ok-push.ensures.ok)
+    (added_left old s (reference c.args.character) cs true refl (λ bad. absurd (let h = bad in cc)) keeps (sym c.accepts_characters.ensures ∙ c.if-not-accepts_characters.false))

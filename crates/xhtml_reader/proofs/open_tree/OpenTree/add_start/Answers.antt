@@ -1,0 +1,25 @@
+use Rattle.std.proofs.Common.{◌≡◌, ◌≢◌, ◌++◌, ◌∷◌, ◌+◌, ◌-◌, ◌||◌, ◌&&◌, not, [], true, false, Bool, sym, ◌∙◌, refl, ap, subst, length, take, eqb, Some}
+use Rattle.std.specs.Str.{chars, encode_utf8_all}
+use Rattle.std.proofs.lemmas.Str.{encodes-chars}
+use Rattle.plain_types.specs.Building.{Building}
+use Rattle.definitions.specs.Items.{doctype, comment, instruction, start_tag, empty_tag, end_tag, reference, section, plain_character}
+use Rattle.xhtml_reader.specs.Keeping.{Kept, Keeps, kept, name_bytes, with_text}
+use Rattle.xhtml_reader.proofs.Keeps.{added_start, kept_of, moved, names_pushed, refused_start, with_element}
+use Rattle.xhtml_reader.proofs.open_tree.OpenTree.add_start.Goals as goal
+
+pub returns-clause-adds : goal.returns-clause-adds
+returns-clause-adds c = λ s keeps.
+    let old = kept c.args.self.now in
+    let name = chars c.args.name.now in
+    let put = c.in_ok-put_text.ensures in
+    let started : c.start.new.self ≡ with_element (with_text old.built old.waiting) name c.args.attrs =
+    c.in_ok-start.ensures.ok ∙ (λ i. with_element (put.built i) (c.in_ok-from_str.ensures.characters i) c.args.attrs) in
+    moved old.kind s (start_tag name c.args.attrs) _ _
+    (λ i. record {
+      kind = put.kind i;
+      has_doctype = put.doctype i;
+      built = started i;
+      names = names_pushed c.put_text.new.self.names.items c.push.new.self.items c.args.self.now.names.items c.args.name c.in_ok-push.ensures.items put.names c.utf8.name i;
+      waiting = put.characters i;
+    })
+    (added_start old s name c.args.attrs keeps (sym c.accepts_element.ensures ∙ c.if-not-accepts_element.false))

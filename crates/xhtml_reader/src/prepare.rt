@@ -1,0 +1,67 @@
+//! Texts as their items are read from them.
+
+ghost use Rattle.std.specs.Prelude.{◌≡◌, IfOk, true};
+ghost use Rattle.std.specs.Str.{chars, IsUtf8};
+ghost use Rattle.definitions.specs.Prepared.{with_line_feeds, without_mark};
+ghost use Rattle.xhtml_reader.specs.LineEnds.{begins_with_line_feed, line_end_left};
+ghost use Rattle.std.specs.Option.{option_to_list};
+
+use plain_types::memory::Memory;
+use plain_types::text::Text;
+use std::alloc::Global;
+use xhtml_items::text::first_char;
+
+/// The text after a byte order mark.
+pub(crate) fn without_mark(text: &str) -> &str
+    ensures characters { chars result.now ≡ without_mark (chars text.now) }
+    ensures text { IsUtf8 result.now }
+{
+    match first_char(text) {
+        Some(('\u{feff}', rest)) => rest,
+        _ => text,
+    }
+}
+
+fn begins_with_line_feed(text: &str) -> bool
+    ensures { result ≡ begins_with_line_feed (chars text.now) }
+{
+    match first_char(text) {
+        Some((c, _)) => c == '\n',
+        None => false,
+    }
+}
+
+/// What a character before this text comes to.
+fn line_end_left(c: char, after: &str) -> Option<char>
+    ensures { option_to_list result ≡ line_end_left c (chars after.now) }
+{
+    if c != '\r' {
+        Some(c)
+    } else if begins_with_line_feed(after) {
+        None
+    } else {
+        Some('\n')
+    }
+}
+
+/// The text with line feeds for its line ends.
+pub(crate) fn with_line_feeds(alloc: Global, text: &str) -> Result<Text, Memory>
+    ensures { IfOk result (λ prepared. prepared ≡ with_line_feeds (chars text.now)) }
+{
+    let mut prepared = Text::new(alloc);
+    let mut rest = text;
+    while let Some((c, after)) = first_char(rest) {
+        if let Some(left) = line_end_left(c, after) {
+            prepared.push(left)?;
+        }
+        rest = after;
+    }
+    Ok(prepared)
+}
+
+/// Whether line ends are line feeds already.
+pub(crate) fn has_line_feeds_alone(text: &str) -> bool
+    ensures { result ≡ true → with_line_feeds (chars text.now) ≡ chars text.now }
+{
+    !text.contains('\r')
+}
