@@ -81,9 +81,12 @@ reversed_leaves k ks = end_then (past_function (codes "reversed") (k ∷ ks)) _ 
 
 pub reset_takes : TakesOne reset_at
 unfolding reset_at
-reset_takes = record { none = refl; leaves = λ k ks. leave_otherwise (reversed_at (k ∷ ks) then _) _
-    (leave_then (reversed_at (k ∷ ks)) _ (reversed_leaves k ks) (λ name p. left _ (Follows-trans p (integer_follows name.1))))
-    (leave_then (name_at (k ∷ ks)) _ (one_leaves name_of k ks) (λ name p. left _ (Follows-trans p (integer_follows name.1)))) }
+reset_takes = record {
+  none = refl;
+  leaves = λ k ks. leave_otherwise (reversed_at (k ∷ ks) then _) _
+      (leave_then (reversed_at (k ∷ ks)) _ (reversed_leaves k ks) (λ name p. left _ (Follows-trans p (integer_follows name.1))))
+      (leave_then (name_at (k ∷ ks)) _ (one_leaves name_of k ks) (λ name p. left _ (Follows-trans p (integer_follows name.1))));
+}
 
 pub counter_op_takes : (missing : ℤ) → TakesOne (counter_op_at missing)
 unfolding counter_op_at
@@ -126,11 +129,14 @@ list_type_leaves k ks = leave_otherwise (string_at (k ∷ ks) then _) _ (leave_t
 
 pub part_takes : TakesOne part_at
 unfolding part_at list_type_at style_at symbols_at
-part_takes = record { none = refl; leaves = λ k ks.
-    leave_otherwise (past_keyword (codes "inside") (k ∷ ks) then _) _ (end_then (past_keyword (codes "inside") (k ∷ ks)) _ (keyword_ends (codes "inside") k ks) (λ rest p. left _ p))
-    (leave_otherwise (past_keyword (codes "outside") (k ∷ ks) then _) _ (end_then (past_keyword (codes "outside") (k ∷ ks)) _ (keyword_ends (codes "outside") k ks) (λ rest p. left _ p))
-    (leave_otherwise (past_keyword (codes "none") (k ∷ ks) then _) _ (end_then (past_keyword (codes "none") (k ∷ ks)) _ (keyword_ends (codes "none") k ks) (λ rest p. left _ p))
-    (leave_then (list_type_at (k ∷ ks)) _ (list_type_leaves k ks) (λ type p. left _ p)))) }
+part_takes = record {
+  none = refl;
+  leaves = λ k ks.
+      leave_otherwise (past_keyword (codes "inside") (k ∷ ks) then _) _ (end_then (past_keyword (codes "inside") (k ∷ ks)) _ (keyword_ends (codes "inside") k ks) (λ rest p. left _ p))
+      (leave_otherwise (past_keyword (codes "outside") (k ∷ ks) then _) _ (end_then (past_keyword (codes "outside") (k ∷ ks)) _ (keyword_ends (codes "outside") k ks) (λ rest p. left _ p))
+      (leave_otherwise (past_keyword (codes "none") (k ∷ ks) then _) _ (end_then (past_keyword (codes "none") (k ∷ ks)) _ (keyword_ends (codes "none") k ks) (λ rest p. left _ p))
+      (leave_then (list_type_at (k ∷ ks)) _ (list_type_leaves k ks) (λ type p. left _ p))));
+}
 
 -- ---- quotes and content
 
@@ -202,14 +208,17 @@ target_text_leaves k ks = leave_then (target_at (codes "target-text") (k ∷ ks)
 
 pub item_takes : TakesOne item_at
 unfolding item_at attr_at counter_at counters_at target_counter_at target_counters_at target_text_at
-item_takes = record { none = refl; leaves = λ k ks.
-    leave_otherwise (string_at (k ∷ ks) then _) _ (leave_then (string_at (k ∷ ks)) _ (one_leaves string_of k ks) (λ string p. left _ p))
-    (leave_otherwise (one_at quote_of (k ∷ ks) then _) _ (leave_then (one_at quote_of (k ∷ ks)) _ (one_leaves quote_of k ks) (λ quote p. left _ p))
-    (leave_otherwise (attr_at (k ∷ ks) then _) _ (leave_then (attr_at (k ∷ ks)) _ (attr_leaves k ks) (λ name p. left _ p))
-    (leave_otherwise (counter_at (k ∷ ks)) _ (counter_leaves k ks)
-    (leave_otherwise (counters_at (k ∷ ks)) _ (counters_leaves k ks)
-    (leave_otherwise (target_counter_at (k ∷ ks)) _ (target_counter_leaves k ks)
-    (leave_otherwise (target_counters_at (k ∷ ks)) _ (target_counters_leaves k ks) (target_text_leaves k ks))))))) }
+item_takes = record {
+  none = refl;
+  leaves = λ k ks.
+      leave_otherwise (string_at (k ∷ ks) then _) _ (leave_then (string_at (k ∷ ks)) _ (one_leaves string_of k ks) (λ string p. left _ p))
+      (leave_otherwise (one_at quote_of (k ∷ ks) then _) _ (leave_then (one_at quote_of (k ∷ ks)) _ (one_leaves quote_of k ks) (λ quote p. left _ p))
+      (leave_otherwise (attr_at (k ∷ ks) then _) _ (leave_then (attr_at (k ∷ ks)) _ (attr_leaves k ks) (λ name p. left _ p))
+      (leave_otherwise (counter_at (k ∷ ks)) _ (counter_leaves k ks)
+      (leave_otherwise (counters_at (k ∷ ks)) _ (counters_leaves k ks)
+      (leave_otherwise (target_counter_at (k ∷ ks)) _ (target_counter_leaves k ks)
+      (leave_otherwise (target_counters_at (k ∷ ks)) _ (target_counters_leaves k ks) (target_text_leaves k ks)))))));
+}
 
 -- ---- descriptors
 

@@ -11,12 +11,20 @@ use plain_types::list::List;
 pub(crate) fn only<T: Drop>(value: T, rest: &[Token]) -> Option<T>
     ensures { result ≡ only value (solid rest.now) }
 {
-    if is_nothing_left(rest) { Some(value) } else { None }
+    if is_nothing_left(rest) {
+        Some(value)
+    } else {
+        None
+    }
 }
 
 /// One piece or more, where nothing is left after them.
 pub(crate) fn all<T: Drop>(pieces: List<T>, rest: &[Token]) -> Option<List<T>>
     ensures { result ≡ alone (some_of (pieces, solid rest.now)) }
 {
-    if pieces.is_empty() { None } else { only(pieces, rest) }
+    if pieces.is_empty() {
+        None
+    } else {
+        only(pieces, rest)
+    }
 }

@@ -77,7 +77,14 @@ fn counters(alloc: Global, tokens: &[Token]) -> Result<Option<(Item, &[Token])>,
     };
     let name = name.duplicate(alloc)?;
     let between = between.duplicate(alloc)?;
-    Ok(Some((Item::Counters { name, between, style }, end)))
+    Ok(Some((
+        Item::Counters {
+            name,
+            between,
+            style,
+        },
+        end,
+    )))
 }
 
 /// `<string> | <quote> | attr() | <counter> | <target>`

@@ -30,7 +30,11 @@ fn reversed(tokens: &[Token]) -> Option<(&Text, &[Token])>
 fn reset_value(reversed: bool, value: Option<Count>) -> Option<Count>
     ensures { result ≡ reset_value reversed value }
 {
-    if reversed { value } else { Some(value.unwrap_or(0)) }
+    if reversed {
+        value
+    } else {
+        Some(value.unwrap_or(0))
+    }
 }
 
 /// `[ <counter-name> | <reversed-counter-name> ] <integer>?`
@@ -42,7 +46,14 @@ fn reset(alloc: Global, tokens: &[Token]) -> Result<Option<(ResetOp, &[Token])>,
         let (value, rest) = optional_integer(rest);
         let name = name.duplicate(alloc)?;
         let value = reset_value(true, value);
-        return Ok(Some((ResetOp { name, reversed: true, value }, rest)));
+        return Ok(Some((
+            ResetOp {
+                name,
+                reversed: true,
+                value,
+            },
+            rest,
+        )));
     }
     let Some((name, rest)) = name(tokens) else {
         return Ok(None);
@@ -50,7 +61,14 @@ fn reset(alloc: Global, tokens: &[Token]) -> Result<Option<(ResetOp, &[Token])>,
     let (value, rest) = optional_integer(rest);
     let name = name.duplicate(alloc)?;
     let value = reset_value(false, value);
-    Ok(Some((ResetOp { name, reversed: false, value }, rest)))
+    Ok(Some((
+        ResetOp {
+            name,
+            reversed: false,
+            value,
+        },
+        rest,
+    )))
 }
 
 fn reset_run(alloc: Global, tokens: &[Token]) -> Result<(List<ResetOp>, &[Token]), Memory>
@@ -78,7 +96,11 @@ pub(crate) fn resets(alloc: Global, tokens: &[Token]) -> Result<Option<List<Rese
 
 /// `<counter-name> <integer>?`, this value being meant where no integer stands there
 #[tactic(auto, unfolding(crate::specs::Lists::counter_op_at))]
-fn counter_op(alloc: Global, missing: Count, tokens: &[Token]) -> Result<Option<(CounterOp, &[Token])>, Memory>
+fn counter_op(
+    alloc: Global,
+    missing: Count,
+    tokens: &[Token],
+) -> Result<Option<(CounterOp, &[Token])>, Memory>
     ensures { IfOk result (λ r. Reads (λ x. (x.0, solid x.1.now)) r (counter_op_at missing (solid tokens.now))) }
 {
     let Some((name, rest)) = name(tokens) else {
@@ -90,7 +112,11 @@ fn counter_op(alloc: Global, missing: Count, tokens: &[Token]) -> Result<Option<
     Ok(Some((CounterOp { name, value }, rest)))
 }
 
-fn counter_op_run(alloc: Global, missing: Count, tokens: &[Token]) -> Result<(List<CounterOp>, &[Token]), Memory>
+fn counter_op_run(
+    alloc: Global,
+    missing: Count,
+    tokens: &[Token],
+) -> Result<(List<CounterOp>, &[Token]), Memory>
     ensures { IfOk result (λ x. run_at (counter_op_at missing) (solid tokens.now) ≡ (x.0, solid x.1.now)) }
 {
     let mut ops = List::new(alloc);
@@ -103,7 +129,11 @@ fn counter_op_run(alloc: Global, missing: Count, tokens: &[Token]) -> Result<(Li
 }
 
 /// `[ <counter-name> <integer>? ]+ | none`
-pub(crate) fn counter_ops(alloc: Global, missing: Count, tokens: &[Token]) -> Result<Option<List<CounterOp>>, Memory>
+pub(crate) fn counter_ops(
+    alloc: Global,
+    missing: Count,
+    tokens: &[Token],
+) -> Result<Option<List<CounterOp>>, Memory>
     ensures { IfOk result (λ r. r ≡ none_or (counter_op_at missing) (solid tokens.now)) }
 {
     if is_alone("none", tokens) {

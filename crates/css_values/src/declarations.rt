@@ -109,7 +109,11 @@ fn said<T: Drop>(tokens: &[Token], value: Option<T>) -> Option<Said<T>>
 /// `None` exactly where the property is none of those that make generated texts, or where the value is
 /// none of its. Names and keywords count in any ASCII case. Time and memory are linear in the tokens.
 #[tactic(auto, unfolding(crate::specs::Declarations::declared))]
-pub fn read_declaration(alloc: Global, name: &str, tokens: &[Token]) -> Result<Option<Declaration>, Memory>
+pub fn read_declaration(
+    alloc: Global,
+    name: &str,
+    tokens: &[Token],
+) -> Result<Option<Declaration>, Memory>
     ensures declared { IfOk result (λ found. found ≡ declared (chars name.now) (solid tokens.now)) }
 {
     if is_word(name, "display") {

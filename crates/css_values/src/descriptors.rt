@@ -7,7 +7,9 @@ ghost use Rattle.css_values.specs.Parts.{solid, symbol_at, after_comma_at};
 ghost use Rattle.css_values.specs.Descriptors.{system_word, plain_system_at, system_at, optional_symbol_at, negative_value, bound_at, are_in_order, bounds_at, range_value, weight_at, pad_value, is_below, are_falling, additive_value, symbol_value, system_value, fallback_value, symbols_value, described};
 
 use crate::combining::{all, only};
-use crate::parts::{integer, is_alone, natural, optional_integer, past_comma, past_keyword, symbol, word};
+use crate::parts::{
+    integer, is_alone, natural, optional_integer, past_comma, past_keyword, symbol, word,
+};
 use crate::styles::named_style;
 use css_tokens::token::Token;
 use css_tokens::words::is_word;
@@ -129,7 +131,11 @@ fn bounds(tokens: &[Token]) -> Option<(Bounds, &[Token])>
 {
     let (low, rest) = bound(tokens)?;
     let (high, rest) = bound(rest)?;
-    if are_in_order(low, high) { Some((Bounds { low, high }, rest)) } else { None }
+    if are_in_order(low, high) {
+        Some((Bounds { low, high }, rest))
+    } else {
+        None
+    }
 }
 
 /// `, <bound> <bound>`
@@ -141,7 +147,11 @@ fn more_bounds(tokens: &[Token]) -> Option<(Bounds, &[Token])>
 }
 
 /// The first bounds, and those after commas.
-fn all_bounds(alloc: Global, first: Bounds, tokens: &[Token]) -> Result<(List<Bounds>, &[Token]), Memory>
+fn all_bounds(
+    alloc: Global,
+    first: Bounds,
+    tokens: &[Token],
+) -> Result<(List<Bounds>, &[Token]), Memory>
     ensures all { IfOk result (λ x. x.0 ≡ first ∷ (run_at (after_comma_at bounds_at) (solid tokens.now)).0) }
     ensures rest { IfOk result (λ x. solid x.1.now ≡ (run_at (after_comma_at bounds_at) (solid tokens.now)).1) }
 {
@@ -197,7 +207,13 @@ fn pad(alloc: Global, tokens: &[Token]) -> Result<Option<Descriptor>, Memory>
     ensures { IfOk result (λ r. r ≡ pad_value (solid tokens.now)) }
 {
     match weight(alloc, tokens)? {
-        Some((pad, rest)) => Ok(only(Descriptor::Pad { width: pad.weight, symbol: pad.symbol }, rest)),
+        Some((pad, rest)) => Ok(only(
+            Descriptor::Pad {
+                width: pad.weight,
+                symbol: pad.symbol,
+            },
+            rest,
+        )),
         None => Ok(None),
     }
 }
@@ -214,7 +230,11 @@ fn more_weights(alloc: Global, tokens: &[Token]) -> Result<Option<(Weight, &[Tok
 }
 
 /// The first tuple, and those after commas.
-fn all_weights(alloc: Global, first: Weight, tokens: &[Token]) -> Result<(List<Weight>, &[Token]), Memory>
+fn all_weights(
+    alloc: Global,
+    first: Weight,
+    tokens: &[Token],
+) -> Result<(List<Weight>, &[Token]), Memory>
     ensures all { IfOk result (λ x. x.0 ≡ first ∷ (run_at (after_comma_at weight_at) (solid tokens.now)).0) }
     ensures rest { IfOk result (λ x. solid x.1.now ≡ (run_at (after_comma_at weight_at) (solid tokens.now)).1) }
 {
@@ -311,7 +331,11 @@ fn symbols(alloc: Global, tokens: &[Token]) -> Result<Option<Descriptor>, Memory
 /// or where the value is none of its. Names and keywords count in any ASCII case; predefined names of
 /// styles become lower-case. Time and memory are linear in the tokens.
 #[tactic(auto, unfolding(crate::specs::Descriptors::described))]
-pub fn read_descriptor(alloc: Global, name: &str, tokens: &[Token]) -> Result<Option<Descriptor>, Memory>
+pub fn read_descriptor(
+    alloc: Global,
+    name: &str,
+    tokens: &[Token],
+) -> Result<Option<Descriptor>, Memory>
     ensures described { IfOk result (λ found. found ≡ described (chars name.now) (solid tokens.now)) }
 {
     if is_word(name, "system") {

@@ -75,7 +75,11 @@ pub(crate) fn past_keyword<'a>(word: &str, tokens: &'a [Token]) -> Option<&'a [T
     ensures { Reads (λ x. solid x.now) result (past_keyword word.now (solid tokens.now)) }
 {
     let (kind, rest) = next(tokens)?;
-    if is_keyword(word, kind) { Some(rest) } else { None }
+    if is_keyword(word, kind) {
+        Some(rest)
+    } else {
+        None
+    }
 }
 
 /// The tokens after this function's name and bracket, in any ASCII case.
@@ -84,7 +88,11 @@ pub(crate) fn past_function<'a>(word: &str, tokens: &'a [Token]) -> Option<&'a [
     ensures { Reads (λ x. solid x.now) result (past_function word.now (solid tokens.now)) }
 {
     let (kind, rest) = next(tokens)?;
-    if is_function(word, kind) { Some(rest) } else { None }
+    if is_function(word, kind) {
+        Some(rest)
+    } else {
+        None
+    }
 }
 
 /// The tokens after the end of a function: its bracket, or the end of the tokens.
@@ -159,7 +167,14 @@ pub(crate) fn is_among(words: &[&str], name: &str) -> bool
 }
 
 /// The words that no name of an author's own is.
-static WIDE_WORDS: [&str; 6] = ["inherit", "initial", "unset", "revert", "revert-layer", "default"];
+static WIDE_WORDS: [&str; 6] = [
+    "inherit",
+    "initial",
+    "unset",
+    "revert",
+    "revert-layer",
+    "default",
+];
 
 fn is_wide_word(name: &str) -> bool
     ensures { result ≡ is_among wide_words (chars name.now) }
@@ -187,7 +202,11 @@ pub(crate) fn symbol(tokens: &[Token]) -> Option<(&Text, &[Token])>
         return Some(read);
     }
     let (name, rest) = word(tokens)?;
-    if is_wide_word(name.as_str()) { None } else { Some((name, rest)) }
+    if is_wide_word(name.as_str()) {
+        None
+    } else {
+        Some((name, rest))
+    }
 }
 
 /// Whether no token but Blanks is left.

@@ -20,7 +20,10 @@ use plain_types::text::Text;
 use std::alloc::Global;
 
 /// `<counter-style-name>`
-pub(crate) fn named_style(alloc: Global, tokens: &[Token]) -> Result<Option<(Text, &[Token])>, Memory>
+pub(crate) fn named_style(
+    alloc: Global,
+    tokens: &[Token],
+) -> Result<Option<(Text, &[Token])>, Memory>
     ensures { IfOk result (λ r. Reads (λ x. (x.0, solid x.1.now)) r (style_name_at (solid tokens.now))) }
 {
     let Some((name, rest)) = name(tokens) else {
@@ -138,7 +141,10 @@ fn decimal(alloc: Global) -> Result<StyleRef, Memory>
 }
 
 /// `[, [ <counter-style> | none ] ]?` and the end of the function
-pub(crate) fn last_style(alloc: Global, tokens: &[Token]) -> Result<Option<(StyleRef, &[Token])>, Memory>
+pub(crate) fn last_style(
+    alloc: Global,
+    tokens: &[Token],
+) -> Result<Option<(StyleRef, &[Token])>, Memory>
     ensures { IfOk result (λ r. Reads (λ x. (x.0, solid x.1.now)) r (last_style_at (solid tokens.now))) }
 {
     let Some(rest) = past_comma(tokens) else {
@@ -158,7 +164,10 @@ pub(crate) fn last_style(alloc: Global, tokens: &[Token]) -> Result<Option<(Styl
 
 /// `<counter-style> | <string> | none`
 #[tactic(auto, unfolding(crate::specs::Styles::list_type_at))]
-pub(crate) fn list_type(alloc: Global, tokens: &[Token]) -> Result<Option<(ListType, &[Token])>, Memory>
+pub(crate) fn list_type(
+    alloc: Global,
+    tokens: &[Token],
+) -> Result<Option<(ListType, &[Token])>, Memory>
     ensures { IfOk result (λ r. Reads (λ x. (x.0, solid x.1.now)) r (list_type_at (solid tokens.now))) }
 {
     if let Some((value, rest)) = string(tokens) {

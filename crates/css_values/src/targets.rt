@@ -105,7 +105,11 @@ pub(crate) fn name_between(tokens: &[Token]) -> Option<(&Text, &Text, &[Token])>
 }
 
 /// The address with which a target function of this name begins.
-fn target<'a>(alloc: Global, function: &str, tokens: &'a [Token]) -> Result<Option<(Url, &'a [Token])>, Memory>
+fn target<'a>(
+    alloc: Global,
+    function: &str,
+    tokens: &'a [Token],
+) -> Result<Option<(Url, &'a [Token])>, Memory>
     requires { IsTrue (is_ascii function.now) }
     ensures { IfOk result (λ r. Reads (λ x. (x.0, solid x.1.now)) r (target_at function.now (solid tokens.now))) }
 {
@@ -117,7 +121,10 @@ fn target<'a>(alloc: Global, function: &str, tokens: &'a [Token]) -> Result<Opti
 
 /// `target-counter( <url> , <counter-name> [, <counter-style> ]? )`
 #[tactic(auto, unfolding(crate::specs::Contents::target_counter_at))]
-pub(crate) fn target_counter(alloc: Global, tokens: &[Token]) -> Result<Option<(Item, &[Token])>, Memory>
+pub(crate) fn target_counter(
+    alloc: Global,
+    tokens: &[Token],
+) -> Result<Option<(Item, &[Token])>, Memory>
     ensures { IfOk result (λ r. Reads (λ x. (x.0, solid x.1.now)) r (target_counter_at (solid tokens.now))) }
 {
     let Some((url, rest)) = target(alloc, "target-counter", tokens)? else {
@@ -138,7 +145,10 @@ pub(crate) fn target_counter(alloc: Global, tokens: &[Token]) -> Result<Option<(
 
 /// `target-counters( <url> , <counter-name> , <string> [, <counter-style> ]? )`
 #[tactic(auto, unfolding(crate::specs::Contents::target_counters_at))]
-pub(crate) fn target_counters(alloc: Global, tokens: &[Token]) -> Result<Option<(Item, &[Token])>, Memory>
+pub(crate) fn target_counters(
+    alloc: Global,
+    tokens: &[Token],
+) -> Result<Option<(Item, &[Token])>, Memory>
     ensures { IfOk result (λ r. Reads (λ x. (x.0, solid x.1.now)) r (target_counters_at (solid tokens.now))) }
 {
     let Some((url, rest)) = target(alloc, "target-counters", tokens)? else {
@@ -155,7 +165,15 @@ pub(crate) fn target_counters(alloc: Global, tokens: &[Token]) -> Result<Option<
     };
     let name = name.duplicate(alloc)?;
     let between = between.duplicate(alloc)?;
-    Ok(Some((Item::TargetCounters { url, name, between, style }, end)))
+    Ok(Some((
+        Item::TargetCounters {
+            url,
+            name,
+            between,
+            style,
+        },
+        end,
+    )))
 }
 
 /// `content | before | after`
@@ -189,7 +207,10 @@ fn last_part(tokens: &[Token]) -> Option<(Part, &[Token])>
 
 /// `target-text( <url> [, [ content | before | after ] ]? )`
 #[tactic(auto, unfolding(crate::specs::Contents::target_text_at))]
-pub(crate) fn target_text(alloc: Global, tokens: &[Token]) -> Result<Option<(Item, &[Token])>, Memory>
+pub(crate) fn target_text(
+    alloc: Global,
+    tokens: &[Token],
+) -> Result<Option<(Item, &[Token])>, Memory>
     ensures { IfOk result (λ r. Reads (λ x. (x.0, solid x.1.now)) r (target_text_at (solid tokens.now))) }
 {
     let Some((url, rest)) = target(alloc, "target-text", tokens)? else {
