@@ -36,11 +36,11 @@ digits_same : (within within' base n : ℕ) → 2 ≤ base → n ≤ within → 
 digits_same zero within' base n two p q = sym (digits_none within' base n (omega arith))
 digits_same (suc within) zero base n two p q = digits_none (suc within) base n (omega arith)
 digits_same (suc within) (suc within') base n two p q = elim (cases_lt 0 n) [
-    inl l ↦
+  | inl l ↦
       let k = digit_falls base n two l in
       digits_some within base n l ∙ ap (λ x. x ++ ((n - 1) % base ∷ [])) (digits_same within within' base ((n - 1) / base) two (omega arith) (omega arith)) ∙ sym (digits_some within' base n l)
   | inr l ↦ digits_none (suc within) base n (omega arith) ∙ sym (digits_none (suc within') base n (omega arith))
-  ]
+]
 
 -- the digits of a number are those of its quotient and one more, whatever the base from 2 on
 pub bijective_digits-step : (base n : ℕ) → 2 ≤ base → 0 < n → bijective_digits base n ≡ bijective_digits base ((n - 1) / base) ++ ((n - 1) % base ∷ [])

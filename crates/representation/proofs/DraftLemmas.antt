@@ -26,9 +26,9 @@ extended-within text (c ∷ cs) h = limited-within (text ++ c ∷ cs) h
 
 extended-limited : (text : List ℕ) (y : ℕ) (ys : List ℕ) → extended (limited text) (y ∷ ys) ≡ limited (text ++ y ∷ ys)
 extended-limited text y ys = elim (cases_lt 120 (length text)) [
-    inl h ↦ rw (limited-over text h, limited-over (text ++ y ∷ ys) (omega (arith, length-append text (y ∷ ys)))) refl
+  | inl h ↦ rw (limited-over text h, limited-over (text ++ y ∷ ys) (omega (arith, length-append text (y ∷ ys)))) refl
   | inr h ↦ rw (limited-within text h) refl
-  ]
+]
 
 pub extended-append : (draft : Option (List ℕ)) (xs ys : List ℕ) → extended (extended draft xs) ys ≡ extended draft (xs ++ ys)
 extended-append None xs ys = refl
@@ -72,9 +72,9 @@ open_view value is_over text e f = sym e ∙ ap (λ b. view b text) f
 
 too_many : (room times size : ℕ) → 0 < size → room / size < times → room < times * size
 too_many room times size p h = elim (cases_lt room (times * size)) [
-    inl l ↦ l
+  | inl l ↦ l
   | inr l ↦ absurd (omega (arith, le-div times room size p l))
-  ]
+]
 
 few_enough : (room times size : ℕ) → times ≤ room / size → times * size ≤ room
 few_enough room times size h = omega (arith, div-add-mod' room size, mul-le times size (room / size) size h (omega arith))

@@ -14,9 +14,9 @@ use Rattle.representation.proofs.DraftLemmas.{limited-over, limited-within}
 -- a text with something in front of it is no shorter
 limited-append : (front text : List ℕ) → limited text ≡ None → limited (front ++ text) ≡ None
 limited-append front text e = elim (cases_lt 120 (length text)) [
-    inl h ↦ limited-over (front ++ text) (omega (arith, length-append front text))
+  | inl h ↦ limited-over (front ++ text) (omega (arith, length-append front text))
   | inr h ↦ let some : limited text ≡ Some text = limited-within text h in cc
-  ]
+]
 
 module _ (style : CounterStyle) (value : ℤ) where
   of_initial : Option (List ℕ) → Option (List ℕ)

@@ -91,11 +91,7 @@ fn symbolic_draft(alloc: Global, symbols: &[Text], number: u64) -> Result<Draft,
 }
 
 /// The draft of an additive number, where its tuples leave no rest.
-fn additive_draft(
-    alloc: Global,
-    tuples: &[Weight],
-    number: u64,
-) -> Result<Option<Draft>, Memory>
+fn additive_draft(alloc: Global, tuples: &[Weight], number: u64) -> Result<Option<Draft>, Memory>
     ensures text { IfOk result (λ draft. draft ≡ option_map limited (additive_text tuples.now number)) }
 {
     let mut draft = Draft::new(alloc);

@@ -89,12 +89,7 @@ fn represent_anonymous(
 }
 
 /// The representation of the value in the style of a name.
-fn represent_named(
-    alloc: Global,
-    table: &Table,
-    name: &str,
-    value: Count,
-) -> Result<Text, Memory>
+fn represent_named(alloc: Global, table: &Table, name: &str, value: Count) -> Result<Text, Memory>
     ensures text { IfOk result (λ text. text ≡ represented table.now (unwrap_or (style_named table.now (chars name.now)) decimal_style) value) }
     ensures table { IsTable table.now }
 {

@@ -129,7 +129,11 @@ fn cluster_count(text: &Text) -> usize
 fn missing_count(style: &CounterStyle, value: Count, initial: &Text) -> u64
     ensures count { result ≡ missing_count style.now value initial.now }
 {
-    let width = if style.width > 0 { style.width as u64 } else { 0 };
+    let width = if style.width > 0 {
+        style.width as u64
+    } else {
+        0
+    };
     let missing = width.saturating_sub(cluster_count(initial) as u64);
     if has_sign(&style.system, value) {
         missing

@@ -8,6 +8,7 @@ use std::test::Fail;
 
 const USAGE: &str =
     "marker: usage: dump DOC SHEET | edit DOC SHEET SCRIPT | table SHEET STYLE FROM TO | gen SEED COUNT\n";
+
 const NOT_YET: &str = "marker: not yet\n";
 
 fn check(rt: &HostRuntime, row: &Row) -> Result<(), Fail> {
@@ -23,7 +24,10 @@ fn check(rt: &HostRuntime, row: &Row) -> Result<(), Fail> {
 #[test]
 fn plain_lists(rt: HostRuntime) -> Result<(), Fail> {
     for row in &[
-        dumped("<ol><li>a</li><li>b</li></ol>", "/0 marker \"1. \"\n/1 marker \"2. \"\n"),
+        dumped(
+            "<ol><li>a</li><li>b</li></ol>",
+            "/0 marker \"1. \"\n/1 marker \"2. \"\n",
+        ),
         dumped("<p/>", ""),
         // a list in a list counts from 1 again
         dumped(
@@ -36,7 +40,10 @@ fn plain_lists(rt: HostRuntime) -> Result<(), Fail> {
             "/1/1 marker \"1. \"\n/3/0 marker \"1. \"\n",
         ),
         // what leaves nothing in the tree
-        dumped("<?xml version=\"1.0\"?>\r\n<!DOCTYPE ol><!-- a --><ol><!-- b --><li >&#x61;</li ></ol >\n", "/0 marker \"1. \"\n"),
+        dumped(
+            "<?xml version=\"1.0\"?>\r\n<!DOCTYPE ol><!-- a --><ol><!-- b --><li >&#x61;</li ></ol >\n",
+            "/0 marker \"1. \"\n",
+        ),
     ] {
         check(&rt, row)?;
     }
@@ -83,14 +90,32 @@ fn bad_words(rt: HostRuntime) -> Result<(), Fail> {
 #[test]
 fn bad_files(rt: HostRuntime) -> Result<(), Fail> {
     for row in &[
-        refused(b"<ol><li>", b"", "marker: d.xhtml:1:9: not well-formed\n", 6),
+        refused(
+            b"<ol><li>",
+            b"",
+            "marker: d.xhtml:1:9: not well-formed\n",
+            6,
+        ),
         refused(b"<a></b>", b"", "marker: d.xhtml:1:4: not well-formed\n", 6),
         // a fault of the document comes before what is not built yet, and the sheet's bytes before both
-        refused(b"<a>\r\n<b>\r</a>", b"x", "marker: d.xhtml:3:1: not well-formed\n", 6),
+        refused(
+            b"<a>\r\n<b>\r</a>",
+            b"x",
+            "marker: d.xhtml:3:1: not well-formed\n",
+            6,
+        ),
         refused(b"<a", b"x\xff", "marker: s.css: not UTF-8 at 1\n", 5),
         refused(b"\xff", b"\xff", "marker: d.xhtml: not UTF-8 at 0\n", 5),
-        ended(&["dump", "x.xhtml", "y.css"], "marker: x.xhtml: read failed\n", 3),
-        ended(&["dump", "d.xhtml", "y.css"], "marker: y.css: read failed\n", 3),
+        ended(
+            &["dump", "x.xhtml", "y.css"],
+            "marker: x.xhtml: read failed\n",
+            3,
+        ),
+        ended(
+            &["dump", "d.xhtml", "y.css"],
+            "marker: y.css: read failed\n",
+            3,
+        ),
     ] {
         check(&rt, row)?;
     }

@@ -36,10 +36,10 @@ returns-in-None c =
       text =
           IfOk-weaker c.decimal.result _ _
           (λ text e style.
-              e
-              ∙ sym (walked-ends c.args.table.now c.args.value (length c.args.table.now - c.loop-turn._turn) c.loop-turn.place c.style-style.result.now (omega arith) c.style-style.ensures.style (sym wrote ∙ c.in_default.is)
-                  (ap (place_named c.args.table.now) (sym c.as_str.ensures.characters) ∙ sym c.find.ensures.place ∙ c.in-None.is))
-              ∙ to_do ∙ from_start c.args.table.now c.args.value c.args.start c.len-turn-end.ensures.table c.requires.within style)
+          e
+          ∙ sym (walked-ends c.args.table.now c.args.value (length c.args.table.now - c.loop-turn._turn) c.loop-turn.place c.style-style.result.now (omega arith) c.style-style.ensures.style (sym wrote ∙ c.in_default.is)
+          (ap (place_named c.args.table.now) (sym c.as_str.ensures.characters) ∙ sym c.find.ensures.place ∙ c.in-None.is))
+          ∙ to_do ∙ from_start c.args.table.now c.args.value c.args.start c.len-turn-end.ensures.table c.requires.within style)
           last;
     }
 
@@ -66,8 +66,8 @@ returns c =
       text =
           IfOk-weaker c.decimal-2.result _ _
           (λ text e style.
-              e
-              ∙ sym (walked-none c.args.table.now c.args.value (length c.args.table.now - c.loop-turn._turn) c.loop-turn.place (omega arith))
-              ∙ to_do ∙ from_start c.args.table.now c.args.value c.args.start c.len-turn-end.ensures.table c.requires.within style)
+          e
+          ∙ sym (walked-none c.args.table.now c.args.value (length c.args.table.now - c.loop-turn._turn) c.loop-turn.place (omega arith))
+          ∙ to_do ∙ from_start c.args.table.now c.args.value c.args.start c.len-turn-end.ensures.table c.requires.within style)
           last;
     }

@@ -10,5 +10,5 @@ returns-in_default-finish c =
     record {
       text =
           sym (written-too_long c.args.style.now c.args.value
-              (rw (← c.as_slice-symbols.ensures.items, ← c.as_slice-tuples.ensures.items) (sym draft ∙ c.in-Some.is ∙ ap Some (sym c.finish.ensures.text ∙ c.in_default-finish.is))));
+          (rw (← c.as_slice-symbols.ensures.items, ← c.as_slice-tuples.ensures.items) (sym draft ∙ c.in-Some.is ∙ ap Some (sym c.finish.ensures.text ∙ c.in_default-finish.is))));
     }

@@ -33,8 +33,8 @@ returns c = record {
 pub returns-then-self : goal.returns-then-self
 returns-then-self c = record {
   ok = elim c.then-self.branch [
-      then-self-via-then-self w ↦ was_over _ _ _ _ c.self.view_is w.if-self.true
+    | then-self-via-then-self w ↦ was_over _ _ _ _ c.self.view_is w.if-self.true
     | then-self-via-else-self+then-length-eq0 w ↦ extended-by_nothing _ c.args.times (chars c.args.piece.now) (repeat-nil c.args.times (chars c.args.piece.now) (omega (arith, c.character_count-length.ensures.count)))
     | then-self-via-else-self+else-length-eq0+then-times-eq0 w ↦ extended-by_nothing _ c.args.times (chars c.args.piece.now) (ap (λ n. repeat n (chars c.args.piece.now)) w.if-times-eq0.true)
-    ];
+  ];
 }
