@@ -1,0 +1,4 @@
+//! Tables of counter styles.
+#![tactic(auto)]
+
+mod predefined;
