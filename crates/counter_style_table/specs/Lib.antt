@@ -1,1 +1,2 @@
 pub mod Predefined
+pub mod Rules

@@ -2,3 +2,4 @@
 #![tactic(auto)]
 
 mod predefined;
+mod rules;
