@@ -1,5 +1,6 @@
 //! Tables of counter styles.
 #![tactic(auto)]
 
+mod describe;
 mod predefined;
 mod rules;
