@@ -54,7 +54,7 @@ pub fn extended_name(rule: &StyleDef) -> Option<&Text>
 }
 
 /// The system that is named last.
-fn named_system(descriptors: &[Descriptor]) -> Option<&System>
+pub fn named_system(descriptors: &[Descriptor]) -> Option<&System>
     ensures system { unwrap_or (option_copied result) System.Symbolic ≡ fold system_after System.Symbolic descriptors.now }
 {
     let mut named = None;
