@@ -3,7 +3,7 @@ use Rattle.std.proofs.Common.{◌≡◌, ℕ, ◌<◌, List, [], ◌∷◌, map,
 use Rattle.std.specs.Borrow.{Bor}
 use Rattle.std.specs.Char.{to_ascii_lowercase}
 use Rattle.std.specs.List.{find, list_all, list_any}
-use Rattle.std.specs.Prelude.{option_copied, encode_utf8_all}
+use Rattle.std.specs.Prelude.{is_some, option_copied, encode_utf8_all}
 use Rattle.std.specs.Str.{chars, bytes_eq, IsAscii, IsUtf8, str_eq_ignore_ascii_case}
 use Rattle.std.proofs.lemmas.Bool.{and_parts, and_from, cases_Bool, ltb-true, eqb-true}
 use Rattle.std.proofs.lemmas.Bool.Decides.{same_from_decides, Decides-like, nat_tests}
@@ -81,6 +81,17 @@ named (known ∷ names) name text plain =
     elim (cases_Bool (bytes_eq (lower_case (chars name)) known)) [
       | inl h ↦ rw (same_test name known text parts.0, h) (found name known text parts.0 h)
       | inr h ↦ rw (same_test name known text parts.0, h) (named names name text parts.1)
+    ]
+
+-- whether a name is a known one but for ASCII case, in characters
+pub is_some-known : (names : List (List ℕ)) (name : List ℕ) → IsUtf8 name → list_all is_plain names ≡ true
+    → is_some (find (str_eq_ignore_ascii_case name) names) ≡ list_any (bytes_eq (lower_case (chars name))) names
+is_some-known [] name text plain = refl
+is_some-known (known ∷ names) name text plain =
+    let parts = and_parts (is_plain known) (list_all is_plain names) plain in
+    elim (cases_Bool (bytes_eq (lower_case (chars name)) known)) [
+      inl h ↦ rw (same_test name known text parts.0, h) refl
+    | inr h ↦ rw (same_test name known text parts.0, h) (is_some-known names name text parts.1)
     ]
 
 abbrev pub none_known : Bor (List ℕ)

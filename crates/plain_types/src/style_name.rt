@@ -54,8 +54,8 @@ pub fn style_name(name: &str) -> &str
     first_equal(&PREDEFINED, name).unwrap_or(name)
 }
 
-/// The first of these names that equals the given one but for ASCII case.
-fn first_equal<'a>(names: &[&'a str], name: &str) -> Option<&'a str>
+/// The first of these names that equals the given one but for ASCII case. It takes no memory.
+pub fn first_equal<'a>(names: &[&'a str], name: &str) -> Option<&'a str>
     ensures first { option_copied result ≡ find (str_eq_ignore_ascii_case name.now) (map (λ (known : Bor (List ℕ)). known.now) names.now) }
 {
     for known in names {
