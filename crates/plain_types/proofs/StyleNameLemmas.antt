@@ -90,8 +90,8 @@ is_some-known [] name text plain = refl
 is_some-known (known ∷ names) name text plain =
     let parts = and_parts (is_plain known) (list_all is_plain names) plain in
     elim (cases_Bool (bytes_eq (lower_case (chars name)) known)) [
-      inl h ↦ rw (same_test name known text parts.0, h) refl
-    | inr h ↦ rw (same_test name known text parts.0, h) (is_some-known names name text parts.1)
+      | inl h ↦ rw (same_test name known text parts.0, h) refl
+      | inr h ↦ rw (same_test name known text parts.0, h) (is_some-known names name text parts.1)
     ]
 
 abbrev pub none_known : Bor (List ℕ)
