@@ -1,0 +1,40 @@
+#!/usr/bin/env bash
+# Reads XHTML files of several makers: documents in DocBook's, Publican's and Sphinx's XHTML, which packages
+# of Debian carry, some of them in an EPUB. It prints how many of each are read, and each that is refused,
+# with its place. The packages are unpacked in a folder of their own and not installed.
+#   bench/real-documents.sh [FILES]      at most so many files of each package, 40 by default
+set -eu
+here=$(cd "$(dirname "$0")/.." && pwd)
+most=${1:-40}
+"$here/marker" dump "$here/examples/list.xhtml" "$here/examples/empty.css" >/dev/null # builds it, if need be
+work=$(mktemp -d)
+trap 'rm -rf "$work"' EXIT
+cd "$work"
+: >empty.css
+apt-get update -qq || true
+for package in debian-reference-en debian-handbook debian-policy developers-reference; do
+  apt-get download -qq "$package" >/dev/null
+  mkdir "$package"
+  dpkg -x "$package"_*.deb "$package"
+  find "$package" -name '*.epub' -exec python3 -c '
+import sys, zipfile
+for name in sys.argv[1:]:
+    zipfile.ZipFile(name).extractall(name + ".files")' {} +
+  read=0
+  refused=0
+  while IFS= read -r file; do
+    # The XHTML of an EPUB, and HTML that says that it is XHTML.
+    case $file in *.xhtml) ;; *) head -c 300 "$file" | grep -q 'DTD XHTML' || continue ;; esac
+    status=0
+    "$here/crates/marker/out/marker" dump "$file" empty.css >/dev/null 2>line || status=$?
+    case $status in
+      0 | 9) read=$((read + 1)) ;;
+      *)
+        refused=$((refused + 1))
+        sed "s#^#$package: #" line
+        ;;
+    esac
+    [ $((read + refused)) -lt "$most" ] || break
+  done < <(find "$package" \( -name '*.xhtml' -o -name '*.html' \) -type f | sort)
+  echo "$package: $read read, $refused refused"
+done
