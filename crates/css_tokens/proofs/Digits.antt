@@ -1,13 +1,13 @@
 -- The number of digits, counted in 64 bits.
-use Rattle.std.proofs.Common.{◌≡◌, ℕ, zero, suc, ◌+◌, ◌*◌, ◌-◌, ◌^◌, ◌<◌, ◌≤◌, min, Bool, true, false, cond, List, [], ◌∷◌, Option, Some, None, is_some, length, refl, sym, ap, ◌∙◌, arith}
+use Rattle.std.proofs.Common.{◌≡◌, ℕ, zero, suc, ◌+◌, ◌*◌, ◌-◌, ◌^◌, ◌<◌, min, Bool, true, false, cond, List, [], ◌∷◌, Option, Some, None, is_some, refl, sym, ap, ◌∙◌, arith}
 use Rattle.std.specs.Char.{digit_value}
 use Rattle.std.specs.Str.Parse.{digits_value, digits_value_after}
-use Rattle.std.proofs.Math.IntN.{ℤ, pos, neg_ℤ}
+use Rattle.std.proofs.Math.IntN.{ℤ, pos}
 use Rattle.std.proofs.lemmas.Int.{ints, clamps}
 use Rattle.definitions.specs.Characters.{is_digit, is_hexadecimal_digit}
 use Rattle.definitions.specs.Reading.{◌then◌, ◌otherwise◌, span, span_of}
 use Rattle.css_tokens.specs.Counting.{counted}
-use Rattle.css_tokens.specs.Numbers.{signed, saturated, sign_at, digits_at, fraction_at, or_stay, after_fraction, after_digits, number_at}
+use Rattle.css_tokens.specs.Numbers.{saturated, sign_at, digits_at, fraction_at, or_stay, after_fraction, after_digits, number_at}
 use Rattle.css_tokens.specs.declared.token.TokenKind.{TokenKind}
 
 abbrev some_token : TokenKind × List ℕ → Option (TokenKind × List ℕ)

@@ -1,10 +1,10 @@
 -- Each piece and each token takes a character.
-use Rattle.std.proofs.Common.{◌≡◌, ℕ, zero, suc, ◌+◌, ◌*◌, ◌<◌, ◌≤◌, Bool, true, false, cond, eqb, ◌||◌, ◌&&◌, not, List, [], ◌∷◌, ◌++◌, length, Option, Some, None, is_some, ◌⊎◌, inl, inr, refl, sym, ap, ◌∙◌, arith}
+use Rattle.std.proofs.Common.{◌≡◌, ℕ, ◌<◌, Bool, true, false, cond, eqb, ◌||◌, ◌&&◌, not, List, [], ◌∷◌, length, Option, Some, None, is_some, inl, inr, refl}
 use Rattle.std.specs.Prelude.{codes}
 use Rattle.std.proofs.Math.IntN.{ℤ}
 use Rattle.std.proofs.lemmas.Bool.{eqb-true}
 use Rattle.definitions.specs.Characters.{is_blank, is_digit, is_hexadecimal_digit, is_quote}
-use Rattle.definitions.specs.Reading.{◌then◌, ◌otherwise◌, span, span_of, past_character, past_text, past_one, begins}
+use Rattle.definitions.specs.Reading.{◌then◌, span, span_of, past_character, past_text, past_one, begins}
 use Rattle.definitions.specs.SheetCharacters.{is_ident_start, is_ident_character}
 use Rattle.definitions.specs.Identifiers.{hex_escape, past_blank, escape_at, is_escape, ident_character_at, ident_sequence_at, starts_letter, starts_identifier, identifier_at}
 use Rattle.definitions.proofs.Runs.{chosen}

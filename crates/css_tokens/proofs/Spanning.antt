@@ -1,14 +1,14 @@
 -- The spans of the tokens of a text are in order, and each is its slice.
-use Rattle.std.proofs.Common.{◌≡◌, ℕ, Bool, true, ◌+◌, ◌-◌, ◌<◌, ◌≤◌, List, [], ◌∷◌, ◌++◌, length, drop, Option, Some, None, refl, sym, ap, ◌∙◌, append_assoc, arith}
+use Rattle.std.proofs.Common.{◌≡◌, ℕ, true, ◌-◌, ◌≤◌, List, [], ◌∷◌, ◌++◌, length, drop, Option, Some, None, refl, sym, ap, ◌∙◌, arith}
 use Rattle.std.specs.Str.{chars, IsUtf8, IsCharBoundary, encode_utf8_all}
 use Rattle.std.proofs.lemmas.List.{length-append}
 use Rattle.std.proofs.lemmas.Str.{scalars-chars, encodes-chars, encodes-append, IsCharBoundary-at_seam, chars-encodes}
 use lib.Utf8.{scalars}
 use Rattle.std.proofs.lemmas.Bool.{and_parts}
-use Rattle.definitions.specs.Reading.{run_at, ◌then◌, ◌otherwise◌}
+use Rattle.definitions.specs.Reading.{◌then◌, ◌otherwise◌}
 use Rattle.definitions.proofs.Runs.{Run, stop, more}
 use Rattle.definitions.proofs.Following.{Follows, here, later, Follows-trans, Follows-front, takes_follows, run_Run}
-use Rattle.css_tokens.specs.Spans.{IsSpan, AreSpans}
+use Rattle.css_tokens.specs.Spans.{AreSpans}
 use Rattle.css_tokens.specs.Tokens.{token_at, comment_at, piece_at, placed_at, Piece, token_from, tokens_of, tokens, width}
 use Rattle.css_tokens.specs.declared.token.TokenKind.{TokenKind}
 use Rattle.css_tokens.specs.declared.token.Token.{Token}

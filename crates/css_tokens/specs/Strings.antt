@@ -1,5 +1,5 @@
 -- String tokens: CSS Syntax 3, 4.3.5.
-use Rattle.std.specs.Prelude.{ℕ, Bool, ◌||◌, ◌==◌, if◌then◌else◌, List, [], ◌∷◌, Option, Some, None}
+use Rattle.std.specs.Prelude.{ℕ, ◌||◌, ◌==◌, if◌then◌else◌, List, [], ◌∷◌, Option, Some, None}
 use Rattle.definitions.specs.Characters.{is_quote}
 use Rattle.definitions.specs.Punctuation.{line_feed, reverse_solidus}
 use Rattle.definitions.specs.Reading.{◌then◌, run_at}

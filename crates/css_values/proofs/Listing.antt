@@ -1,5 +1,5 @@
 -- A comma list: the first piece, and those after commas.
-use Rattle.std.proofs.Common.{◌≡◌, ℕ, List, [], ◌∷◌, ◌++◌, Option, Some, None, refl, sym, ap, ◌∙◌}
+use Rattle.std.proofs.Common.{◌≡◌, List, [], ◌∷◌, ◌++◌, Option, Some, None, refl, ◌∙◌}
 use Rattle.definitions.specs.Reading.{run_at}
 use Rattle.definitions.proofs.Runs.{Goes, Goes-start, Goes-more, Goes-read, Shortens}
 

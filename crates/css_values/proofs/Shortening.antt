@@ -1,23 +1,15 @@
 -- Each piece of a value takes a token.
-use Rattle.std.proofs.Common.{◌≡◌, ℕ, ◌<◌, ◌≤◌, Bool, true, false, cond, List, [], ◌∷◌, length, Option, Some, None, refl, sym, ap, ◌∙◌, arith, ℤ}
-use Rattle.std.specs.Prelude.{codes, pos}
-use Rattle.plain_types.specs.declared.content.Item.{Item}
-use Rattle.plain_types.specs.declared.content.Item.TheVariants as item
-use Rattle.plain_types.specs.declared.counter_style.Bounds.{Bounds}
-use Rattle.plain_types.specs.declared.counter_style.Weight.{Weight}
-use Rattle.plain_types.specs.declared.style.CounterOp.{CounterOp}
-use Rattle.plain_types.specs.declared.style.Pair.{Pair}
-use Rattle.plain_types.specs.declared.style.ResetOp.{ResetOp}
+use Rattle.std.proofs.Common.{ℕ, Bool, List, [], ◌∷◌, Option, Some, None, refl, ℤ}
+use Rattle.std.specs.Prelude.{codes}
 use Rattle.plain_types.specs.declared.style_ref.System.{System}
-use Rattle.definitions.specs.Reading.{◌then◌, ◌otherwise◌, run_at}
-use Rattle.definitions.proofs.Following.{Follows, here, later, left, nothing, ended, none_ends, Follows-trans, Leaves, Ends, leave_if, end_if, leave_otherwise, leave_then, end_then, leave_more, end_more, leave_within, TakesOne, takes_shorter, takes_leaves, run_follows}
+use Rattle.definitions.specs.Reading.{◌then◌, run_at}
+use Rattle.definitions.proofs.Following.{Follows, here, later, left, nothing, ended, none_ends, Follows-trans, Leaves, Ends, leave_if, end_if, leave_otherwise, leave_then, end_then, leave_more, end_more, leave_within, TakesOne, takes_leaves, run_follows}
 use Rattle.css_tokens.specs.declared.token.TokenKind.{TokenKind}
-use Rattle.css_values.specs.Parts.{one_at, past_one_that, is_sign, is_function, is_keyword, past_comma, past_keyword, past_function, past_close, word_of, word_at, string_of, string_at, integer_of, integer_at, natural_of, natural_at, name_of, name_at, style_name_at, symbol_of, symbol_at, optional, after_comma_at}
-use Rattle.css_values.specs.Styles.{symbols_type_of, symbols_system_at, anonymous, strings_at, arguments_at, symbols_at, style_at, last_style_at, list_type_at}
+use Rattle.css_values.specs.Parts.{one_at, past_one_that, is_sign, is_function, is_keyword, past_comma, past_keyword, past_function, past_close, word_of, string_of, string_at, integer_of, integer_at, natural_of, natural_at, name_of, name_at, style_name_at, symbol_of, symbol_at, optional, after_comma_at}
+use Rattle.css_values.specs.Styles.{symbols_type_of, symbols_system_at, anonymous, strings_at, symbols_at, style_at, last_style_at, list_type_at}
 use Rattle.css_values.specs.Lists.{reversed_at, reset_at, counter_op_at, part_at}
 use Rattle.css_values.specs.Contents.{pair_at, quote_of, attr_name_at, attr_at, attr_url_at, url_token_of, url_token_at, url_function_at, address_at, url_at, target_at, name_between_at, counter_at, counters_at, target_counter_at, target_counters_at, part_of, last_part_at, target_text_at, item_at}
-use Rattle.css_values.specs.Descriptors.{bound_at, are_in_order, bounds, bounds_at, weight_of, weight_at}
-use Rattle.css_values.specs.declared.list_style.ListStylePart.{ListStylePart}
+use Rattle.css_values.specs.Descriptors.{bound_at, are_in_order, bounds_at, weight_at}
 
 -- ---- single tokens
 

@@ -1,5 +1,5 @@
 -- The values of `content` and `quotes`: CSS Generated Content 3, 2, 3 and 5, and CSS Lists 3, 4.7.
-use Rattle.std.specs.Prelude.{ℕ, Bool, if◌then◌else◌, List, [], ◌∷◌, Option, Some, None, codes}
+use Rattle.std.specs.Prelude.{ℕ, if◌then◌else◌, List, Option, Some, None, codes}
 use Rattle.plain_types.specs.declared.content.Content.{Content}
 use Rattle.plain_types.specs.declared.content.Content.TheVariants as content
 use Rattle.plain_types.specs.declared.content.Item.{Item}
@@ -17,7 +17,7 @@ use Rattle.definitions.specs.Reading.{◌then◌, ◌otherwise◌}
 use Rattle.definitions.specs.Words.{is_word}
 use Rattle.css_tokens.specs.declared.token.TokenKind.{TokenKind}
 use Rattle.css_tokens.specs.declared.token.TokenKind.TheVariants as kind
-use Rattle.css_values.specs.Parts.{one_at, word_of, word_at, string_at, name_at, past_keyword, past_function, past_comma, past_close, optional, is_alone, all_of}
+use Rattle.css_values.specs.Parts.{one_at, word_of, word_at, string_at, name_at, past_keyword, past_function, past_comma, past_close, is_alone, all_of}
 use Rattle.css_values.specs.Styles.{last_style_at}
 
 -- Quotes.

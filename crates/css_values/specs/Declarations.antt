@@ -1,5 +1,5 @@
 -- Declarations of the properties that make generated texts.
-use Rattle.std.specs.Prelude.{ℕ, Bool, if◌then◌else◌, List, [], ◌∷◌, Option, Some, None, codes}
+use Rattle.std.specs.Prelude.{ℕ, if◌then◌else◌, List, [], ◌∷◌, Option, Some, None, codes}
 use Rattle.plain_types.specs.declared.declaration.Declaration.{Declaration}
 use Rattle.plain_types.specs.declared.declaration.Declaration.TheVariants as declaration
 use Rattle.plain_types.specs.declared.declaration.Said.{Said}

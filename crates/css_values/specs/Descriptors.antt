@@ -1,5 +1,5 @@
 -- Descriptors of `@counter-style`: CSS Counter Styles 3, 3.
-use Rattle.std.specs.Prelude.{ℕ, Bool, true, false, ◌&&◌, not, if◌then◌else◌, List, [], ◌∷◌, Option, Some, None, unwrap_or, codes, ℤ, pos, int_lt}
+use Rattle.std.specs.Prelude.{ℕ, Bool, true, ◌&&◌, not, if◌then◌else◌, List, [], ◌∷◌, Option, Some, None, unwrap_or, codes, ℤ, pos, int_lt}
 use Rattle.plain_types.specs.declared.counter_style.Bounds.{Bounds}
 use Rattle.plain_types.specs.declared.counter_style.Descriptor.{Descriptor}
 use Rattle.plain_types.specs.declared.counter_style.Descriptor.TheVariants as descriptor

@@ -1,12 +1,12 @@
 -- The values of `list-style` and of the counter properties: CSS Lists 3, 3.5, 4.1 and 4.2.
-use Rattle.std.specs.Prelude.{ℕ, Bool, true, false, ◌||◌, ◌&&◌, ◌+◌, ◌==◌, nat_le, if◌then◌else◌, List, [], ◌∷◌, length, Option, Some, None, unwrap_or, codes, ℤ, pos}
+use Rattle.std.specs.Prelude.{ℕ, Bool, true, false, ◌&&◌, ◌+◌, ◌==◌, nat_le, if◌then◌else◌, List, [], ◌∷◌, Option, Some, None, unwrap_or, codes, ℤ, pos}
 use Rattle.std.specs.List.{count_by}
 use Rattle.plain_types.specs.declared.style.CounterOp.{CounterOp}
 use Rattle.plain_types.specs.declared.style.ListType.{ListType}
 use Rattle.plain_types.specs.declared.style.ListType.TheVariants as list_type
 use Rattle.plain_types.specs.declared.style.ResetOp.{ResetOp}
 use Rattle.plain_types.specs.declared.style_ref.StyleRef.TheVariants as style_ref
-use Rattle.definitions.specs.Reading.{◌then◌, ◌otherwise◌, run_at}
+use Rattle.definitions.specs.Reading.{◌then◌, ◌otherwise◌}
 use Rattle.css_tokens.specs.declared.token.TokenKind.{TokenKind}
 use Rattle.css_values.specs.Parts.{is_alone, past_keyword, past_function, past_close, name_at, integer_at, optional, all_of}
 use Rattle.css_values.specs.Styles.{list_type_at}

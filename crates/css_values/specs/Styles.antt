@@ -1,6 +1,6 @@
 -- Counter styles where a value names or writes one: CSS Lists 3, 3, and CSS Counter Styles 3, 3 and its
 -- symbols() function.
-use Rattle.std.specs.Prelude.{ℕ, Bool, false, ◌||◌, ◌&&◌, nat_le, if◌then◌else◌, List, [], ◌∷◌, length, Option, Some, None, unwrap_or, codes, pos}
+use Rattle.std.specs.Prelude.{ℕ, nat_le, if◌then◌else◌, List, length, Option, Some, None, unwrap_or, codes, pos}
 use Rattle.plain_types.specs.declared.style.ListType.{ListType}
 use Rattle.plain_types.specs.declared.style.ListType.TheVariants as list_type
 use Rattle.plain_types.specs.declared.style_ref.Anonymous.{Anonymous}

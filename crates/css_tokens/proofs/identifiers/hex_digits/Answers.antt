@@ -1,6 +1,5 @@
-use Rattle.std.proofs.Common.{◌≡◌, ℕ, List, ◌∷◌, ◌^◌, ◌<◌, ◌-◌, ◌≤◌, min, Bool, true, false, ap, sym, ◌∙◌, refl, arith}
+use Rattle.std.proofs.Common.{◌≡◌, ℕ, List, ◌∷◌, sym, ◌∙◌, refl, arith}
 use Rattle.std.specs.Str.{chars}
-use Rattle.definitions.specs.Characters.{is_hexadecimal_digit}
 use Rattle.css_tokens.proofs.Digits.{hex_more, hex_end}
 use Rattle.css_tokens.proofs.identifiers.hex_digits.Goals as goal
 use Rattle.css_tokens.proofs.identifiers.hex_digits.Goals.{else-digits-test, then-digits-test+in_default, then-digits-test+in-Some+then-not-is_hexadecimal_digit}

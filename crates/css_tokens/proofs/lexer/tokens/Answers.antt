@@ -1,6 +1,5 @@
-use Rattle.std.proofs.Common.{◌≡◌, ◌≤◌, ◌-◌, ◌++◌, ◌∷◌, [], length, ap, sym, ◌∙◌, refl, arith}
+use Rattle.std.proofs.Common.{◌-◌, length, refl, arith}
 use Rattle.std.specs.Str.{chars}
-use Rattle.css_tokens.specs.Tokens.{tokens}
 use Rattle.css_tokens.proofs.Placing.{Has-start, Has-more, Has-read, piece_shorter, piece_narrower, width_is}
 use Rattle.css_tokens.proofs.Spanning.{tokens_fit}
 use Rattle.css_tokens.proofs.lexer.tokens.Goals as goal

@@ -1,8 +1,8 @@
-use Rattle.std.proofs.Common.{◌≡◌, ℕ, List, [], ◌∷◌, ◌^◌, ◌<◌, ◌-◌, ◌≤◌, min, Bool, true, false, ap, sym, ◌∙◌, refl, arith}
+use Rattle.std.proofs.Common.{◌≡◌, [], false, sym, ◌∙◌, refl}
 use Rattle.std.specs.Str.{chars}
 use Rattle.definitions.specs.Reading.{span}
 use Rattle.definitions.specs.Characters.{is_digit}
-use Rattle.css_tokens.proofs.Digits.{Counts, decimal_more, decimal_end}
+use Rattle.css_tokens.proofs.Digits.{decimal_more, decimal_end}
 use Rattle.css_tokens.proofs.numbers.digit_run.Goals as goal
 use Rattle.css_tokens.proofs.numbers.digit_run.Goals.{in-Some+then-not-is_digit, in_default}
 

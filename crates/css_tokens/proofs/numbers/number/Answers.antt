@@ -1,4 +1,3 @@
-use Rattle.std.proofs.Common.{◌≡◌, ap, sym, ◌∙◌, refl}
 use Rattle.css_tokens.proofs.Digits.{number_by_digits, number_by_fraction}
 use Rattle.css_tokens.proofs.numbers.number.Goals as goal
 

@@ -1,4 +1,4 @@
-use Rattle.std.proofs.Common.{◌≡◌, ◌∙◌, refl, ap}
+use Rattle.std.proofs.Common.{ap}
 use Rattle.std.specs.Str.{chars}
 use Rattle.definitions.specs.SheetText.{filtered, past_mark}
 use Rattle.css_tokens.proofs.Filtering.{filtered_more, filtered_end, filtered-filtered}

@@ -1,4 +1,3 @@
-use Rattle.std.proofs.Common.{◌≡◌, ◌++◌, ◌∷◌, [], ap, sym, ◌∙◌, refl}
 use Rattle.std.specs.Str.{chars}
 use Rattle.css_tokens.proofs.Keeping.{Keeps-start, Keeps-more, Keeps-read}
 use Rattle.css_tokens.proofs.Shortening.{string_shorter}

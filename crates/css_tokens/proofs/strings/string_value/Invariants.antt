@@ -1,8 +1,8 @@
-use Rattle.std.proofs.Common.{◌≡◌, length}
+use Rattle.std.proofs.Common.{length}
 use denote.Text.{Utf8}
 use denote.Shadow.{shadow}
 use Rattle.std.specs.Str.{chars}
-use Rattle.css_tokens.specs.Strings.{string_piece_at, kept}
+use Rattle.css_tokens.specs.Strings.{string_piece_at}
 use Rattle.css_tokens.proofs.Keeping.{Keeps}
 use Rattle.css_tokens.proofs.strings.string_value.Given as goal
 

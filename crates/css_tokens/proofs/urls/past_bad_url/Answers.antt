@@ -1,4 +1,4 @@
-use Rattle.std.proofs.Common.{◌≡◌, ◌++◌, ◌∷◌, [], ap, sym, ◌∙◌, refl}
+use Rattle.std.proofs.Common.{ap, ◌∙◌}
 use Rattle.std.specs.Str.{chars}
 use Rattle.definitions.proofs.Runs.{Skips-start, Skips-more, Skips-read}
 use Rattle.css_tokens.proofs.Shortening.{bad_shorter}

@@ -1,4 +1,3 @@
-use Rattle.std.proofs.Common.{◌≡◌, ◌++◌, ◌∷◌, [], ap, sym, ◌∙◌, refl}
 use Rattle.std.specs.Str.{chars}
 use Rattle.definitions.proofs.Runs.{Goes-start, Goes-more, Goes-read}
 use Rattle.css_tokens.proofs.Shortening.{url_shorter}

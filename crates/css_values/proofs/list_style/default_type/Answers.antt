@@ -1,4 +1,4 @@
-use Rattle.std.proofs.Common.{◌≡◌, ℕ, eqb, true, refl, ap, ◌∙◌, List, arith}
+use Rattle.std.proofs.Common.{◌≡◌, ℕ, ap, List, arith}
 use Rattle.std.specs.Str.{chars}
 use Rattle.plain_types.specs.declared.style.ListType.TheVariants as list_type
 use Rattle.plain_types.specs.declared.style_ref.StyleRef.TheVariants as style_ref

@@ -1,4 +1,3 @@
-use Rattle.std.proofs.Common.{sym, ◌∙◌}
 use Rattle.css_values.proofs.PartLists.{type_here, no_type_here}
 use Rattle.css_values.proofs.list_style.given_type.Goals as goal
 
