@@ -1,0 +1,1 @@
+use Rattle.marker_cli.proofs.form.read_form.Goals as goal

@@ -1,0 +1,9 @@
+pub mod Dump
+pub mod Ends
+pub mod Lines
+pub mod Output
+pub mod Run
+pub mod Stands
+pub mod Turns
+pub mod Walk
+pub mod Words

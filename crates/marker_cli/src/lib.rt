@@ -1,0 +1,43 @@
+//! A run of `marker`, from its words to its status.
+//!
+//! `run` is the one call that the program makes. In go the words (the program's arguments), a shelf that
+//! files are read from, two sinks that bytes go to, and a count of steps. Out come a status, the output in
+//! the first sink, and for a status other than Ok a line in the second. `Status::code` is the number with
+//! which the program exits.
+//!
+//! The words are `dump DOC SHEET` for now. DOC is read first, then SHEET, and then the dump of the document
+//! under the sheet is written. What isn't built yet has the status `NotYet`, with which nothing is written.
+//!
+//! What a run means is in `specs/`, to be read from the plain to the composed:
+//!
+//! - `Output`: what a run over told files is to do, as a list of events;
+//! - `Turns` and `Dump`: the events of `dump DOC SHEET`;
+//! - `Run`: `output`, the events of any words;
+//! - `Ends`: `EndsAs`, how a run may end against its output;
+//! - `Lines`: the line and the code of a status.
+//!
+//! A text such as DOC reads as one tree at most, and this is a relation (`IsThinDocument`), which no definition
+//! computes. So `output` takes what the texts read as, the `Readings`, and the clause of `run` holds for all
+//! that are right where the run comes to read them (`AreReadings`).
+//!
+//! `Stands` says where a run stands between two of its parts. A command that joins has an `.._output` of its
+//! own in `specs/` and a line in `output`; a status that joins has a line in `code_of`, `message` and `IsCaused`.
+//!
+//! The words, the order of refusals and the lines are our own.
+//!
+//! ```
+//! // with d.xhtml `<ol><li/></ol>` and an empty s.css it writes the line /0 marker "1. "
+//! let status = run(alloc, words.as_slice(), &mut shelf, &mut out, &mut err, &mut steps);
+//! ```
+#![tactic(auto)]
+
+mod dump;
+mod fetch_text;
+pub mod form;
+mod markers;
+pub mod report;
+pub mod run;
+pub mod status;
+#[cfg(test)]
+mod tests;
+mod walk;

@@ -1,0 +1,129 @@
+//! A run.
+
+ghost use Rattle.std.specs.Prelude.{◌≡◌, ◌⊎◌, ◌≤◌, IsTrue, Some, None};
+ghost use Rattle.ports.specs.Causes.{Rose, RoseAbove};
+ghost use Rattle.ports.specs.Files.{Files};
+ghost use Rattle.ports.specs.Grown.{grown};
+ghost use Rattle.marker_cli.specs.Ends.{EndsAs, IsCaused, ReadsFailed, ended};
+ghost use Rattle.marker_cli.specs.Lines.{GoesOut, message};
+ghost use Rattle.marker_cli.specs.Output.{bytes_of, status_of};
+ghost use Rattle.marker_cli.specs.Run.{AreReadings, HasTurn, IsMissing, IsNotBuilt, Readings, name_at, output};
+ghost use Rattle.marker_cli.specs.Words.{IsForm, ReadsAsForm};
+ghost use Rattle.marker_cli.specs.declared.form.Form.{Form};
+ghost use Rattle.marker_cli.specs.declared.form.Form.TheVariants as forms;
+ghost use Rattle.marker_cli.specs.declared.status.FileAt.{FileAt};
+ghost use Rattle.marker_cli.specs.declared.status.Status.TheVariants as status;
+
+use crate::dump::dump;
+use crate::form::{Form, read_form};
+use crate::report::report;
+use crate::status::Status;
+use plain_types::text::Text;
+use ports::shelf::Shelf;
+use ports::sink::Sink;
+use std::alloc::Global;
+use std::sync::ledger::Ledger;
+use steps::Steps;
+
+fn status_of(outcome: Result<(), Status>) -> Status
+    ensures { result ≡ ended outcome }
+{
+    match outcome {
+        Ok(()) => Status::Ok,
+        Err(status) => status,
+    }
+}
+
+/// Does what the words say.
+fn perform<S: Shelf, O: Sink>(alloc: Global, words: &[Text], shelf: &mut S, out: &mut O) -> Status
+    ensures told { (files : Files) (readings : Readings) → S.held shelf.old ≡ Some files → AreReadings words.now files readings
+        → EndsAs (ReadsFailed (S.honest shelf.old) (S.faults shelf.old) (S.faults shelf.new)) (Rose (O.faults out.old) (O.faults out.new))
+        (output words.now files readings) (O.out out.old) (O.out out.new) result }
+    ensures turn { (files : Files) (file : FileAt) → S.held shelf.old ≡ Some files → result ≡ status.ReadFault file → HasTurn words.now files file }
+    ensures not_held { (files : Files) (file : FileAt) → S.held shelf.old ≡ Some files → IsTrue (S.honest shelf.old)
+        → result ≡ status.ReadFault file → files (name_at words.now file) ≡ None }
+    ensures missing { (files : Files) (file : FileAt) → S.held shelf.old ≡ Some files → IsTrue (S.honest shelf.old)
+        → IsMissing words.now files file → (result ≡ status.Memory) ⊎ (result ≡ status.ReadFault file) }
+    ensures cause { IsCaused (ReadsAsForm words.now None) (Rose (S.faults shelf.old) (S.faults shelf.new)) (RoseAbove 16777216 (S.taken shelf.old) (S.taken shelf.new))
+        (Rose (O.faults out.old) (O.faults out.new)) result }
+    ensures faults { O.faults out.old ≤ O.faults out.new }
+    ensures no_form { ReadsAsForm words.now None → result ≡ status.Usage }
+    ensures not_built { (form : Form) → IsForm words.now form → IsNotBuilt form → result ≡ status.NotYet }
+    ensures no_output { (result ≡ status.Usage) ⊎ (result ≡ status.NotYet) → O.out out.new ≡ O.out out.old }
+{
+    match read_form(words) {
+        Some(Form::Dump) => status_of(dump(
+            alloc,
+            words[1].as_str(),
+            words[2].as_str(),
+            shelf,
+            out,
+        )),
+        Some(Form::Edit) => Status::NotYet,
+        Some(Form::Table { .. }) => Status::NotYet,
+        Some(Form::Gen { .. }) => Status::NotYet,
+        None => Status::Usage,
+    }
+}
+
+/// The status once `out` has handed on what it kept back.
+fn flushed<O: Sink>(outcome: Status, out: &mut O) -> Status
+    ensures outcome { (result ≡ outcome) ⊎ ((outcome ≡ status.Ok) × (result ≡ status.WriteFault) × Rose (O.faults out.old) (O.faults out.new)) }
+    ensures kept { O.out out.new ≡ O.out out.old }
+    ensures faults { O.faults out.old ≤ O.faults out.new }
+{
+    match outcome {
+        Status::Usage | Status::NotYet => outcome,
+        Status::Ok => match out.flush() {
+            Ok(()) => Status::Ok,
+            Err(_) => Status::WriteFault,
+        },
+        _ => {
+            let _ = out.flush();
+            outcome
+        }
+    }
+}
+
+/// Does what the words say, and puts the line of a status other than Ok to `err`.
+///
+/// The words are the arguments of the program without its name. They are told apart first, then the files
+/// are read in their order, each checked for its length and for UTF-8 before the next one, and then the
+/// document is read. The first status other than Ok ends the run; what was written until then stays. A
+/// fault of `err` changes no status.
+///
+/// It takes time linear in the files and the output, and memory for the files and the document.
+pub fn run<S: Shelf, O: Sink, E: Sink, L: Ledger>(
+    alloc: Global,
+    words: &[Text],
+    shelf: &mut S,
+    out: &mut O,
+    err: &mut E,
+    steps: &mut Steps<L>,
+) -> Status
+    ensures told { (files : Files) (readings : Readings) → S.held shelf.old ≡ Some files → AreReadings words.now files readings
+        → EndsAs (ReadsFailed (S.honest shelf.old) (S.faults shelf.old) (S.faults shelf.new)) (Rose (O.faults out.old) (O.faults out.new))
+        (output words.now files readings) (O.out out.old) (O.out out.new) result }
+    ensures complete { (files : Files) (readings : Readings) → S.held shelf.old ≡ Some files → AreReadings words.now files readings
+        → ¬ (Rose (S.faults shelf.old) (S.faults shelf.new)) → ¬ (Rose (O.faults out.old) (O.faults out.new))
+        → (result ≡ status.Memory) ⊎ ((result ≡ status_of (output words.now files readings)) × (O.out out.new ≡ grown (O.out out.old) (bytes_of (output words.now files readings)))) }
+    ensures turn { (files : Files) (file : FileAt) → S.held shelf.old ≡ Some files → result ≡ status.ReadFault file → HasTurn words.now files file }
+    ensures not_held { (files : Files) (file : FileAt) → S.held shelf.old ≡ Some files → IsTrue (S.honest shelf.old)
+        → result ≡ status.ReadFault file → files (name_at words.now file) ≡ None }
+    ensures missing { (files : Files) (file : FileAt) → S.held shelf.old ≡ Some files → IsTrue (S.honest shelf.old)
+        → IsMissing words.now files file → (result ≡ status.Memory) ⊎ (result ≡ status.ReadFault file) }
+    ensures usage { result ≡ status.Usage → ReadsAsForm words.now None }
+    ensures no_form { ReadsAsForm words.now None → result ≡ status.Usage }
+    ensures not_built { (form : Form) → IsForm words.now form → IsNotBuilt form → result ≡ status.NotYet }
+    ensures no_output { (result ≡ status.Usage) ⊎ (result ≡ status.NotYet) → O.out out.new ≡ O.out out.old }
+    ensures read_fault { (file : FileAt) → result ≡ status.ReadFault file → Rose (S.faults shelf.old) (S.faults shelf.new) }
+    ensures too_large { (file : FileAt) → result ≡ status.TooLarge file → RoseAbove 16777216 (S.taken shelf.old) (S.taken shelf.new) }
+    ensures write_fault { result ≡ status.WriteFault → Rose (O.faults out.old) (O.faults out.new) }
+    ensures line { GoesOut (Rose (E.faults err.old) (E.faults err.new)) (E.out err.old) (E.out err.new) (message words.now result) }
+    ensures steps { steps.new ≡ steps.old }
+{
+    let status = perform(alloc, words, shelf, out);
+    let status = flushed(status, out);
+    report(words, status, err);
+    status
+}

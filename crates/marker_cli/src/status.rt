@@ -1,0 +1,75 @@
+//! How a run ends.
+
+ghost use Rattle.std.specs.Prelude.{◌≡◌};
+ghost use Rattle.marker_cli.specs.Lines.{code_of};
+ghost use Rattle.marker_cli.specs.declared.status.Status.TheVariants as status;
+
+use plain_types::memory::Memory;
+use ports::failed::Failed;
+
+/// A file that a run reads.
+#[derive(Clone, Copy, Debug, PartialEq, Eq)]
+pub enum FileAt {
+    /// The file that this word names. The first word is word 0, the command.
+    Word(usize),
+    /// The file that this line of the script names. The first line is line 1.
+    Line(usize),
+}
+
+/// How a run ended.
+#[derive(Clone, Copy, Debug, PartialEq, Eq)]
+pub enum Status {
+    /// All output was written.
+    Ok,
+    /// Memory was wanting.
+    Memory,
+    /// The words are of no form.
+    Usage,
+    /// A read of this file failed.
+    ReadFault { file: FileAt },
+    /// This file is longer than a file may be.
+    TooLarge { file: FileAt },
+    /// This file isn't UTF-8; its first bytes are, up to the offset.
+    NotUtf8 { file: FileAt, offset: usize },
+    /// DOC is no document; the first item that doesn't fit is here, both from 1.
+    BadDocument { line: usize, column: usize },
+    /// A write of the output failed.
+    WriteFault,
+    /// What the words or the files ask for isn't built yet. Nothing was written.
+    NotYet,
+}
+
+impl Status {
+    /// The number with which the program exits.
+    pub fn code(&self) -> u8
+        ensures code { result ≡ code_of self.now }
+    {
+        match self {
+            Status::Ok => 0,
+            Status::Memory => 1,
+            Status::Usage => 2,
+            Status::ReadFault { .. } => 3,
+            Status::TooLarge { .. } => 4,
+            Status::NotUtf8 { .. } => 5,
+            Status::BadDocument { .. } => 6,
+            Status::WriteFault => 8,
+            Status::NotYet => 9,
+        }
+    }
+}
+
+impl From<Memory> for Status {
+    ghost from_gives = { λ _ e. e ≡ status.Memory };
+
+    fn from(_error: Memory) -> Status {
+        Status::Memory
+    }
+}
+
+impl From<Failed> for Status {
+    ghost from_gives = { λ _ e. e ≡ status.WriteFault };
+
+    fn from(_error: Failed) -> Status {
+        Status::WriteFault
+    }
+}
