@@ -1,0 +1,11 @@
+//! Whole runs over memory, as a table.
+//!
+//! The crate has tests alone: runs of `marker_cli::run` over files in memory, each with the words, the
+//! files, and what must come out on both sinks and as code. Their expected values are worked out by hand
+//! from the rules in docs/. They stand here, above all other crates, so that those are proved once.
+#![tactic(auto)]
+
+#[cfg(test)]
+mod rows;
+#[cfg(test)]
+mod tests;

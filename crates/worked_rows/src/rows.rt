@@ -1,0 +1,102 @@
+//! What a row is, and how one is run.
+
+ghost use Rattle.std.specs.Prelude.{◌≡◌, ◌<◌};
+
+use marker_cli::run::run;
+use plain_types::list::List;
+use plain_types::memory::Memory;
+use plain_types::text::Text;
+use ports::fixed_sink::FixedSink;
+use ports::honest_shelf::HonestShelf;
+use ports::named_file::{NamedFile, has_distinct_names};
+use std::alloc::Global;
+use std::sync::ledger::{Blank, Ledger};
+use steps::Steps;
+
+/// A run: its words and files, and what must come out.
+pub struct Row {
+    pub words: &'static [&'static str],
+    pub document: &'static [u8],
+    pub sheet: &'static [u8],
+    pub out: &'static str,
+    pub err: &'static str,
+    pub code: u8,
+}
+
+/// A dump of this document with an empty sheet.
+pub fn dumped(document: &'static str, out: &'static str) -> Row {
+    Row {
+        words: &["dump", "d.xhtml", "s.css"],
+        document: document.as_bytes(),
+        sheet: b"",
+        out,
+        err: "",
+        code: 0,
+    }
+}
+
+/// A dump that ends with this line and code, and writes nothing.
+pub fn refused(document: &'static [u8], sheet: &'static [u8], err: &'static str, code: u8) -> Row {
+    Row {
+        words: &["dump", "d.xhtml", "s.css"],
+        document,
+        sheet,
+        out: "",
+        err,
+        code,
+    }
+}
+
+/// Words that end with this line and code, and write nothing.
+pub fn ended(words: &'static [&'static str], err: &'static str, code: u8) -> Row {
+    Row {
+        words,
+        document: b"<p/>",
+        sheet: b"",
+        out: "",
+        err,
+        code,
+    }
+}
+
+fn named(alloc: Global, name: &str, bytes: &[u8]) -> Result<NamedFile, Memory> {
+    let mut held = List::new(alloc);
+    held.extend(bytes)?;
+    Ok(NamedFile {
+        name: Text::from_str(alloc, name)?,
+        bytes: held,
+    })
+}
+
+fn words_of(alloc: Global, row: &Row) -> Result<List<Text>, Memory> {
+    let mut words = List::new(alloc);
+    for word in row.words {
+        words.push(Text::from_str(alloc, word)?)?;
+    }
+    Ok(words)
+}
+
+/// Runs a row over the files `d.xhtml` and `s.css`, and answers its code.
+pub fn code_of<L: Ledger>(
+    rt: &HostRuntime,
+    blank: Blank,
+    row: &Row,
+    out: &mut FixedSink,
+    err: &mut FixedSink,
+) -> Result<u8, Memory>
+    requires name { blank.name ≡ L.name }
+    requires parts { blank.parts ≡ L.parts }
+    requires some { 0 < L.parts }
+{
+    let alloc = rt.alloc();
+    let words = words_of(alloc, row)?;
+    let mut files = List::new(alloc);
+    files.push(named(alloc, "d.xhtml", row.document)?)?;
+    files.push(named(alloc, "s.css", row.sheet)?)?;
+    if !has_distinct_names(files.as_slice()) {
+        return Err(Memory);
+    }
+    let mut shelf = HonestShelf::new(files);
+    let mut steps = Steps::<L>::open(rt, blank);
+    Ok(run(alloc, words.as_slice(), &mut shelf, out, err, &mut steps).code())
+}

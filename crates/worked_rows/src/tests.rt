@@ -1,0 +1,136 @@
+//! The table, one test for each command or kind of end.
+
+use crate::rows::{Row, code_of, dumped, ended, refused};
+use ports::fixed_sink::FixedSink;
+use std::marker::Brand;
+use std::sync::ledger::Blank;
+use std::test::Fail;
+
+const USAGE: &str =
+    "marker: usage: dump DOC SHEET | edit DOC SHEET SCRIPT | table SHEET STYLE FROM TO | gen SEED COUNT\n";
+
+const NOT_YET: &str = "marker: not yet\n";
+
+fn check(rt: &HostRuntime, row: &Row) -> Result<(), Fail> {
+    let mut out = FixedSink::new(rt.alloc(), 1000)?;
+    let mut err = FixedSink::new(rt.alloc(), 1000)?;
+    let code = code_of::<Brand>(rt, Blank::new(1), row, &mut out, &mut err)?;
+    assert_eq!(rt; out.bytes(), row.out.as_bytes());
+    assert_eq!(rt; err.bytes(), row.err.as_bytes());
+    assert_eq!(rt; code, row.code);
+    Ok(())
+}
+
+#[test]
+fn plain_lists(rt: HostRuntime) -> Result<(), Fail> {
+    for row in &[
+        dumped(
+            "<ol><li>a</li><li>b</li></ol>",
+            "/0 marker \"1. \"\n/1 marker \"2. \"\n",
+        ),
+        dumped("<p/>", ""),
+        // a list in a list counts from 1 again
+        dumped(
+            "<ol><li>a<ol><li>b</li></ol></li><li>c</li></ol>",
+            "/0 marker \"1. \"\n/0/1/0 marker \"1. \"\n/1 marker \"2. \"\n",
+        ),
+        // texts count in paths, and not as positions
+        dumped(
+            "<div>x<ol>y<li/></ol><b/><ol><li/></ol></div>",
+            "/1/1 marker \"1. \"\n/3/0 marker \"1. \"\n",
+        ),
+        // what leaves nothing in the tree
+        dumped(
+            "<?xml version=\"1.0\"?>\r\n<!DOCTYPE ol><!-- a --><ol><!-- b --><li >&#x61;</li ></ol >\n",
+            "/0 marker \"1. \"\n",
+        ),
+    ] {
+        check(&rt, row)?;
+    }
+    Ok(())
+}
+
+#[test]
+fn not_built_yet(rt: HostRuntime) -> Result<(), Fail> {
+    for row in &[
+        refused(b"<ol><li>a</li></ol>", b" ", NOT_YET, 9),
+        refused(b"<ul/>", b"", NOT_YET, 9),
+        refused(b"<div><li/></div>", b"", NOT_YET, 9),
+        refused(b"<ol start=\"2\"><li/></ol>", b"", NOT_YET, 9),
+        ended(&["table", "s.css", "decimal", "0", "9999"], NOT_YET, 9),
+        ended(&["edit", "d.xhtml", "s.css", "t.txt"], NOT_YET, 9),
+        ended(&["gen", "1", "1"], NOT_YET, 9),
+    ] {
+        check(&rt, row)?;
+    }
+    Ok(())
+}
+
+#[test]
+fn bad_words(rt: HostRuntime) -> Result<(), Fail> {
+    for row in &[
+        ended(&[], USAGE, 2),
+        ended(&["dump", "d.xhtml"], USAGE, 2),
+        ended(&["dump", "d.xhtml", "s.css", "t.txt"], USAGE, 2),
+        ended(&["table", "s.css", "decimal", "0", "10000"], USAGE, 2),
+        ended(&["table", "s.css", "decimal", "1", "0"], USAGE, 2),
+        ended(&["table", "s.css", "decimal", "00", "1"], USAGE, 2),
+        ended(&["table", "s.css", "decimal", "-0", "1"], USAGE, 2),
+        ended(&["table", "s.css", "decimal", "0", "2147483648"], USAGE, 2),
+        ended(&["gen", "1", "0"], USAGE, 2),
+        ended(&["gen", "1", "100001"], USAGE, 2),
+        ended(&["gen", "2147483648", "1"], USAGE, 2),
+        ended(&["gen", "+1", "1"], USAGE, 2),
+    ] {
+        check(&rt, row)?;
+    }
+    Ok(())
+}
+
+#[test]
+fn bad_files(rt: HostRuntime) -> Result<(), Fail> {
+    for row in &[
+        refused(
+            b"<ol><li>",
+            b"",
+            "marker: d.xhtml:1:9: not well-formed\n",
+            6,
+        ),
+        refused(b"<a></b>", b"", "marker: d.xhtml:1:4: not well-formed\n", 6),
+        // a fault of the document comes before what is not built yet, and the sheet's bytes before both
+        refused(
+            b"<a>\r\n<b>\r</a>",
+            b"x",
+            "marker: d.xhtml:3:1: not well-formed\n",
+            6,
+        ),
+        refused(b"<a", b"x\xff", "marker: s.css: not UTF-8 at 1\n", 5),
+        refused(b"\xff", b"\xff", "marker: d.xhtml: not UTF-8 at 0\n", 5),
+        ended(
+            &["dump", "x.xhtml", "y.css"],
+            "marker: x.xhtml: read failed\n",
+            3,
+        ),
+        ended(
+            &["dump", "d.xhtml", "y.css"],
+            "marker: y.css: read failed\n",
+            3,
+        ),
+    ] {
+        check(&rt, row)?;
+    }
+    Ok(())
+}
+
+/// A sink without room takes a front.
+#[test]
+fn a_full_sink(rt: HostRuntime) -> Result<(), Fail> {
+    let row = dumped("<ol><li>a</li></ol>", "");
+    let mut out = FixedSink::new(rt.alloc(), 3)?;
+    let mut err = FixedSink::new(rt.alloc(), 1000)?;
+    let code = code_of::<Brand>(&rt, Blank::new(1), &row, &mut out, &mut err)?;
+    assert_eq!(rt; code, 8);
+    assert_eq!(rt; out.bytes(), b"/0 ".as_slice());
+    assert_eq!(rt; err.bytes(), b"marker: write failed\n".as_slice());
+    Ok(())
+}
