@@ -5,20 +5,22 @@
 //! the first sink, and for a status other than Ok a line in the second. `Status::code` is the number with
 //! which the program exits.
 //!
-//! The words are `dump DOC SHEET` for now. DOC is read first, then SHEET, and then the dump of the document
-//! under the sheet is written. What isn't built yet has the status `NotYet`, with which nothing is written.
+//! The words are of one of four forms, of which `dump DOC SHEET` is built: DOC is read first, then SHEET,
+//! each checked for its length and for UTF-8, then the document, and then the dump of the document under
+//! the sheet is written. What isn't built yet has the status `NotYet`, with which nothing is written.
 //!
 //! What a run means is in `specs/`, to be read from the plain to the composed:
 //!
 //! - `Output`: what a run over told files is to do, as a list of events;
+//! - `Words`: which words are of which form;
 //! - `Turns` and `Dump`: the events of `dump DOC SHEET`;
 //! - `Run`: `output`, the events of any words;
 //! - `Ends`: `EndsAs`, how a run may end against its output;
 //! - `Lines`: the line and the code of a status.
 //!
-//! A text such as DOC reads as one tree at most, and this is a relation (`IsThinDocument`), which no definition
-//! computes. So `output` takes what the texts read as, the `Readings`, and the clause of `run` holds for all
-//! that are right where the run comes to read them (`AreReadings`).
+//! A text such as DOC reads as one tree or fails at one place, and this is a relation (`ReadsAs`), which no
+//! definition computes. So `output` takes what the words and texts read as, the `Readings`, and the clause
+//! of `run` holds for all that are right where the run comes to read them (`AreReadings`).
 //!
 //! `Stands` says where a run stands between two of its parts. A command that joins has an `.._output` of its
 //! own in `specs/` and a line in `output`; a status that joins has a line in `code_of`, `message` and `IsCaused`.
@@ -38,6 +40,4 @@ mod markers;
 pub mod report;
 pub mod run;
 pub mod status;
-#[cfg(test)]
-mod tests;
 mod walk;

@@ -9,11 +9,13 @@ use plain_types::text::Text;
 use ports::fixed_sink::FixedSink;
 use ports::honest_shelf::HonestShelf;
 use ports::named_file::{NamedFile, has_distinct_names};
+use ports::sink::Sink;
 use std::alloc::Global;
 use std::sync::ledger::{Blank, Ledger};
 use steps::Steps;
 
 /// A run: its words and files, and what must come out.
+#[derive(Clone, Copy)]
 pub struct Row {
     pub words: &'static [&'static str],
     pub document: &'static [u8],
@@ -77,11 +79,11 @@ fn words_of(alloc: Global, row: &Row) -> Result<List<Text>, Memory> {
 }
 
 /// Runs a row over the files `d.xhtml` and `s.css`, and answers its code.
-pub fn code_of<L: Ledger>(
+pub fn code_of<O: Sink, L: Ledger>(
     rt: &HostRuntime,
     blank: Blank,
     row: &Row,
-    out: &mut FixedSink,
+    out: &mut O,
     err: &mut FixedSink,
 ) -> Result<u8, Memory>
     requires name { blank.name ≡ L.name }

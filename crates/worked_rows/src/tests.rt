@@ -1,7 +1,10 @@
 //! The table, one test for each command or kind of end.
 
 use crate::rows::{Row, code_of, dumped, ended, refused};
+use plain_types::list::List;
+use plain_types::memory::Memory;
 use ports::fixed_sink::FixedSink;
+use ports::memory_sink::MemorySink;
 use std::marker::Brand;
 use std::sync::ledger::Blank;
 use std::test::Fail;
@@ -11,19 +14,17 @@ const USAGE: &str =
 
 const NOT_YET: &str = "marker: not yet\n";
 
-fn check(rt: &HostRuntime, row: &Row) -> Result<(), Fail> {
+/// Whether the row comes out as it is to.
+fn comes_out(rt: &HostRuntime, row: &Row) -> Result<bool, Memory> {
     let mut out = FixedSink::new(rt.alloc(), 1000)?;
     let mut err = FixedSink::new(rt.alloc(), 1000)?;
-    let code = code_of::<Brand>(rt, Blank::new(1), row, &mut out, &mut err)?;
-    assert_eq!(rt; out.bytes(), row.out.as_bytes());
-    assert_eq!(rt; err.bytes(), row.err.as_bytes());
-    assert_eq!(rt; code, row.code);
-    Ok(())
+    let code = code_of::<_, Brand>(rt, Blank::new(1), row, &mut out, &mut err)?;
+    Ok(out.bytes() == row.out.as_bytes() && err.bytes() == row.err.as_bytes() && code == row.code)
 }
 
 #[test]
 fn plain_lists(rt: HostRuntime) -> Result<(), Fail> {
-    for row in &[
+    for (place, row) in [
         dumped(
             "<ol><li>a</li><li>b</li></ol>",
             "/0 marker \"1. \"\n/1 marker \"2. \"\n",
@@ -44,15 +45,18 @@ fn plain_lists(rt: HostRuntime) -> Result<(), Fail> {
             "<?xml version=\"1.0\"?>\r\n<!DOCTYPE ol><!-- a --><ol><!-- b --><li >&#x61;</li ></ol >\n",
             "/0 marker \"1. \"\n",
         ),
-    ] {
-        check(&rt, row)?;
+    ]
+    .iter()
+    .enumerate()
+    {
+        assert!(rt; comes_out(&rt, row)?, "row {place}");
     }
     Ok(())
 }
 
 #[test]
 fn not_built_yet(rt: HostRuntime) -> Result<(), Fail> {
-    for row in &[
+    for (place, row) in [
         refused(b"<ol><li>a</li></ol>", b" ", NOT_YET, 9),
         refused(b"<ul/>", b"", NOT_YET, 9),
         refused(b"<div><li/></div>", b"", NOT_YET, 9),
@@ -60,15 +64,18 @@ fn not_built_yet(rt: HostRuntime) -> Result<(), Fail> {
         ended(&["table", "s.css", "decimal", "0", "9999"], NOT_YET, 9),
         ended(&["edit", "d.xhtml", "s.css", "t.txt"], NOT_YET, 9),
         ended(&["gen", "1", "1"], NOT_YET, 9),
-    ] {
-        check(&rt, row)?;
+    ]
+    .iter()
+    .enumerate()
+    {
+        assert!(rt; comes_out(&rt, row)?, "row {place}");
     }
     Ok(())
 }
 
 #[test]
 fn bad_words(rt: HostRuntime) -> Result<(), Fail> {
-    for row in &[
+    for (place, row) in [
         ended(&[], USAGE, 2),
         ended(&["dump", "d.xhtml"], USAGE, 2),
         ended(&["dump", "d.xhtml", "s.css", "t.txt"], USAGE, 2),
@@ -81,15 +88,18 @@ fn bad_words(rt: HostRuntime) -> Result<(), Fail> {
         ended(&["gen", "1", "100001"], USAGE, 2),
         ended(&["gen", "2147483648", "1"], USAGE, 2),
         ended(&["gen", "+1", "1"], USAGE, 2),
-    ] {
-        check(&rt, row)?;
+    ]
+    .iter()
+    .enumerate()
+    {
+        assert!(rt; comes_out(&rt, row)?, "row {place}");
     }
     Ok(())
 }
 
 #[test]
 fn bad_files(rt: HostRuntime) -> Result<(), Fail> {
-    for row in &[
+    for (place, row) in [
         refused(
             b"<ol><li>",
             b"",
@@ -116,8 +126,11 @@ fn bad_files(rt: HostRuntime) -> Result<(), Fail> {
             "marker: y.css: read failed\n",
             3,
         ),
-    ] {
-        check(&rt, row)?;
+    ]
+    .iter()
+    .enumerate()
+    {
+        assert!(rt; comes_out(&rt, row)?, "row {place}");
     }
     Ok(())
 }
@@ -128,9 +141,24 @@ fn a_full_sink(rt: HostRuntime) -> Result<(), Fail> {
     let row = dumped("<ol><li>a</li></ol>", "");
     let mut out = FixedSink::new(rt.alloc(), 3)?;
     let mut err = FixedSink::new(rt.alloc(), 1000)?;
-    let code = code_of::<Brand>(&rt, Blank::new(1), &row, &mut out, &mut err)?;
+    let code = code_of::<_, Brand>(&rt, Blank::new(1), &row, &mut out, &mut err)?;
     assert_eq!(rt; code, 8);
     assert_eq!(rt; out.bytes(), b"/0 ".as_slice());
+    assert_eq!(rt; err.bytes(), b"marker: write failed\n".as_slice());
+    Ok(())
+}
+
+/// A sink whose first call fails takes nothing.
+#[test]
+fn a_sink_that_fails(rt: HostRuntime) -> Result<(), Fail> {
+    let row = dumped("<ol><li>a</li></ol>", "");
+    let mut failing = List::new(rt.alloc());
+    failing.push(0u64)?;
+    let mut out = MemorySink::new(rt.alloc(), 1000, failing)?;
+    let mut err = FixedSink::new(rt.alloc(), 1000)?;
+    let code = code_of::<_, Brand>(&rt, Blank::new(1), &row, &mut out, &mut err)?;
+    assert_eq!(rt; code, 8);
+    assert_eq!(rt; out.bytes(), b"".as_slice());
     assert_eq!(rt; err.bytes(), b"marker: write failed\n".as_slice());
     Ok(())
 }

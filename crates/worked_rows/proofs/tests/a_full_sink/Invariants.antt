@@ -1,4 +1,4 @@
-use Rattle.marker_cli.proofs.tests.faults.Given as goal
+use Rattle.worked_rows.proofs.tests.a_full_sink.Given as goal
 
 abbrev pub ghosts-code_of : goal.ghosts-code_of
 ghosts-code_of g a = record { name = a.blank.name; parts = a.blank.parts }
