@@ -5,134 +5,152 @@ use crate::fault::DocFault;
 use crate::{is_name, read_document, read_fragment};
 use plain_types::node::NodeView;
 use plain_types::tree::Tree;
+use std::fmt::Write;
 use std::test::Fail;
 
-fn told(rt: &HostRuntime, answer: Result<Tree, DocFault>) -> Result<String, Fail> {
-    let alloc = rt.alloc();
-    let tree = match answer {
-        Ok(tree) => tree,
-        Err(DocFault::Malformed { line, column }) => {
-            return Ok(format!(in alloc; "{line}:{column}")?);
-        }
-        Err(DocFault::Memory) => return Ok(String::from_str(alloc, "memory")?),
-    };
-    let mut told = String::new(alloc);
-    for place in 0..tree.len() {
-        let depth = tree.depth(place);
-        told.push_str(&format!(in alloc; "{depth}")?)?;
-        match tree.node(place) {
-            NodeView::Element { name, attrs } => {
-                told.push_str("<")?;
-                told.push_str(name)?;
-                for attr in attrs {
-                    let (name, value) = (attr.name.as_str(), attr.value.as_str());
-                    told.push_str(&format!(in alloc; " {name}={value}")?)?;
-                }
-                told.push_str(">")?;
-            }
-            NodeView::Text { characters } => {
-                told.push_str(&format!(in alloc; "\"{characters}\"")?)?;
-            }
-        }
-    }
-    Ok(told)
-}
-
-#[test]
-fn documents(rt: HostRuntime) -> Result<(), Fail> {
-    let rows = [
-        ("<ol><li>a</li></ol>", "0<ol>1<li>2\"a\""),
-        ("<a/>", "0<a>"),
-        ("<a ></a >", "0<a>"),
-        // round the root
-        (
-            "\u{feff}<?xml version='1.0'?>\r\n<!DOCTYPE html PUBLIC 'x' \"y\" >\t<!-- -- --> <a/> <?p q?>\r<!---->",
-            "0<a>",
-        ),
-        ("<!doctype a><a/>", "0<a>"),
-        ("<!DOCTYPE a SYSTEM 'b'><a/>", "0<a>"),
-        ("<!DOCTYPE a PUBLIC 'b'><a/>", "0<a>"),
-        // one text, unless an element stands between
-        (
-            "<a>x<!-- c -->y<?p?>&#122;<![CDATA[w]]></a>",
-            "0<a>1\"xyzw\"",
-        ),
-        ("<a>x<b/>y</a>", "0<a>1\"x\"1<b>1\"y\""),
-        ("<a><![CDATA[]]></a>", "0<a>"),
-        ("<a><b/><![CDATA[]]><b/></a>", "0<a>1<b>1<b>"),
-        ("<a><![CDATA[<&]]]]></a>", "0<a>1\"<&]]\""),
-        ("<a>]]></a>", "0<a>1\"]]>\""),
-        // line ends
-        ("<a>1\r\n2\r3\r\r\n4</a>", "0<a>1\"1\n2\n3\n\n4\""),
-        ("<a>&#13;&#10;</a>", "0<a>1\"\r\n\""),
-        // references
-        (
-            "<a>&lt;&#65;&#x1F600;&#x000e9;&hellip;</a>",
-            "0<a>1\"<A\u{1f600}\u{e9}\u{2026}\"",
-        ),
-        // attributes
-        ("<a b='1\t2\r\n3' c = \"'\">x</a>", "0<a b=1 2 3 c='>1\"x\""),
-        ("<a b='&#9;&#10;&amp;'/>", "0<a b=\t\n&>"),
-        // names
-        ("<_:\u{e9}-.1 \u{1f600}=''/>", "0<_:\u{e9}-.1 \u{1f600}=>"),
-    ];
-    for (text, answer) in rows {
-        let found = told(&rt, read_document(rt.alloc(), text))?;
-        assert_eq!(rt; found.as_str(), answer);
+fn push_attr(told: &mut String, name: &str, value: &str) -> Result<(), Fail> {
+    for part in [" ", name, "=", value] {
+        told.push_str(part)?;
     }
     Ok(())
 }
 
+fn push_node(told: &mut String, node: NodeView<'_>) -> Result<(), Fail> {
+    match node {
+        NodeView::Element { name, attrs } => {
+            told.push('<')?;
+            told.push_str(name)?;
+            for attr in attrs {
+                push_attr(told, attr.name.as_str(), attr.value.as_str())?;
+            }
+            told.push('>')?;
+        }
+        NodeView::Text { characters } => {
+            told.push('"')?;
+            told.push_str(characters)?;
+            told.push('"')?;
+        }
+    }
+    Ok(())
+}
+
+fn told_tree(rt: &HostRuntime, tree: &Tree) -> Result<String, Fail> {
+    let mut told = String::new(rt.alloc());
+    for place in 0..tree.len() {
+        let depth = tree.depth(place);
+        write!(told, "{depth}")?;
+        push_node(&mut told, tree.node(place))?;
+    }
+    Ok(told)
+}
+
+fn told(rt: &HostRuntime, answer: Result<Tree, DocFault>) -> Result<String, Fail> {
+    match answer {
+        Ok(tree) => told_tree(rt, &tree),
+        Err(DocFault::Malformed { line, column }) => {
+            Ok(format!(in rt.alloc(); "{line}:{column}")?)
+        }
+        Err(DocFault::Memory) => Ok(String::from_str(rt.alloc(), "memory")?),
+    }
+}
+
+static DOCUMENTS: [(&str, &str); 19] = [
+    ("<ol><li>a</li></ol>", "0<ol>1<li>2\"a\""),
+    ("<a/>", "0<a>"),
+    ("<a ></a >", "0<a>"),
+    // round the root
+    (
+        "\u{feff}<?xml version='1.0'?>\r\n<!DOCTYPE html PUBLIC 'x' \"y\" >\t<!-- -- --> <a/> <?p q?>\r<!---->",
+        "0<a>",
+    ),
+    ("<!doctype a><a/>", "0<a>"),
+    ("<!DOCTYPE a SYSTEM 'b'><a/>", "0<a>"),
+    ("<!DOCTYPE a PUBLIC 'b'><a/>", "0<a>"),
+    // one text, unless an element stands between
+    (
+        "<a>x<!-- c -->y<?p?>&#122;<![CDATA[w]]></a>",
+        "0<a>1\"xyzw\"",
+    ),
+    ("<a>x<b/>y</a>", "0<a>1\"x\"1<b>1\"y\""),
+    ("<a><![CDATA[]]></a>", "0<a>"),
+    ("<a><b/><![CDATA[]]><b/></a>", "0<a>1<b>1<b>"),
+    ("<a><![CDATA[<&]]]]></a>", "0<a>1\"<&]]\""),
+    ("<a>]]></a>", "0<a>1\"]]>\""),
+    // line ends
+    ("<a>1\r\n2\r3\r\r\n4</a>", "0<a>1\"1\n2\n3\n\n4\""),
+    ("<a>&#13;&#10;</a>", "0<a>1\"\r\n\""),
+    // references
+    (
+        "<a>&lt;&#65;&#x1F600;&#x000e9;&hellip;</a>",
+        "0<a>1\"<A\u{1f600}\u{e9}\u{2026}\"",
+    ),
+    // attributes
+    ("<a b='1\t2\r\n3' c = \"'\">x</a>", "0<a b=1 2 3 c='>1\"x\""),
+    ("<a b='&#9;&#10;&amp;'/>", "0<a b=\t\n&>"),
+    // names
+    ("<_:\u{e9}-.1 \u{1f600}=''/>", "0<_:\u{e9}-.1 \u{1f600}=>"),
+];
+
+#[test]
+fn documents(rt: HostRuntime) -> Result<(), Fail> {
+    for (text, answer) in &DOCUMENTS {
+        let found = told(&rt, read_document(rt.alloc(), text))?;
+        assert_eq!(rt; found.as_str(), *answer);
+    }
+    Ok(())
+}
+
+static NO_DOCUMENTS: [(&str, &str); 41] = [
+    ("", "1:1"),
+    (" \n", "2:1"),
+    ("<!-- c -->", "1:11"),
+    ("x<a/>", "1:1"),
+    ("<![CDATA[]]><a/>", "1:1"),
+    ("</a>", "1:1"),
+    ("<a>", "1:4"),
+    ("<a><b></b>", "1:11"),
+    ("<a></b>", "1:4"),
+    ("<a></A>", "1:4"),
+    ("<a><b></a></b>", "1:7"),
+    ("<a/><b/>", "1:5"),
+    ("<a/>x", "1:5"),
+    ("<a/>&#32;", "1:5"),
+    ("<a/><!DOCTYPE a>", "1:5"),
+    ("<!DOCTYPE a><!DOCTYPE a><a/>", "1:13"),
+    // items that are broken
+    ("<!DOCTYPE><a/>", "1:1"),
+    ("<!DOCTYPE a SYSTEM><a/>", "1:1"),
+    ("<!DOCTYPE a [<!ENTITY b 'c'>]><a/>", "1:1"),
+    ("<1/>", "1:1"),
+    ("<a b/>", "1:1"),
+    ("<a b='<'/>", "1:1"),
+    ("<a b='c'd='e'/>", "1:1"),
+    ("<p a='' a=''>", "1:1"),
+    ("<p>&#xD800;", "1:4"),
+    ("<a>&amp</a>", "1:4"),
+    ("<a>&nope;</a>", "1:4"),
+    ("<a>&#X41;</a>", "1:4"),
+    ("<a>&#;</a>", "1:4"),
+    ("<a>&#0;</a>", "1:4"),
+    ("<a><!-- --</a>", "1:4"),
+    ("<a><? p?></a>", "1:4"),
+    ("<a><![cdata[]]></a>", "1:4"),
+    ("<a><\u{fffe}/></a>", "1:4"),
+    ("<a><!--\u{ffff}--></a>", "1:4"),
+    ("<a>\u{fffe}</a>", "1:4"),
+    ("<a>x\u{0}</a>", "1:5"),
+    // lines and columns
+    ("<a>\r\n\r\n\rx<b</a>", "4:2"),
+    ("\u{feff}\u{feff}<a/>", "1:1"),
+    ("\u{feff}<a>\u{1f600}\u{e9}&</a>", "1:6"),
+    ("<a>\n\n", "3:1"),
+];
+
 #[test]
 fn no_documents(rt: HostRuntime) -> Result<(), Fail> {
-    let rows = [
-        ("", "1:1"),
-        (" \n", "2:1"),
-        ("<!-- c -->", "1:11"),
-        ("x<a/>", "1:1"),
-        ("<![CDATA[]]><a/>", "1:1"),
-        ("</a>", "1:1"),
-        ("<a>", "1:4"),
-        ("<a><b></b>", "1:11"),
-        ("<a></b>", "1:4"),
-        ("<a></A>", "1:4"),
-        ("<a><b></a></b>", "1:7"),
-        ("<a/><b/>", "1:5"),
-        ("<a/>x", "1:5"),
-        ("<a/>&#32;", "1:5"),
-        ("<a/><!DOCTYPE a>", "1:5"),
-        ("<!DOCTYPE a><!DOCTYPE a><a/>", "1:13"),
-        // items that are broken
-        ("<!DOCTYPE><a/>", "1:1"),
-        ("<!DOCTYPE a SYSTEM><a/>", "1:1"),
-        ("<!DOCTYPE a [<!ENTITY b 'c'>]><a/>", "1:1"),
-        ("<1/>", "1:1"),
-        ("<a b/>", "1:1"),
-        ("<a b='<'/>", "1:1"),
-        ("<a b='c'd='e'/>", "1:1"),
-        ("<p a='' a=''>", "1:1"),
-        ("<p>&#xD800;", "1:4"),
-        ("<a>&amp</a>", "1:4"),
-        ("<a>&nope;</a>", "1:4"),
-        ("<a>&#X41;</a>", "1:4"),
-        ("<a>&#;</a>", "1:4"),
-        ("<a>&#0;</a>", "1:4"),
-        ("<a><!-- --</a>", "1:4"),
-        ("<a><? p?></a>", "1:4"),
-        ("<a><![cdata[]]></a>", "1:4"),
-        ("<a><\u{fffe}/></a>", "1:4"),
-        ("<a><!--\u{ffff}--></a>", "1:4"),
-        ("<a>\u{fffe}</a>", "1:4"),
-        ("<a>x\u{0}</a>", "1:5"),
-        // lines and columns
-        ("<a>\r\n\r\n\rx<b</a>", "4:2"),
-        ("\u{feff}\u{feff}<a/>", "1:1"),
-        ("\u{feff}<a>\u{1f600}\u{e9}&</a>", "1:6"),
-        ("<a>\n\n", "3:1"),
-    ];
-    for (text, answer) in rows {
+    for (text, answer) in &NO_DOCUMENTS {
         let found = told(&rt, read_document(rt.alloc(), text))?;
-        assert_eq!(rt; found.as_str(), answer);
+        assert_eq!(rt; found.as_str(), *answer);
     }
     Ok(())
 }
@@ -153,34 +171,35 @@ fn beginnings(rt: HostRuntime) -> Result<(), Fail> {
     Ok(())
 }
 
+static FRAGMENTS: [(&str, &str); 17] = [
+    ("a", "0\"a\""),
+    (" ", "0\" \""),
+    ("\u{feff}\r\n", "0\"\n\""),
+    ("<a b='c'/>", "0<a b=c>"),
+    (
+        "<!-- c --><![CDATA[]]><a>b</a><!-- c --><?p?><![CDATA[]]>",
+        "0<a>1\"b\"",
+    ),
+    ("x&lt;<!-- c --><![CDATA[y]]>", "0\"x<y\""),
+    // none
+    ("", "1:1"),
+    ("<!-- c -->", "1:11"),
+    ("<![CDATA[]]>", "1:13"),
+    ("<a/><b/>", "1:5"),
+    ("<a/> ", "1:5"),
+    ("<a/><![CDATA[x]]>", "1:5"),
+    (" <a/>", "1:2"),
+    ("<!DOCTYPE a><b/>", "1:1"),
+    ("<a>", "1:4"),
+    ("</a>", "1:1"),
+    ("&", "1:1"),
+];
+
 #[test]
 fn fragments(rt: HostRuntime) -> Result<(), Fail> {
-    let rows = [
-        ("a", "0\"a\""),
-        (" ", "0\" \""),
-        ("\u{feff}\r\n", "0\"\n\""),
-        ("<a b='c'/>", "0<a b=c>"),
-        (
-            "<!-- c --><![CDATA[]]><a>b</a><!-- c --><?p?><![CDATA[]]>",
-            "0<a>1\"b\"",
-        ),
-        ("x&lt;<!-- c --><![CDATA[y]]>", "0\"x<y\""),
-        // none
-        ("", "1:1"),
-        ("<!-- c -->", "1:11"),
-        ("<![CDATA[]]>", "1:13"),
-        ("<a/><b/>", "1:5"),
-        ("<a/> ", "1:5"),
-        ("<a/><![CDATA[x]]>", "1:5"),
-        (" <a/>", "1:2"),
-        ("<!DOCTYPE a><b/>", "1:1"),
-        ("<a>", "1:4"),
-        ("</a>", "1:1"),
-        ("&", "1:1"),
-    ];
-    for (text, answer) in rows {
+    for (text, answer) in &FRAGMENTS {
         let found = told(&rt, read_fragment(rt.alloc(), text))?;
-        assert_eq!(rt; found.as_str(), answer);
+        assert_eq!(rt; found.as_str(), *answer);
     }
     Ok(())
 }
