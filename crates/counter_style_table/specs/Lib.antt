@@ -1,3 +1,0 @@
-pub mod Predefined
-pub mod Rules
-pub mod Counts
