@@ -1,5 +1,5 @@
 -- Lines about a file, piece by piece.
-use Rattle.std.proofs.Common.{◌≡◌, ℕ, List, ◌++◌, Option, ◌∙◌, ap, subst, sym, append_assoc, codes, encode_utf8_all}
+use Rattle.std.proofs.Common.{◌≡◌, ℕ, List, ◌++◌, Option, ◌∙◌, ap, subst, append_assoc, codes, encode_utf8_all}
 use Rattle.ports.specs.Grown.{grown, GrowsByFront}
 use Rattle.ports.proofs.GrownLemmas.{grown_after}
 use Rattle.marker_cli.specs.declared.status.FileAt.{FileAt}

@@ -1,19 +1,17 @@
 -- From the words of a run to its command.
-use Rattle.std.proofs.Common.{◌≡◌, ◌∙◌, ◌<◌, ℕ, [], length, get_or, arith, true, false, IsTrue, Bool, List, Option, sym, ap, subst, codes, refl, inl, inr, ◌⊎◌}
+use Rattle.std.proofs.Common.{◌≡◌, ◌∙◌, ◌<◌, ℕ, [], length, get_or, arith, IsTrue, Bool, List, Option, sym, ap, subst, codes, refl, ◌⊎◌}
 use Rattle.std.specs.Prelude.{Some, None}
 use Rattle.ports.specs.Files.{Files}
 use Rattle.marker_cli.specs.declared.form.Form.{Form}
 use Rattle.marker_cli.specs.declared.form.Form.TheVariants.{Dump, Edit, Table, Gen}
 use Rattle.marker_cli.specs.declared.status.FileAt.{FileAt}
-use Rattle.marker_cli.specs.declared.status.FileAt.TheVariants.{Word}
 use Rattle.marker_cli.specs.declared.status.Status.{Status}
 use Rattle.marker_cli.specs.declared.status.Status.TheVariants.{Memory, NotYet, ReadFault, Usage}
-use Rattle.marker_cli.specs.declared.status.Status.TheVariants as status
 use Rattle.marker_cli.specs.Dump.{EndsAt, EndsReading, Reading, at_document, at_sheet, dump_output}
 use Rattle.marker_cli.specs.Ends.{IsCaused}
-use Rattle.marker_cli.specs.Output.{Output, ends}
+use Rattle.marker_cli.specs.Output.{ends}
 use Rattle.marker_cli.specs.Run.{HasTurn, IsMissing, IsNotBuilt, Readings, form_output, name_at, output, turn_of_document, turn_of_sheet}
-use Rattle.marker_cli.specs.Words.{IsForm, ReadsAsForm, is_command, word}
+use Rattle.marker_cli.specs.Words.{IsForm, ReadsAsForm, word}
 use Rattle.marker_cli.proofs.FormLemmas.{command_length, only_dump, word_here}
 
 -- the output, by the form of the words

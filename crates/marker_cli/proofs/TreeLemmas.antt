@@ -1,5 +1,5 @@
 -- Which tree is dumped of a document and a sheet.
-use Rattle.std.proofs.Common.{◌≡◌, ℕ, suc, ◌+◌, ◌≤◌, Bool, true, false, ◌&&◌, ◌==◌, if◌then◌else◌, List, [], ◌∷◌, length, take, Result, refl, sym, ◌∙◌, ap, arith, encode_utf8_all}
+use Rattle.std.proofs.Common.{◌≡◌, ℕ, suc, ◌+◌, true, false, ◌==◌, List, [], ◌∷◌, length, take, refl, sym, ◌∙◌, ap, arith, encode_utf8_all}
 use Rattle.std.specs.Prelude.{Ok, Err}
 use Rattle.std.specs.Str.{chars}
 use Rattle.std.proofs.lemmas.Bool.Decides.{nat_tests}

@@ -1,5 +1,5 @@
 -- What is read so far can be completed.
-use Rattle.std.proofs.Common.{◌≡◌, ◌≢◌, ℕ, List, [], ◌∷◌, ◌++◌, Option, Some, None, refl, sym, ap, subst, ◌∙◌, append_assoc, append-nil, codes}
+use Rattle.std.proofs.Common.{◌≡◌, ℕ, List, [], ◌∷◌, ◌++◌, refl, append_assoc, append-nil}
 use Rattle.forest.specs.Forest.{Forest, Empty, Tree}
 use Rattle.plain_types.specs.declared.attr.Attr.{Attr}
 use Rattle.plain_types.specs.declared.node.Node.{Node}
@@ -11,9 +11,9 @@ use Rattle.definitions.specs.Spelling.{IsName, Spells}
 use Rattle.xhtml_items.proofs.ItemLaws.{start_tag_named, end_tag_spelled, empty_tag_spelled}
 use Rattle.xhtml_reader.specs.declared.kind.Kind.{Kind}
 use Rattle.xhtml_reader.specs.declared.kind.Kind.TheVariants.{Document, Fragment}
-use Rattle.xhtml_reader.specs.Machine.{Frame, frame, State, at_start, after_doctype, in_text, inside, at_end, closed_in, allows}
-use Rattle.xhtml_reader.proofs.Holding.{Before, Top, Holds, outside, opened, deeper, closes, not_inside}
-use Rattle.xhtml_reader.proofs.Lists.{ArePieces-append, ArePieces-one, ArePieces-parts, Parts}
+use Rattle.xhtml_reader.specs.Machine.{Frame, frame, State, at_start, after_doctype, in_text, inside, at_end, allows}
+use Rattle.xhtml_reader.proofs.Holding.{Top, Holds, outside, opened, deeper, closes, not_inside}
+use Rattle.xhtml_reader.proofs.Lists.{ArePieces-append, ArePieces-one, ArePieces-parts}
 
 abbrev AreItems : List ℕ → List Item → Type 0
 AreItems characters items = ArePieces Spells characters items

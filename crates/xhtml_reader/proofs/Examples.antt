@@ -1,14 +1,13 @@
 -- Three texts that are no documents, and where they fail.
-use Rattle.std.proofs.Common.{◌≡◌, ◌≢◌, ℕ, List, [], ◌∷◌, ◌++◌, Option, Some, None, refl, sym, ap, ◌∙◌, inl, inr, codes, append-nil, arith, length}
+use Rattle.std.proofs.Common.{◌≡◌, ℕ, List, [], ◌∷◌, ◌++◌, Some, None, refl, sym, ap, ◌∙◌, inl, inr, codes, append-nil, arith}
 use Rattle.forest.specs.Forest.{Empty}
-use Rattle.definitions.specs.Documents.{IsDocument}
-use Rattle.definitions.specs.Faults.{FailsAt, FailsAsDocument, IsFaultPlace, line_feeds, last_line}
-use Rattle.definitions.specs.Items.{Item, start_tag, end_tag}
+use Rattle.definitions.specs.Faults.{FailsAsDocument}
+use Rattle.definitions.specs.Items.{start_tag, end_tag}
 use Rattle.definitions.specs.Spelling.{IsName, Spells}
-use Rattle.xhtml_items.specs.Reading.{item_at, markup_at, tag_at, end_tag_at, tag_end_at, attributes_at, attribute_at, quoted_at, value_part_at, name_at, span, reference_at, numeric_at, number_at}
+use Rattle.xhtml_items.specs.Reading.{item_at, markup_at, tag_at, end_tag_at, attributes_at, attribute_at, quoted_at, value_part_at, name_at, span, reference_at, numeric_at, number_at}
 use Rattle.xhtml_items.specs.Runs.{run_at, run_with}
 use Rattle.xhtml_reader.specs.declared.kind.Kind.TheVariants.{Document}
-use Rattle.xhtml_reader.specs.Machine.{State, at_start, inside, frame, step}
+use Rattle.xhtml_reader.specs.Machine.{State, at_start, inside, frame}
 use Rattle.xhtml_reader.proofs.Holding.{opened, outside}
 use Rattle.definitions.specs.Documents.{no_content, without_doctype}
 use Rattle.xhtml_reader.proofs.Places.{Reached, stopped}

@@ -1,5 +1,5 @@
 -- What is kept of a state, when an item is added to both.
-use Rattle.std.proofs.Common.{◌≡◌, ◌≢◌, ℕ, zero, suc, ◌+◌, ◌-◌, ◌<◌, ◌≤◌, Bool, true, false, ◌||◌, ◌&&◌, not, cond, eqb, nat_lt, IsTrue, Bor, List, [], ◌∷◌, ◌++◌, length, map, take, get_or, ◌⊎◌, inl, inr, Option, Some, None, refl, sym, ap, subst, ◌∙◌, append_assoc, append-nil, arith, add-one}
+use Rattle.std.proofs.Common.{◌≡◌, ◌≢◌, ℕ, suc, ◌+◌, ◌-◌, ◌<◌, Bool, true, false, ◌||◌, ◌&&◌, not, cond, eqb, nat_lt, IsTrue, Bor, List, [], ◌∷◌, ◌++◌, length, map, take, get_or, ◌⊎◌, inl, inr, Option, Some, None, refl, sym, ap, subst, ◌∙◌, append_assoc, append-nil, arith}
 use Rattle.std.specs.Str.{chars, encode_utf8_all, bytes_eq, IsUtf8}
 use Rattle.std.proofs.lemmas.Bool.{cases_Bool, and_parts, eqb-true}
 use Rattle.std.proofs.lemmas.Bool.Decides.{nat_tests}
@@ -11,10 +11,9 @@ use Rattle.plain_types.specs.Building.{Building, accepts_node, is_inside, is_who
 use Rattle.plain_types.specs.Rows.{row, rows, forest_of}
 use Rattle.plain_types.specs.declared.attr.Attr.{Attr}
 use Rattle.plain_types.specs.declared.node.Node.{Node}
-use Rattle.plain_types.specs.declared.node.Node.TheVariants.{Element, Text}
+use Rattle.plain_types.specs.declared.node.Node.TheVariants.{Element}
 use Rattle.plain_types.specs.declared.row.Row.{Row}
 use Rattle.plain_types.proofs.ForestLemmas.{forest_of-rows}
-use Rattle.definitions.specs.Characters.{is_blank}
 use Rattle.definitions.specs.Documents.{is_misc, left_by}
 use Rattle.definitions.specs.Items.{Item, doctype, comment, instruction, start_tag, empty_tag, end_tag, reference, section, plain_character}
 use Rattle.definitions.specs.Nodes.{then_element, then_characters}
@@ -23,7 +22,7 @@ use Rattle.xhtml_reader.specs.declared.kind.Kind.TheVariants.{Document, Fragment
 use Rattle.xhtml_reader.specs.Machine.{Frame, frame, State, at_start, after_doctype, in_text, inside, at_end, some_state, closed_in, opens, stands, outside_text, leave_text, leave_nothing, IsFinal, step, run}
 use Rattle.xhtml_reader.specs.Keeping.{Kept, kept_outside, built_of, with_text, accepts_element, accepts_characters, accepts_doctype, ended, is_fragment, ends_in_text, name_bytes, names_of, rows_before, text_rows, KeepsInside, Keeps}
 use Rattle.xhtml_reader.proofs.Nodes.{then_characters-append, no_text_after, not_empty_after, rows-then_tree, rows-then_characters}
-use Rattle.xhtml_reader.proofs.Machine.{same_name, character_steps}
+use Rattle.xhtml_reader.proofs.Machine.{character_steps}
 use Rattle.xhtml_reader.proofs.Texts.{with_no_text}
 use Rattle.xhtml_reader.proofs.Wholes.{left_start, at_start_patient, after_doctype_patient, at_end_patient}
 

@@ -1,9 +1,8 @@
 -- Where reading stops is the place of the fault, and where it ends there is a tree.
-use Rattle.std.proofs.Common.{◌≡◌, ◌≢◌, ℕ, ◌+◌, ◌<◌, ◌≤◌, Bool, true, false, List, [], ◌∷◌, ◌++◌, length, take, drop, ◌⊎◌, inl, inr, Option, Some, None, refl, sym, ap, subst, ◌∙◌, append_assoc, append-nil, arith}
+use Rattle.std.proofs.Common.{◌≡◌, ◌≢◌, ℕ, ◌≤◌, List, [], ◌∷◌, ◌++◌, length, take, drop, ◌⊎◌, inl, inr, Option, Some, None, refl, sym, ap, subst, ◌∙◌, append_assoc, append-nil, arith}
 use Rattle.std.proofs.lemmas.List.{length-append, length-take-le, nil_from_length, take-append-drop, take_all, take_at}
-use Rattle.forest.specs.Forest.{Forest, Empty, Tree}
+use Rattle.forest.specs.Forest.{Forest}
 use Rattle.plain_types.specs.declared.node.Node.{Node}
-use Rattle.plain_types.specs.declared.node.Node.TheVariants.{Text}
 use Rattle.definitions.specs.Faults.{IsSound, IsFaultPlace}
 use Rattle.definitions.specs.Items.{Item, ArePieces}
 use Rattle.definitions.specs.Spelling.{Spells}

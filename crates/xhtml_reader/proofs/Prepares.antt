@@ -1,10 +1,9 @@
 -- Line ends.
 use Rattle.std.proofs.Common.{◌≡◌, ℕ, Bool, true, false, ◌&&◌, cond, eqb, List, [], ◌∷◌, ◌++◌, refl, sym, ap, ◌∙◌}
 use Rattle.std.specs.Str.{chars, IsUtf8, NonePass, NoCharPasses}
-use Rattle.std.proofs.lemmas.Bool.{cases_Bool}
 use Rattle.std.proofs.lemmas.Str.{chars_from_encodes}
 use Rattle.definitions.specs.Prepared.{as_line_feed, with_line_feeds}
-use Rattle.xhtml_reader.specs.LineEnds.{begins_with_line_feed, line_end_left}
+use Rattle.xhtml_reader.specs.LineEnds.{line_end_left}
 
 -- the first character, and then the others
 pub first_prepared : (c : ℕ) (rest : List ℕ) → with_line_feeds (c ∷ rest) ≡ line_end_left c rest ++ with_line_feeds rest

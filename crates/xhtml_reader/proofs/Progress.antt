@@ -1,16 +1,15 @@
 -- What the loop over a text keeps.
-use Rattle.std.proofs.Common.{◌≡◌, ◌≢◌, ℕ, ◌+◌, ◌-◌, ◌≤◌, List, [], ◌∷◌, ◌++◌, length, take, Bool, true, false, Option, Some, None, refl, sym, ap, subst, ◌∙◌, append_assoc, append-nil, arith}
+use Rattle.std.proofs.Common.{◌≡◌, ◌≢◌, ℕ, ◌+◌, ◌-◌, ◌≤◌, List, [], ◌++◌, length, take, Some, None, refl, sym, ap, subst, ◌∙◌, append_assoc, append-nil, arith}
 use Rattle.std.proofs.lemmas.List.{length-append}
-use Rattle.forest.specs.Forest.{Forest, Empty}
+use Rattle.forest.specs.Forest.{Forest}
 use Rattle.plain_types.specs.declared.node.Node.{Node}
 use Rattle.definitions.specs.Documents.{no_content}
 use Rattle.definitions.specs.Faults.{IsFaultPlace, FailsAt, line_feeds, last_line}
-use Rattle.definitions.specs.Items.{Item}
 use Rattle.definitions.specs.Texts.{HasTree}
 use Rattle.xhtml_reader.specs.declared.kind.Kind.{Kind}
 use Rattle.xhtml_reader.specs.declared.kind.Kind.TheVariants.{Document, Fragment}
 use Rattle.xhtml_reader.specs.Keeping.{Kept, Keeps, Advances, Finishes}
-use Rattle.xhtml_reader.specs.Machine.{State, at_start, IsFinal, allows}
+use Rattle.xhtml_reader.specs.Machine.{State, at_start, allows}
 use Rattle.xhtml_reader.specs.Reading.{Leads, Stops}
 use Rattle.xhtml_reader.proofs.Holding.{Holds, outside}
 use Rattle.xhtml_reader.proofs.Places.{Reached, Reached-more, NoTree, stopped, unfinished, found}

@@ -1,5 +1,5 @@
 -- The items of a whole document or fragment lead to its end.
-use Rattle.std.proofs.Common.{◌≡◌, ◌≢◌, ℕ, ◌⊎◌, Bool, true, false, cond, IsTrue, List, [], ◌∷◌, ◌++◌, Option, Some, None, refl, sym, ap, subst, ◌∙◌, append_assoc, append-nil, inl, inr}
+use Rattle.std.proofs.Common.{◌≡◌, ◌≢◌, ℕ, ◌⊎◌, true, List, [], ◌∷◌, ◌++◌, Option, Some, refl, sym, ap, ◌∙◌, append-nil, inl, inr}
 use Rattle.std.specs.List.{list_all}
 use Rattle.std.proofs.lemmas.Bool.{and_parts}
 use Rattle.forest.specs.Forest.{Forest, Empty, Tree, then_tree}
@@ -10,10 +10,10 @@ use Rattle.plain_types.specs.declared.node.Node.TheVariants.{Element, Text}
 use Rattle.definitions.specs.Documents.{is_misc, AreMisc, left_by, IsElement, IsContent, no_content, and_characters, and_element, IsProlog, without_doctype, with_doctype, IsDocument, document}
 use Rattle.definitions.specs.Fragments.{IsFragment}
 use Rattle.definitions.specs.Items.{Item, doctype, comment, instruction, start_tag, empty_tag, end_tag, reference, section, plain_character}
-use Rattle.definitions.specs.Nodes.{then_element, joined_with, then_some_characters, then_characters}
+use Rattle.definitions.specs.Nodes.{then_element, then_some_characters, then_characters}
 use Rattle.xhtml_reader.specs.declared.kind.Kind.{Kind}
 use Rattle.xhtml_reader.specs.declared.kind.Kind.TheVariants.{Document, Fragment}
-use Rattle.xhtml_reader.specs.Machine.{State, at_start, after_doctype, in_text, inside, at_end, some_state, outside_text, leave_text, leave_nothing, IsFinal, allows, step, run}
+use Rattle.xhtml_reader.specs.Machine.{State, at_start, after_doctype, in_text, inside, at_end, some_state, outside_text, IsFinal, allows, step, run}
 use Rattle.xhtml_reader.proofs.Machine.{run-append, root_runs}
 
 -- a whole text leads to a state whose tree is this one

@@ -1,5 +1,5 @@
 -- Reading on from a state.
-use Rattle.std.specs.Prelude.{◌≡◌, ℕ, ◌⊎◌, List, ◌++◌, Option, Some, None}
+use Rattle.std.specs.Prelude.{◌≡◌, ℕ, ◌⊎◌, List, ◌++◌, Some, None}
 use Rattle.definitions.specs.Items.{Item, ArePieces}
 use Rattle.definitions.specs.Spelling.{Spells}
 use Rattle.xhtml_items.specs.Reading.{item_at}

@@ -1,4 +1,4 @@
-use Rattle.std.proofs.Common.{◌≡◌, ◌∙◌, true, false, ◌==◌, length, sym}
+use Rattle.std.proofs.Common.{◌∙◌, sym}
 use Rattle.marker_cli.proofs.TreeLemmas.{built_thin, empty_text}
 use Rattle.marker_cli.proofs.dump.built_tree.Goals as goal
 

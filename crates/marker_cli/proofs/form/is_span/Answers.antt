@@ -1,6 +1,5 @@
 use Rattle.std.proofs.Common.{arith}
 use Rattle.std.proofs.lemmas.Int.{ints}
-use Rattle.std.proofs.lemmas.Grind.{common_steps}
 use Rattle.marker_cli.proofs.form.is_span.Goals as goal
 
 pub returns-then-from-to : goal.returns-then-from-to

@@ -1,1 +1,0 @@
-use Rattle.marker_cli.proofs.form.read_form.Goals as goal

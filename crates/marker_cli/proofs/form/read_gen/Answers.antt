@@ -1,7 +1,7 @@
-use Rattle.std.proofs.Common.{◌≡◌, ◌∙◌, ℕ, ◌<◌, ◌^◌, arith, sym, rules, false, true, IsTrue}
+use Rattle.std.proofs.Common.{◌≡◌, ◌∙◌, ℕ, arith, sym}
 use Rattle.std.specs.Fmt.{decimal}
 use Rattle.std.proofs.lemmas.Fmt.{IsAscii-decimal}
-use Rattle.marker_cli.specs.Words.{IsGen, word}
+use Rattle.marker_cli.specs.Words.{IsGen}
 use Rattle.marker_cli.proofs.FormLemmas.{if_none, number_word, one_natural, word_number}
 use Rattle.marker_cli.proofs.form.read_gen.Goals as goal
 

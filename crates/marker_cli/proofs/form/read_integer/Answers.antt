@@ -1,7 +1,7 @@
-use Rattle.std.proofs.Common.{◌≡◌, rules, ℕ, ◌<◌, ◌^◌, ℤ, arith, sym, ◌∙◌, ap, w32, FitsSigned}
+use Rattle.std.proofs.Common.{◌≡◌, rules, ◌<◌, ◌^◌, ℤ, arith, sym, ◌∙◌, ap, w32, FitsSigned}
 use lib.Signed.{mag}
 use mir.Val.{to_z, of_z}
-use Rattle.std.specs.Prelude.{Ok, Result}
+use Rattle.std.specs.Prelude.{Ok}
 use Rattle.std.specs.Fmt.{signed_decimal}
 use Rattle.std.proofs.lemmas.Int.{ints}
 use Rattle.std.proofs.lemmas.Fmt.{parse-signed_decimal}

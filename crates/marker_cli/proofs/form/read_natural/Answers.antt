@@ -1,5 +1,5 @@
-use Rattle.std.proofs.Common.{◌≡◌, rules, ℕ, ◌<◌, ◌^◌, arith, sym, ◌∙◌, ap}
-use Rattle.std.specs.Prelude.{Ok, Result}
+use Rattle.std.proofs.Common.{◌≡◌, rules, arith, sym, ◌∙◌, ap}
+use Rattle.std.specs.Prelude.{Ok}
 use Rattle.std.specs.Fmt.{decimal}
 use Rattle.std.proofs.lemmas.Fmt.{parse-decimal}
 use Rattle.std.proofs.lemmas.Bool.Decides.{not_from_Decides}

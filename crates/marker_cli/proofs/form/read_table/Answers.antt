@@ -1,5 +1,4 @@
-use Rattle.std.proofs.Common.{◌≡◌, ◌∙◌, ℕ, ℤ, ◌<◌, ◌^◌, arith, sym, rules, w32, FitsSigned}
-use lib.Signed.{mag}
+use Rattle.std.proofs.Common.{◌≡◌, ◌∙◌, ℤ, arith, sym, rules, w32, FitsSigned}
 use mir.Val.{to_z, of_z}
 use Rattle.std.specs.Fmt.{signed_decimal}
 use Rattle.std.proofs.lemmas.Fmt.{IsAscii-signed}

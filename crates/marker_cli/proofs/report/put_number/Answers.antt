@@ -1,4 +1,4 @@
-use Rattle.std.proofs.Common.{◌∙◌, refl}
+use Rattle.std.proofs.Common.{◌∙◌}
 use Rattle.std.proofs.lemmas.Result.{on_err_weaker}
 use Rattle.ports.proofs.GrownLemmas.{front_last, front_step, on_err}
 use Rattle.marker_cli.proofs.report.put_number.Goals as goal

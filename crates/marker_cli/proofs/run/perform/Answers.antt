@@ -1,4 +1,4 @@
-use Rattle.std.proofs.Common.{◌≡◌, ◌∙◌, sym, refl, true, codes, lit<}
+use Rattle.std.proofs.Common.{◌≡◌, refl, lit<}
 use Rattle.std.specs.Str.{chars}
 use Rattle.marker_cli.specs.declared.form.Form.TheVariants.{Dump, Edit, Gen, Table}
 use Rattle.marker_cli.specs.Dump.{EndsReading}

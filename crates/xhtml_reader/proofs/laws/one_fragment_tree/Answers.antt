@@ -1,6 +1,6 @@
 use Rattle.definitions.specs.Prepared.{prepared}
-use Rattle.xhtml_reader.specs.declared.kind.Kind.TheVariants.{Document, Fragment}
-use Rattle.xhtml_reader.proofs.Places.{only_items, only_tree}
+use Rattle.xhtml_reader.specs.declared.kind.Kind.TheVariants.{Fragment}
+use Rattle.xhtml_reader.proofs.Places.{only_tree}
 use Rattle.xhtml_reader.proofs.laws.one_fragment_tree.Goals as goal
 
 pub returns : goal.returns

@@ -1,8 +1,8 @@
-use Rattle.std.proofs.Common.{arith, ◌+◌, ◌<◌, length, drop, ◌≡◌, ◌∷◌, ◌∙◌, sym, refl, ap, true, false, Bool, [], eq-eqb, ne_eqb, ◌-◌}
+use Rattle.std.proofs.Common.{arith, length, ◌∙◌, ap, eq-eqb, ne_eqb}
 use Rattle.std.specs.Str.{chars}
 use Rattle.std.proofs.lemmas.List.{length-drop}
 use Rattle.xhtml_reader.proofs.Lines.{chars_le}
-use Rattle.xhtml_reader.proofs.Lines.{Counts, Counts-end, Counts-more, drop_next}
+use Rattle.xhtml_reader.proofs.Lines.{Counts-end, Counts-more, drop_next}
 use Rattle.xhtml_reader.proofs.place.place_of.Goals as goal
 use Rattle.xhtml_reader.proofs.place.place_of.Goals.{in-Some+then-c-eq10, in-Some+else-c-eq10, in_default}
 

@@ -1,4 +1,4 @@
-use Rattle.std.proofs.Common.{◌≡◌, ◌∙◌, sym, subst}
+use Rattle.std.proofs.Common.{sym, subst}
 use Rattle.std.specs.Str.{chars}
 use Rattle.definitions.specs.Faults.{FailsAt}
 use Rattle.xhtml_reader.specs.Fault.{IsFault}

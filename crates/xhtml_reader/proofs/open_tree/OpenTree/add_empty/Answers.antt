@@ -1,10 +1,9 @@
-use Rattle.std.proofs.Common.{◌≡◌, ◌≢◌, ◌++◌, ◌∷◌, ◌+◌, ◌-◌, ◌||◌, ◌&&◌, not, [], true, false, Bool, sym, ◌∙◌, refl, ap, subst, length, take, eqb, Some}
-use Rattle.std.specs.Str.{chars, encode_utf8_all}
-use Rattle.std.proofs.lemmas.Str.{encodes-chars}
+use Rattle.std.proofs.Common.{◌≡◌, ◌-◌, sym, ◌∙◌, ap}
+use Rattle.std.specs.Str.{chars}
 use Rattle.plain_types.specs.Building.{Building}
-use Rattle.definitions.specs.Items.{doctype, comment, instruction, start_tag, empty_tag, end_tag, reference, section, plain_character}
-use Rattle.xhtml_reader.specs.Keeping.{Kept, Keeps, kept, name_bytes, with_text}
-use Rattle.xhtml_reader.proofs.Keeps.{added_empty, ends_again, kept_of, moved, refused_empty, with_element}
+use Rattle.definitions.specs.Items.{empty_tag}
+use Rattle.xhtml_reader.specs.Keeping.{kept, with_text}
+use Rattle.xhtml_reader.proofs.Keeps.{added_empty, ends_again, moved, with_element}
 use Rattle.xhtml_reader.proofs.open_tree.OpenTree.add_empty.Goals as goal
 
 pub returns-clause-adds : goal.returns-clause-adds

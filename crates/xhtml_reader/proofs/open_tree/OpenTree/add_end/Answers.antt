@@ -1,10 +1,10 @@
-use Rattle.std.proofs.Common.{◌≡◌, ◌≢◌, ◌++◌, ◌∷◌, ◌+◌, ◌-◌, ◌||◌, ◌&&◌, not, [], true, false, Bool, sym, ◌∙◌, refl, ap, subst, length, take, eqb, Some}
+use Rattle.std.proofs.Common.{◌≡◌, ◌++◌, ◌∷◌, ◌-◌, [], sym, ◌∙◌, ap, length, take}
 use Rattle.std.specs.Str.{chars, encode_utf8_all}
 use Rattle.std.proofs.lemmas.Str.{encodes-chars}
 use Rattle.plain_types.specs.Building.{Building}
-use Rattle.definitions.specs.Items.{doctype, comment, instruction, start_tag, empty_tag, end_tag, reference, section, plain_character}
-use Rattle.xhtml_reader.specs.Keeping.{Kept, Keeps, kept, name_bytes, with_text}
-use Rattle.xhtml_reader.proofs.Keeps.{added_end, kept_of, moved, names_last, names_popped, not_same, is_same, refused_end, refused_end_nameless, refused_end_outside}
+use Rattle.definitions.specs.Items.{end_tag}
+use Rattle.xhtml_reader.specs.Keeping.{kept, name_bytes, with_text}
+use Rattle.xhtml_reader.proofs.Keeps.{added_end, moved, names_last, names_popped, not_same, is_same, refused_end}
 use Rattle.xhtml_reader.proofs.open_tree.OpenTree.add_end.Goals as goal
 
 pub returns-then-ne-clause-adds : goal.returns-then-ne-clause-adds

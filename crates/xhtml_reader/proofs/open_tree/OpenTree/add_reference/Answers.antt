@@ -1,9 +1,7 @@
-use Rattle.std.proofs.Common.{◌≡◌, ◌≢◌, ◌++◌, ◌∷◌, not, [], true, false, Bool, sym, ◌∙◌, refl, ap, eqb, length}
-use Rattle.std.specs.Str.{chars}
-use Rattle.definitions.specs.Items.{doctype, comment, instruction, reference, section, plain_character}
-use Rattle.xhtml_reader.specs.Keeping.{Kept, Keeps, kept}
+use Rattle.std.proofs.Common.{◌∷◌, [], true, sym, ◌∙◌, refl, ap}
+use Rattle.definitions.specs.Items.{reference}
+use Rattle.xhtml_reader.specs.Keeping.{kept}
 use Rattle.xhtml_reader.proofs.Keeps.{added_left, moved, waits_more}
-use Rattle.xhtml_reader.proofs.Texts.{empty_chars, full_chars}
 use Rattle.xhtml_reader.proofs.open_tree.OpenTree.add_reference.Goals as goal
 
 pub returns-clause-adds : goal.returns-clause-adds

@@ -1,10 +1,10 @@
-use Rattle.std.proofs.Common.{◌≡◌, [], sym, ◌∙◌, ap}
+use Rattle.std.proofs.Common.{sym, ◌∙◌, ap}
 use Rattle.std.specs.Str.{chars}
 use Rattle.definitions.specs.Characters.{is_plain}
 use Rattle.xhtml_items.specs.Tokens.{item_of}
 use Rattle.xhtml_items.proofs.ItemLaws.{item_shorter}
 use Rattle.xhtml_reader.specs.Keeping.{kept}
-use Rattle.xhtml_reader.proofs.Advances.{spanned, after_some, run_fits, item_fits, item_stops, sound_names}
+use Rattle.xhtml_reader.proofs.Advances.{spanned, after_some, run_fits, item_fits, sound_names}
 use Rattle.xhtml_reader.proofs.Texts.{full_chars}
 use Rattle.xhtml_reader.proofs.open_tree.OpenTree.advance.Goals as goal
 
