@@ -1,0 +1,3 @@
+pub mod Predefined
+pub mod Rules
+pub mod Counts

@@ -1,0 +1,7 @@
+//! Tables of counter styles.
+#![tactic(auto)]
+
+mod defines;
+mod describe;
+mod predefined;
+mod rules;
