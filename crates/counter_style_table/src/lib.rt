@@ -3,5 +3,6 @@
 
 mod defines;
 mod describe;
+mod finish;
 mod predefined;
 mod rules;

@@ -1,0 +1,132 @@
+//! Styles that extend others (CSS Counter Styles 3, 3.1.7).
+//!
+//! The styles that extend nothing are finished first. From each of the others the way goes down along
+//! `extends`, to a style that is finished or to one that the way has passed, and then up again, each
+//! style over the one that it extends. So each rule is passed once, and nothing recurses.
+
+ghost use Rattle.std.specs.Prelude.{◌≡◌, ◌<◌, ℕ, true, false, None, IfOk, OnOk, is_some, length, map, option_copied, reverse, slice_index_or};
+ghost use Rattle.std.specs.List.{range_with_len};
+ghost use Rattle.plain_types.specs.Table.{decimal_style};
+ghost use Rattle.counter_style_table.specs.Extends.{AreSettled, IsDescent, base, finished_at, is_covered, is_done, own, style_from};
+
+use crate::describe::{extended_name, over, own_style};
+use crate::rules::Rules;
+use plain_types::counter_style::CounterStyle;
+use plain_types::duplicate::Duplicate;
+use plain_types::list::List;
+use plain_types::memory::Memory;
+use std::alloc::Global;
+
+/// A way down along `extends`.
+#[derive(Drop)]
+struct Descent {
+    /// The places that were passed.
+    path: Vec<usize>,
+    /// The head of the cycle in which the way ends, if there is one.
+    cycle: Option<usize>,
+    /// The place that the last one extends, where that is finished.
+    from: Option<usize>,
+}
+
+/// What the rule at a place extends, if it extends a style that is defined.
+fn base(rules: &Rules, place: usize) -> Option<usize>
+    requires within { place < length rules.now }
+    ensures base { result ≡ base rules.now place }
+{
+    match extended_name(rules.rule(place)) {
+        Some(name) => rules.find(name.as_str()),
+        None => None,
+    }
+}
+
+/// The style at a place that extends nothing or an undefined style, which counts as `decimal`.
+fn own(
+    alloc: Global,
+    rules: &Rules,
+    place: usize,
+    decimal: &CounterStyle,
+) -> Result<CounterStyle, Memory>
+    requires within { place < length rules.now }
+    requires decimal { decimal.now ≡ decimal_style }
+    ensures style { IfOk result (λ style. style ≡ own rules.now place) }
+{
+    let rule = rules.rule(place);
+    if extended_name(rule).is_some() {
+        over(alloc, rule, decimal.duplicate(alloc)?)
+    } else {
+        own_style(alloc, rule)
+    }
+}
+
+/// The styles of which no other is needed, each at its place.
+fn own_styles(
+    alloc: Global,
+    rules: &Rules,
+    decimal: &CounterStyle,
+) -> Result<Vec<Option<CounterStyle>>, Memory>
+    requires decimal { decimal.now ≡ decimal_style }
+    ensures settled { IfOk result (λ styles. AreSettled rules.now styles.items) }
+{
+    let mut styles = Vec::new(alloc);
+    for place in 0..rules.len() {
+        let style = match base(rules, place) {
+            Some(_) => None,
+            None => Some(own(alloc, rules, place, decimal)?),
+        };
+        styles.push(style)?;
+    }
+    Ok(styles)
+}
+
+/// Which styles are finished.
+fn marks(alloc: Global, styles: &[Option<CounterStyle>]) -> Result<Vec<bool>, Memory>
+    ensures marks { IfOk result (λ marks. marks.items ≡ map is_some styles.now) }
+{
+    let mut marks = Vec::new(alloc);
+    for style in styles {
+        marks.push(style.is_some())?;
+    }
+    Ok(marks)
+}
+
+/// Goes down from a place along `extends` to the first that is finished or passed before, and marks the
+/// places that are passed.
+fn descend(
+    alloc: Global,
+    rules: &Rules,
+    styles: &[Option<CounterStyle>],
+    begun: &mut [bool],
+    start: usize,
+) -> Result<Descent, Memory>
+    requires start { start < length rules.now }
+    requires settled { AreSettled rules.now styles.now }
+    requires room { length begun.old ≡ length rules.now }
+    requires marked { (place : ℕ) → slice_index_or begun.old place false ≡ is_done styles.now place }
+    ensures descent { IfOk result (λ descent. IsDescent rules.now styles.now (reverse descent.path.items) descent.cycle descent.from) }
+    ensures marked { IfOk result (λ descent. (place : ℕ) → slice_index_or begun.new place false ≡ is_covered styles.now (reverse descent.path.items) place) }
+    ensures start { IfOk result (λ descent. is_covered styles.now (reverse descent.path.items) start ≡ true) }
+{
+    let mut path: Vec<usize> = Vec::new(alloc);
+    let mut at = start;
+    'down: while !begun[at] {
+        begun[at] = true;
+        path.push(at)?;
+        let Some(next) = base(rules, at) else {
+            unreachable!("a style that extends nothing is finished");
+        };
+        at = next;
+    }
+    if styles[at].is_some() {
+        Ok(Descent {
+            path,
+            cycle: None,
+            from: Some(at),
+        })
+    } else {
+        Ok(Descent {
+            path,
+            cycle: Some(at),
+            from: None,
+        })
+    }
+}
