@@ -109,6 +109,7 @@ module _ (rules : List StyleDef) (styles : List (Option CounterStyle)) (start : 
         ready_at_finished (base rules) (over_at rules) (finished_at rules) (length rules) (finished_on_cycle rules) (finished_off_cycle rules)
         (λ p. is_done styles p ≡ true) (λ p q. s.closed p q) at (style_from styles (Some at)) path
         f (from_done at s f) (λ p i g. both_ways _ (d.unfinished p i) g) d.below d.linked;
+    decimal_first = λ head e. absurd (none_some e);
     covered = covered_next begun at path d (sym (d.marked at) ∙ h);
   }
 
@@ -121,5 +122,6 @@ module _ (rules : List StyleDef) (styles : List (Option CounterStyle)) (start : 
         ready =
             ready_at_cycle (base rules) (over_at rules) (finished_at rules) (length rules) (finished_on_cycle rules) (finished_off_cycle rules)
             at path d.linked d.below here d.distinct;
+        decimal_first = λ head e. refl;
         covered = covered_next begun at path d covered;
       }

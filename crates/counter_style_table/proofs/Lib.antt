@@ -4,3 +4,4 @@ pub mod CycleLemmas
 pub mod PathLemmas
 pub mod SettledLemmas
 pub mod DescentLemmas
+pub mod AscentLemmas

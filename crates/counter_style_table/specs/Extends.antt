@@ -109,4 +109,5 @@ pub record AreSettled (rules : List StyleDef) (styles : List (Option CounterStyl
 pub record IsDescent (rules : List StyleDef) (styles : List (Option CounterStyle)) (path : List ℕ) (cycle from : Option ℕ) : Type 0 where
   pub below : AreBelow (length rules) path
   pub ready : AreReady (base rules) (over_at rules) (finished_at rules) cycle (style_from styles from) path
+  pub decimal_first : (head : ℕ) → cycle ≡ Some head → from ≡ None
   pub covered : (place other : ℕ) → is_in place path ≡ true → base rules place ≡ Some other → is_covered styles path other ≡ true

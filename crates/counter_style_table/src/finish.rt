@@ -130,3 +130,57 @@ fn descend(
         })
     }
 }
+
+/// Finishes the styles of a way down, the last place first.
+fn ascend(
+    alloc: Global,
+    rules: &Rules,
+    decimal: &CounterStyle,
+    styles: &mut [Option<CounterStyle>],
+    descent: Descent,
+) -> Result<(), Memory>
+    requires decimal { decimal.now ≡ decimal_style }
+    requires settled { AreSettled rules.now styles.old }
+    requires descent { IsDescent rules.now styles.old (reverse descent.path.items) descent.cycle descent.from }
+    ensures settled { OnOk result (AreSettled rules.now styles.new) }
+    ensures done { OnOk result ((place : ℕ) → is_done styles.new place ≡ is_covered styles.old (reverse descent.path.items) place) }
+{
+    let Descent {
+        mut path,
+        mut cycle,
+        mut from,
+    } = descent;
+    'up: while let Some(place) = path.pop() {
+        let extended = style_from(styles, from, decimal).duplicate(alloc)?;
+        let style = over(alloc, rules.rule(place), extended)?;
+        styles[place] = Some(style);
+        match cycle {
+            Some(head) => {
+                if head == place {
+                    cycle = None;
+                    from = Some(place);
+                }
+            }
+            None => from = Some(place),
+        }
+    }
+    Ok(())
+}
+
+/// The style at a place that is finished, or `decimal`.
+fn style_from<'a>(
+    styles: &'a [Option<CounterStyle>],
+    from: Option<usize>,
+    decimal: &'a CounterStyle,
+) -> &'a CounterStyle
+    requires decimal { decimal.now ≡ decimal_style }
+    ensures style { result.now ≡ style_from styles.now from }
+{
+    match from {
+        Some(place) => match styles.get(place) {
+            Some(Some(style)) => style,
+            _ => decimal,
+        },
+        None => decimal,
+    }
+}
