@@ -1,12 +1,13 @@
 -- How far styles are finished.
-use Rattle.std.proofs.Common.{◌≡◌, ◌+◌, ◌<◌, ◌≤◌, ℕ, List, [], ◌∷◌, ◌++◌, Option, Some, None, Bool, true, false, ◌||◌, cond, length, map, get_or, set, refl, sym, ap, subst, ◌∙◌, arith, inl, inr, length-append}
-use Rattle.std.specs.List.{position, slice_get}
+use Rattle.std.proofs.Common.{◌≡◌, ◌+◌, ◌<◌, ◌≤◌, ℕ, List, [], ◌∷◌, ◌++◌, Option, Some, None, Bool, true, false, ◌||◌, cond, length, map, get_or, set, take, drop, append-nil, refl, sym, ap, subst, ◌∙◌, arith, inl, inr, length-append}
+use Rattle.std.specs.List.{filter_map, position, range_with_len, slice_get}
 use Rattle.std.specs.Option.{option_and_then, option_map, option_map_or}
 use Rattle.std.specs.Prelude.{is_some}
-use Rattle.std.proofs.lemmas.Bool.{cases_lt, cases_eq, both_ways}
-use Rattle.std.proofs.Math.ListN.{get_or-append}
+use Rattle.std.proofs.lemmas.Bool.{cases_lt, cases_eq, both_ways, or_left}
+use Rattle.std.proofs.Math.ListN.{drop_of_length-le, get_or-append, get_or-map}
 use Rattle.std.proofs.Math.Seq.{get_or-append_seam}
-use Rattle.std.proofs.lemmas.List.{get_or_default, get_or_past}
+use Rattle.std.proofs.lemmas.List.{get_or_default, get_or_past, length-map, take_all}
+use Rattle.std.proofs.lemmas.List.FromFn.{fill_by_all}
 use Rattle.std.proofs.lemmas.List.Quantifiers.{position-Some}
 use Rattle.std.proofs.lemmas.Option.{slice_get-get_or, slice_get_within, get_or_from_slice_get}
 use Rattle.plain_types.specs.declared.counter_style.CounterStyle.{CounterStyle}
@@ -15,7 +16,7 @@ use Rattle.plain_types.specs.StyleNames.{style_name}
 use Rattle.plain_types.specs.Table.{decimal_style}
 use Rattle.definitions.specs.CounterStyles.{extended_by, system_of}
 use Rattle.definitions.proofs.Chains.{cases_option}
-use Rattle.counter_style_table.specs.Extends.{AreSettled, OnCycle, base, base_of, finished_at, is_done, own, over_at}
+use Rattle.counter_style_table.specs.Extends.{AreSettled, OnCycle, base, base_of, finished_at, is_covered, is_done, is_in, own, over_at}
 use Rattle.counter_style_table.specs.Rules.{is_named}
 use Rattle.counter_style_table.proofs.CycleLemmas.{none_some, finished-plain, finished-cyclic, finished-extends}
 
@@ -109,3 +110,52 @@ module _ (rules : List StyleDef) where
 -- whether a style is finished, as the code reads it
 pub done_by : (styles : List (Option CounterStyle)) (place : ℕ) (found : Option CounterStyle) (test : Bool) → place < length styles → found ≡ get_or styles place found → test ≡ is_some found → is_done styles place ≡ test
 done_by styles place found test h e f = ap is_some (get_or_default styles place None found h ∙ sym e) ∙ sym f
+
+-- What holds between one way down and the next: the styles are settled, those are marked that are finished,
+-- and all before a place are.
+pub record AreFinishedBefore (rules : List StyleDef) (styles : List (Option CounterStyle)) (begun : List Bool) (place : ℕ) : Type 0 where
+  pub settled : AreSettled rules styles
+  pub room : length begun ≡ length rules
+  pub marked : (p : ℕ) → get_or begun p false ≡ is_done styles p
+  pub done : (p : ℕ) → p < place → is_done styles p ≡ true
+
+module _ (rules : List StyleDef) where
+  pub finished_none : (styles : List (Option CounterStyle)) (begun : List Bool) → AreSettled rules styles → begun ≡ map is_some styles → AreFinishedBefore rules styles begun 0
+  finished_none styles begun s e = record {
+    settled = s;
+    room = ap length e ∙ length-map styles is_some ∙ s.room;
+    marked = λ p. ap (λ marks. get_or marks p false) e ∙ get_or-map is_some styles p None;
+    done = λ p h. absurd (omega arith);
+  }
+
+  pub finished_more : (styles styles' : List (Option CounterStyle)) (begun begun' : List Bool) (place : ℕ) (path : List ℕ)
+      → AreFinishedBefore rules styles begun place → AreSettled rules styles' → length begun' ≡ length begun
+      → ((p : ℕ) → get_or begun' p false ≡ is_covered styles path p) → ((p : ℕ) → is_done styles' p ≡ is_covered styles path p) → is_covered styles path place ≡ true
+      → AreFinishedBefore rules styles' begun' (place + 1)
+  finished_more styles styles' begun begun' place path f s e marked covered here = record {
+    settled = s;
+    room = e ∙ f.room;
+    marked = λ p. marked p ∙ sym (covered p);
+    done = λ p h. elim (cases_eq p place) [
+        inl same ↦ covered p ∙ ap (is_covered styles path) same ∙ here
+      | inr away ↦ covered p ∙ or_left (is_done styles p) (is_in p path) (f.done p (omega (arith, h, away)))
+      ];
+  }
+
+  pub finished_all : (styles : List (Option CounterStyle)) (begun : List Bool) (place : ℕ) → length rules ≤ place → AreFinishedBefore rules styles begun place
+      → styles ≡ map (λ p. Some (finished_at rules p)) (range_with_len 0 (length rules))
+  finished_all styles begun place h f =
+      fill_by_all (λ p. Some (finished_at rules p)) styles (length rules) None f.settled.room (λ p k. finished_here p (f.done p (omega (arith, h, k)))) where
+      finished_here : (p : ℕ) → is_done styles p ≡ true → get_or styles p None ≡ Some (finished_at rules p)
+      finished_here p d = elim (cases_option (get_or styles p None)) [
+          inl e ↦ absurd (both_ways _ (ap is_some e) d)
+        | inr (style, e) ↦ e ∙ ap Some (f.settled.right p style e)
+        ]
+
+pub filter_map-Some : {X : Type 0} (f : ℕ → X) (places : List ℕ) → filter_map (λ (style : Option X). style) (map (λ p. Some (f p)) places) ≡ map f places
+filter_map-Some f [] = refl
+filter_map-Some f (p ∷ places) = ap (λ rest. f p ∷ rest) (filter_map-Some f places)
+
+-- a slice of a whole vector that was written back
+pub written_back : {X : Type 0} (new old : List X) (n : ℕ) → n ≡ length old → length new ≡ length old → take n (new ++ drop (length new) old) ≡ new
+written_back new old n e h = ap (λ rest. take n (new ++ rest)) (drop_of_length-le old (omega (arith, h))) ∙ ap (take n) (append-nil new) ∙ take_all n new (omega (arith, e, h))

@@ -96,7 +96,7 @@ fn describe(
 }
 
 /// A style of which only the system is known.
-fn initial_style(alloc: Global, system: System) -> Result<CounterStyle, Memory>
+pub fn initial_style(alloc: Global, system: System) -> Result<CounterStyle, Memory>
     ensures style { IfOk result (λ style. style ≡ initial_style system) }
 {
     let ranges = automatic_range(alloc, &system)?;

@@ -4,12 +4,14 @@
 //! `extends`, to a style that is finished or to one that the way has passed, and then up again, each
 //! style over the one that it extends. So each rule is passed once, and nothing recurses.
 
-ghost use Rattle.std.specs.Prelude.{◌≡◌, ◌<◌, ℕ, true, false, None, IfOk, OnOk, is_some, length, map, option_copied, reverse, slice_index_or};
-ghost use Rattle.std.specs.List.{range_with_len};
+ghost use Rattle.std.specs.Prelude.{◌≡◌, ◌<◌, ℕ, true, false, Option, Some, None, IfOk, OnOk, is_some, length, map, option_copied, reverse, slice_index_or};
+ghost use Rattle.std.specs.List.{filter_map, range_with_len};
+ghost use Rattle.plain_types.specs.declared.counter_style.CounterStyle.{CounterStyle};
 ghost use Rattle.plain_types.specs.Table.{decimal_style};
 ghost use Rattle.counter_style_table.specs.Extends.{AreSettled, IsDescent, base, finished_at, is_covered, is_done, own, style_from};
 
 use crate::describe::{extended_name, over, own_style};
+use crate::predefined::decimal;
 use crate::rules::Rules;
 use plain_types::counter_style::CounterStyle;
 use plain_types::duplicate::Duplicate;
@@ -183,4 +185,48 @@ fn style_from<'a>(
         },
         None => decimal,
     }
+}
+
+/// The finished style of each rule, in the order of the rules, in time linear in the finished styles.
+pub fn finish(alloc: Global, rules: &Rules) -> Result<List<CounterStyle>, Memory>
+    ensures styles { IfOk result (λ styles. styles ≡ map (finished_at rules.now) (range_with_len 0 (length rules.now))) }
+{
+    let decimal = decimal(alloc)?;
+    let mut styles = own_styles(alloc, rules, &decimal)?;
+    let mut begun = marks(alloc, &styles)?;
+    finish_others(alloc, rules, &decimal, &mut styles, &mut begun)?;
+    gather(alloc, styles)
+}
+
+/// Finishes the styles that extend others.
+fn finish_others(
+    alloc: Global,
+    rules: &Rules,
+    decimal: &CounterStyle,
+    styles: &mut [Option<CounterStyle>],
+    begun: &mut [bool],
+) -> Result<(), Memory>
+    requires decimal { decimal.now ≡ decimal_style }
+    requires settled { AreSettled rules.now styles.old }
+    requires marked { begun.old ≡ map is_some styles.old }
+    ensures styles { OnOk result (styles.new ≡ map (λ place. Some (finished_at rules.now place)) (range_with_len 0 (length rules.now))) }
+{
+    for start in 0..rules.len() {
+        let descent = descend(alloc, rules, styles, begun, start)?;
+        ascend(alloc, rules, decimal, styles, descent)?;
+    }
+    Ok(())
+}
+
+/// The styles that are finished, in their order.
+fn gather(alloc: Global, styles: Vec<Option<CounterStyle>>) -> Result<List<CounterStyle>, Memory>
+    ensures styles { IfOk result (λ gathered. gathered ≡ filter_map (λ (style : Option CounterStyle). style) styles.items) }
+{
+    let mut gathered = List::new(alloc);
+    for style in styles {
+        if let Some(style) = style {
+            gathered.push(style)?;
+        }
+    }
+    Ok(gathered)
 }

@@ -2,11 +2,13 @@
 
 ghost use Rattle.std.specs.Prelude.{◌≡◌, ◌∷◌, [], IfOk, Some, None, codes, map, pos};
 ghost use Rattle.std.specs.Str.{chars};
+ghost use Rattle.plain_types.specs.Table.{decimal_style};
 ghost use Rattle.definitions.specs.PredefinedStyles.{predefined, symbols_of};
 ghost use Rattle.counter_style_table.specs.Predefined.{descriptors_of, rule_of, tuple_of};
 
+use crate::describe::initial_style;
 use plain_types::count::Count;
-use plain_types::counter_style::{Bounds, Descriptor, StyleDef, Weight};
+use plain_types::counter_style::{Bounds, CounterStyle, Descriptor, StyleDef, Weight};
 use plain_types::list::List;
 use plain_types::memory::Memory;
 use plain_types::style_ref::System;
@@ -304,6 +306,16 @@ pub fn predefined_rules(alloc: Global) -> Result<List<StyleDef>, Memory>
     ensures rules { IfOk result (λ rules. rules ≡ predefined) }
 {
     rules_of(alloc, &PREDEFINED)
+}
+
+/// The style `decimal`.
+pub fn decimal(alloc: Global) -> Result<CounterStyle, Memory>
+    ensures style { IfOk result (λ style. style ≡ decimal_style) }
+{
+    let mut style = initial_style(alloc, System::Numeric)?;
+    style.name = Text::from_str(alloc, "decimal")?;
+    style.symbols = symbols_of(alloc, "0123456789")?;
+    Ok(style)
 }
 
 /// The rules of these styles.
