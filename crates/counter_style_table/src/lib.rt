@@ -1,6 +1,7 @@
 //! Tables of counter styles.
 #![tactic(auto)]
 
+pub mod build;
 mod defines;
 mod describe;
 mod finish;
