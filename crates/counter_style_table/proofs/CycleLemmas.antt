@@ -188,3 +188,22 @@ module _ (base : ℕ → Option ℕ) where
           let fresh : is_met nat_eq (p ∷ []) q ≡ false = false_from_ne_true _ (λ i. n (comes_back [] p q none e i)) in
           let fell = left-falls [] p refl k in
           rw (e, off) (ap (over p) (same_within styles (suc styles) (p ∷ []) q (leads_on [] p q none e) fresh (within p q e) (omega (arith, fell, unmet-items, s)) (omega (arith, fell, unmet-items, s))))
+
+      -- more styles in a row than there are places change nothing
+      pub finished-enough : (m p : ℕ) → p < count → count ≤ m → built m p ≡ built count p
+      finished-enough m p h k = same_within m count [] p (none_leads p) refl h (omega (arith, unmet-items, k)) (omega (arith, unmet-items))
+
+-- a greater number of places, of which only the first ones extend others, changes nothing
+module _ (base : ℕ → Option ℕ) (own : ℕ → CounterStyle) (over : ℕ → CounterStyle → CounterStyle) (count more : ℕ) (within : (p q : ℕ) → base p ≡ Some q → q < count) (larger : count ≤ more) where
+  finished_by_more : (styles p : ℕ) → p < count → finished_within base own over more styles p ≡ finished_within base own over count styles p
+  finished_by_more zero p h = refl
+  finished_by_more (suc styles) p h = elim (cases_option (base p)) [
+      inl e ↦ rw e refl
+    | inr (q, e) ↦
+        let test = leads_enough base count within more p p h larger in
+        let rest = finished_by_more styles q (within p q e) in
+        rw (e, test, rest) refl
+    ]
+
+  pub finished-more : (p : ℕ) → p < count → finished_within base own over more more p ≡ finished_within base own over count count p
+  finished-more p h = finished_by_more more p h ∙ finished-enough base count within own over more p h larger

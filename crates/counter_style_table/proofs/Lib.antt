@@ -5,3 +5,5 @@ pub mod PathLemmas
 pub mod SettledLemmas
 pub mod DescentLemmas
 pub mod AscentLemmas
+pub mod NameLemmas
+pub mod FinishedLemmas
