@@ -29,15 +29,15 @@ find_position p xs = elim (cases_lt (position_or_len p xs) (length xs)) [
   | inr h ↦ find_at p xs ∙ slice_get_past xs (position_or_len p xs) h ∙ sym (ap (λ b. option_and_then (slice_get xs) (cond b (Some (position_or_len p xs)) None)) (le-ltb (position_or_len p xs) (length xs) h))
   ]
 
-abbrev no_rule : StyleDef
+abbrev pub no_rule : StyleDef
 no_rule = record { name = []; descriptors = [] }
 
 module _ (rules : List StyleDef) where
-  abbrev put : List StyleDef
+  abbrev pub put : List StyleDef
   put = fold with_rule [] rules
 
   -- what is found under a name, by its place
-  last_position : (name : List ℕ) → last_named rules name ≡ option_and_then (slice_get put) (position (is_named name) put)
+  pub last_position : (name : List ℕ) → last_named rules name ≡ option_and_then (slice_get put) (position (is_named name) put)
   last_position name = last_named-put rules name ∙ find_position (is_named name) put
 
   found_at : (name : List ℕ) (q : ℕ) → position (is_named name) put ≡ Some q → (rule : StyleDef) × (slice_get put q ≡ Some rule) × (name ≡ name_of rule)
@@ -51,7 +51,7 @@ module _ (rules : List StyleDef) where
   found_none : (name : List ℕ) → position (is_named name) put ≡ None → last_named rules name ≡ None
   found_none name e = last_position name ∙ ap (option_and_then (slice_get put)) e
 
-  found_own : (p : ℕ) (rule : StyleDef) → slice_get put p ≡ Some rule → last_named rules (name_of rule) ≡ Some rule
+  pub found_own : (p : ℕ) (rule : StyleDef) → slice_get put p ≡ Some rule → last_named rules (name_of rule) ≡ Some rule
   found_own p rule at = last_position (name_of rule) ∙ ap (option_and_then (slice_get put)) (position-own put p rule (apart-put rules) at) ∙ at
 
   extended_own : (p : ℕ) (rule : StyleDef) → slice_get put p ≡ Some rule → extended_name rules (name_of rule) ≡ extended_by (system_of rule)
@@ -152,7 +152,7 @@ module _ (rules : List StyleDef) where
     | inr h ↦ rw h (omega (arith, length-with_rule all rule))
     ]
 
-  length-fold : (more before : List StyleDef) → length (fold with_rule before more) ≤ length before + length more
+  pub length-fold : (more before : List StyleDef) → length (fold with_rule before more) ≤ length before + length more
   length-fold [] before = omega arith
   length-fold (rule ∷ more) before = omega (arith, length-fold more (with_rule before rule), length-with_rule before rule)
 

@@ -7,3 +7,4 @@ pub mod DescentLemmas
 pub mod AscentLemmas
 pub mod NameLemmas
 pub mod FinishedLemmas
+pub mod TableLemmas

@@ -25,7 +25,7 @@ length-agree p q [] (y ∷ ys) e = absurd (cc)
 length-agree p q (x ∷ xs) [] e = absurd (cc)
 length-agree p q (x ∷ xs) (y ∷ ys) e = let rest : map p xs ≡ map q ys = cc in ap suc (length-agree p q xs ys rest)
 
-position-agree : {A B : Type 0} (p : A → Bool) (q : B → Bool) (xs : List A) (ys : List B) → map p xs ≡ map q ys → position p xs ≡ position q ys
+pub position-agree : {A B : Type 0} (p : A → Bool) (q : B → Bool) (xs : List A) (ys : List B) → map p xs ≡ map q ys → position p xs ≡ position q ys
 position-agree p q xs ys e =
     ap (λ n. cond (nat_lt n (length xs)) (Some n) None) (prefix_len-agree p q xs ys e)
     ∙ ap (λ n. cond (nat_lt (prefix_len (λ y. not (q y)) ys) n) (Some (prefix_len (λ y. not (q y)) ys)) None) (length-agree p q xs ys e)
