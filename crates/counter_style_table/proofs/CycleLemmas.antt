@@ -1,8 +1,8 @@
 -- Cycles of `extends`, by places, and the equations that finished styles obey.
-use Rattle.std.proofs.Common.{◌≡◌, ◌+◌, ◌∷◌, ◌==◌, ◌||◌, ◌<◌, ◌≤◌, ℕ, zero, suc, List, [], Bool, true, false, cond, Option, Some, None, nat_eq, length, refl, sym, ap, subst, ◌∙◌, arith, inl, inr, ◌⊎◌}
+use Rattle.std.proofs.Common.{◌≡◌, ◌+◌, ◌∷◌, ◌==◌, ◌||◌, ◌<◌, ◌≤◌, ℕ, zero, suc, List, [], Bool, true, false, cond, Option, Some, None, nat_eq, refl, sym, ap, subst, ◌∙◌, arith, inl, inr}
 use Rattle.std.specs.List.{range_with_len}
 use Rattle.std.specs.Option.{option_and_then, option_map_or}
-use Rattle.std.proofs.lemmas.Bool.{cases_Bool, cases_eq, eq-eqb, eqb-true, or_cases, or_left, or_right, both_ways, false_from_ne_true, cases_lt}
+use Rattle.std.proofs.lemmas.Bool.{cases_Bool, cases_eq, eq-eqb, eqb-true, or_cases, or_left, or_right, both_ways, false_from_ne_true}
 use Rattle.std.proofs.lemmas.List.FromFn.{length-range_with_len}
 use Rattle.plain_types.specs.declared.counter_style.CounterStyle.{CounterStyle}
 use Rattle.plain_types.specs.Table.{decimal_style}

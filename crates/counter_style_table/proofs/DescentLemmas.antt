@@ -1,7 +1,7 @@
 -- The way down along `extends`.
-use Rattle.std.proofs.Common.{◌≡◌, ◌∷◌, ◌==◌, ◌||◌, ◌<◌, ℕ, List, [], Bool, true, false, Option, Some, None, length, get_or, set, unwrap_or, refl, sym, ap, subst, ◌∙◌, arith, inl, inr, ◌⊎◌}
+use Rattle.std.proofs.Common.{◌≡◌, ◌∷◌, ◌==◌, ◌||◌, ◌<◌, ℕ, List, [], Bool, true, false, Option, Some, None, length, get_or, set, unwrap_or, refl, sym, ap, ◌∙◌, arith, inl, inr, ◌⊎◌}
 use Rattle.std.proofs.Math.ListN.{length-set}
-use Rattle.std.proofs.lemmas.Bool.{cases_Bool, cases_eq, or_cases, or_parts, or_from, or_left, or_right, both_ways, eqb-true, eq-eqb, ne_eqb, false_from_ne_true}
+use Rattle.std.proofs.lemmas.Bool.{cases_eq, or_cases, or_parts, or_left, or_right, both_ways, eqb-true, eq-eqb, ne_eqb}
 use Rattle.std.proofs.lemmas.Grind.{get_or-set_at}
 use Rattle.std.proofs.lemmas.List.{get_or-set_other}
 use Rattle.std.specs.Prelude.{is_some}
@@ -9,7 +9,7 @@ use Rattle.plain_types.specs.declared.counter_style.CounterStyle.{CounterStyle}
 use Rattle.plain_types.specs.declared.counter_style.StyleDef.{StyleDef}
 use Rattle.plain_types.specs.Table.{decimal_style}
 use Rattle.definitions.proofs.Chains.{cases_option}
-use Rattle.counter_style_table.specs.Extends.{AreBelow, AreReady, AreSettled, IsDescent, base, finished_at, is_covered, is_done, is_in, over_at, style_from}
+use Rattle.counter_style_table.specs.Extends.{AreBelow, AreSettled, IsDescent, base, finished_at, is_covered, is_done, is_in, over_at, style_from}
 use Rattle.counter_style_table.proofs.CycleLemmas.{none_some}
 use Rattle.counter_style_table.proofs.PathLemmas.{AreDistinct, AreLinked, linked_next, ready_at_finished, ready_at_cycle}
 use Rattle.counter_style_table.proofs.SettledLemmas.{base_within, finished_on_cycle, finished_off_cycle}

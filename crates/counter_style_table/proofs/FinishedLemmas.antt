@@ -1,25 +1,25 @@
 -- The finished styles of the definition, by names, are those by the places of the rules that were put.
-use Rattle.std.proofs.Common.{◌≡◌, ◌+◌, ◌<◌, ◌≤◌, ◌==◌, ◌||◌, ℕ, zero, suc, List, [], ◌∷◌, Bool, true, false, cond, map, Option, Some, None, length, get_or, refl, sym, ap, subst, ◌∙◌, arith, inl, inr, ◌⊎◌}
+use Rattle.std.proofs.Common.{◌≡◌, ◌+◌, ◌<◌, ◌≤◌, ◌==◌, ◌||◌, ℕ, zero, suc, List, [], ◌∷◌, Bool, true, false, cond, map, Option, Some, None, length, get_or, refl, sym, ap, ◌∙◌, arith, inl, inr}
 use Rattle.std.specs.List.{find, fold, position, position_or_len, range_with_len, slice_get}
 use Rattle.std.specs.Option.{option_and_then, option_map_or}
 use Rattle.std.specs.Prelude.{is_some}
 use Rattle.std.specs.Str.{bytes_eq}
-use Rattle.std.proofs.lemmas.Bool.{cases_Bool, cases_eq, cases_lt, both_ways, eq-eqb, eqb-true, ne_eqb, lt-ltb, le-ltb, false_from_ne_true}
+use Rattle.std.proofs.lemmas.Bool.{cases_Bool, cases_eq, cases_lt, eq-eqb, ne_eqb, lt-ltb, le-ltb, false_from_ne_true}
 use Rattle.std.proofs.lemmas.List.Folds.{find_at}
 use Rattle.std.proofs.lemmas.List.{get_or-map, length-map}
 use Rattle.std.proofs.lemmas.List.FromFn.{fill_by_all}
 use Rattle.std.proofs.lemmas.List.Quantifiers.{position-Some}
-use Rattle.std.proofs.lemmas.Option.{slice_get-get_or, slice_get_past, slice_get_within, get_or_from_slice_get}
+use Rattle.std.proofs.lemmas.Option.{slice_get-get_or, slice_get_past, slice_get_within}
 use Rattle.plain_types.specs.declared.counter_style.CounterStyle.{CounterStyle}
 use Rattle.plain_types.specs.declared.counter_style.StyleDef.{StyleDef}
 use Rattle.plain_types.specs.Table.{decimal_style}
 use Rattle.definitions.specs.CounterStyles.{distinct, extended_by, extended_name, finished, finished_within, is_on_cycle, last_named, leads_to, over, own_style, system_of}
 use Rattle.definitions.proofs.Chains.{cases_option}
-use Rattle.counter_style_table.specs.Extends.{base, base_of, finished_at, leads, own, own_of, over_at}
+use Rattle.counter_style_table.specs.Extends.{base, finished_at, leads, own, own_of, over_at}
 use Rattle.counter_style_table.specs.Extends.{finished_within as finished_place_within}
 use Rattle.counter_style_table.specs.Rules.{is_named, name_of, with_rule}
 use Rattle.counter_style_table.proofs.CycleLemmas.{none_some, finished-more}
-use Rattle.counter_style_table.proofs.NameLemmas.{AreApart, apart-put, bytes_eq-same, bytes_eq-refl, last_named-put, names-put, position-own}
+use Rattle.counter_style_table.proofs.NameLemmas.{apart-put, bytes_eq-same, bytes_eq-refl, last_named-put, names-put, position-own}
 use Rattle.counter_style_table.proofs.SettledLemmas.{base_at, base_within}
 
 -- the first that passes is the one at the first place that does

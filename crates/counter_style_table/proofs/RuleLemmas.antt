@@ -1,5 +1,5 @@
 -- Rules in a map from names: the map's entries, in their order, are the rules.
-use Rattle.std.proofs.Common.{◌≡◌, ◌+◌, ℕ, suc, List, [], ◌∷◌, Bool, true, false, cond, map, Option, Some, None, length, nat_eq, nat_lt, not, refl, sym, ap, ◌∙◌, inl, inr}
+use Rattle.std.proofs.Common.{◌≡◌, ◌+◌, ℕ, suc, List, [], ◌∷◌, Bool, cond, map, Some, None, length, nat_lt, not, refl, sym, ap, ◌∙◌, inl, inr}
 use Rattle.std.specs.List.{position, prefix_len}
 use Rattle.std.specs.Str.{bytes_eq, chars, IsUtf8}
 use Rattle.std.proofs.lemmas.Bool.{cases_Bool}

@@ -2,7 +2,6 @@
 use Rattle.std.specs.Prelude.{ℕ, ℤ, pos, List, [], ◌∷◌, Some, None, codes, map}
 use Rattle.std.specs.Borrow.{Bor}
 use Rattle.std.specs.Str.{chars}
-use Rattle.plain_types.specs.declared.counter_style.Bounds.{Bounds}
 use Rattle.plain_types.specs.declared.counter_style.Descriptor.{Descriptor}
 use Rattle.plain_types.specs.declared.counter_style.Descriptor.TheVariants as descriptor
 use Rattle.plain_types.specs.declared.counter_style.StyleDef.{StyleDef}

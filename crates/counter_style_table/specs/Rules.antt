@@ -1,6 +1,5 @@
 -- Rules of which each has a name of its own.
-use Rattle.std.specs.Prelude.{◌≡◌, ℕ, Bool, List, [], ◌∷◌, Option, cond, map}
-use Rattle.std.specs.List.{position}
+use Rattle.std.specs.Prelude.{ℕ, Bool, List, [], ◌∷◌, cond}
 use Rattle.std.specs.Str.{bytes_eq}
 use Rattle.plain_types.specs.declared.counter_style.StyleDef.{StyleDef}
 use Rattle.plain_types.specs.StyleNames.{style_name}

@@ -1,6 +1,6 @@
 use Rattle.std.proofs.Common.{◌<◌, length, arith, ◌∙◌}
 use Rattle.counter_style_table.proofs.SettledLemmas.{done_by}
-use Rattle.counter_style_table.proofs.DescentLemmas.{Descends, sets_out, ends_finished, ends_on_cycle}
+use Rattle.counter_style_table.proofs.DescentLemmas.{sets_out, ends_finished, ends_on_cycle}
 use Rattle.counter_style_table.proofs.finish.descend.Goals as goal
 
 pub down-init : goal.down-init

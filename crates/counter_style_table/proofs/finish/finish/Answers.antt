@@ -1,4 +1,4 @@
-use Rattle.std.proofs.Common.{◌≡◌, ℕ, List, Option, map, length, ap, ◌∙◌}
+use Rattle.std.proofs.Common.{Option, length, ap, ◌∙◌}
 use Rattle.std.specs.List.{filter_map, range_with_len}
 use Rattle.std.proofs.lemmas.Result.{IfOk-weaker}
 use Rattle.plain_types.specs.declared.counter_style.CounterStyle.{CounterStyle}

@@ -1,4 +1,4 @@
-use Rattle.std.proofs.Common.{reverse, length, arith}
+use Rattle.std.proofs.Common.{reverse, arith}
 use Rattle.counter_style_table.proofs.SettledLemmas.{finished_none, finished_more, finished_all}
 use Rattle.counter_style_table.proofs.finish.finish_others.Goals as goal
 

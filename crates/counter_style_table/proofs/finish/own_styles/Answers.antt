@@ -1,4 +1,4 @@
-use Rattle.std.proofs.Common.{Some, None, sym, subst, ap, ◌∙◌, arith, ◌≡◌, length}
+use Rattle.std.proofs.Common.{Some, sym, subst, ap, ◌∙◌, arith, ◌≡◌, length}
 use Rattle.counter_style_table.proofs.SettledLemmas.{AreFirst, first_more, first_some, first_none, settled_first}
 use Rattle.counter_style_table.proofs.finish.own_styles.Goals.{in-Some, in-None+in_ok-own-in-None}
 use Rattle.counter_style_table.proofs.finish.own_styles.Goals as goal

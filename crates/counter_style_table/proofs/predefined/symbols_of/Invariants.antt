@@ -1,4 +1,4 @@
-use Rattle.std.proofs.Common.{◌≡◌, ◌∷◌, []}
+use Rattle.std.proofs.Common.{◌≡◌}
 use Rattle.definitions.specs.PredefinedStyles.{symbols_of}
 use Rattle.counter_style_table.proofs.predefined.symbols_of.Given as goal
 

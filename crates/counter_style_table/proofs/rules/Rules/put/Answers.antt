@@ -1,10 +1,10 @@
-use Rattle.std.proofs.Common.{◌≡◌, ap, subst, sym, ◌∙◌, map}
+use Rattle.std.proofs.Common.{ap, ◌∙◌}
 use Rattle.std.specs.Str.{chars}
 use Rattle.std.specs.String.{string_bytes}
 use Rattle.std.proofs.lemmas.Str.{IsUtf8-string_bytes}
 use Rattle.plain_types.specs.StyleNames.{style_name}
-use Rattle.counter_style_table.specs.Rules.{with_rule, name_of}
-use Rattle.counter_style_table.proofs.RuleLemmas.{AreNamed, put_rule}
+use Rattle.counter_style_table.specs.Rules.{with_rule}
+use Rattle.counter_style_table.proofs.RuleLemmas.{put_rule}
 use Rattle.counter_style_table.proofs.rules.Rules.put.Goals as goal
 
 pub invariant_of-self-2 : goal.invariant_of-self-2
