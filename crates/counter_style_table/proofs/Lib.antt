@@ -1,0 +1,10 @@
+pub mod RuleLemmas
+pub mod DescribeLemmas
+pub mod CycleLemmas
+pub mod PathLemmas
+pub mod SettledLemmas
+pub mod DescentLemmas
+pub mod AscentLemmas
+pub mod NameLemmas
+pub mod FinishedLemmas
+pub mod TableLemmas

@@ -1,0 +1,4 @@
+pub mod Predefined
+pub mod Rules
+pub mod Counts
+pub mod Extends
