@@ -63,17 +63,17 @@ module _ (rules : List StyleDef) where
     right_now : style ≡ finished_at rules place → (q : ℕ) (other : CounterStyle) → get_or now q None ≡ Some other → other ≡ finished_at rules q
     unfolding now
     right_now e q other f = elim (cases_eq q place) [
-        inl same ↦
+      | inl same ↦
           let both : Some other ≡ Some style = sym f ∙ get_or-set_at styles place q (Some style) None same inside in
           let own : other ≡ style = cc in
           own ∙ e ∙ ap (finished_at rules) (sym same)
       | inr away ↦ up.right q other (sym (get_or-set_other styles place q (Some style) None away) ∙ f)
-      ]
+    ]
 
     covered_now : (p : ℕ) → is_covered now rest p ≡ is_covered first whole p
     unfolding now
     covered_now p = elim (cases_eq p place) [
-        inl same ↦
+      | inl same ↦
           ap (λ found. is_some found || is_in p rest) (get_or-set_at styles place p (Some style) None same inside)
           ∙ sym (or_right (is_done styles p) (is_in p (place ∷ rest)) (or_left (place == p) (is_in p rest) (eq-eqb place p (sym same))))
           ∙ ap (λ places. is_covered styles places p) (sym popped) ∙ up.covered p
@@ -81,7 +81,7 @@ module _ (rules : List StyleDef) where
           ap (λ found. is_some found || is_in p rest) (get_or-set_other styles place p (Some style) None away)
           ∙ ap (λ b. is_done styles p || (b || is_in p rest)) (sym (ne_eqb place p (λ same. away (sym same))))
           ∙ ap (λ places. is_covered styles places p) (sym popped) ∙ up.covered p
-      ]
+    ]
 
     -- the next style is over this one
     goes_up : (over_at rules place (style_from styles from) ≡ finished_at rules place) × AreReady (base rules) (over_at rules) (finished_at rules) None (over_at rules place (style_from styles from)) rest
@@ -99,19 +99,19 @@ module _ (rules : List StyleDef) where
     unfolding now
     goes_up_plain e =
         goes_up (turn_plain (base rules) (over_at rules) (finished_at rules) (length rules) (finished_on_cycle rules) (finished_off_cycle rules) place (style_from styles from) rest below_now
-            (subst (λ c. AreReady (base rules) (over_at rules) (finished_at rules) c (style_from styles from) (place ∷ rest)) e ready_now))
+        (subst (λ c. AreReady (base rules) (over_at rules) (finished_at rules) c (style_from styles from) (place ∷ rest)) e ready_now))
 
     pub goes_up_head : (head : ℕ) → cycle ≡ Some head → (head == place) ≡ true → Ascends first whole (set styles place (Some style)) None (Some place) rest
     unfolding now
     goes_up_head head e h =
         goes_up (turn_head (base rules) (over_at rules) (finished_at rules) (length rules) (finished_on_cycle rules) (finished_off_cycle rules) head place (style_from styles from) rest h below_now
-            (subst (λ c. AreReady (base rules) (over_at rules) (finished_at rules) c (style_from styles from) (place ∷ rest)) e ready_now))
+        (subst (λ c. AreReady (base rules) (over_at rules) (finished_at rules) c (style_from styles from) (place ∷ rest)) e ready_now))
 
     pub goes_up_cycle : (head : ℕ) → cycle ≡ Some head → (head == place) ≡ false → Ascends first whole (set styles place (Some style)) cycle from rest
     unfolding now
     goes_up_cycle head e h =
         let turn = turn_cycle (base rules) (over_at rules) (finished_at rules) (length rules) (finished_on_cycle rules) (finished_off_cycle rules) head place (style_from styles from) rest h
-            (subst (λ c. AreReady (base rules) (over_at rules) (finished_at rules) c (style_from styles from) (place ∷ rest)) e ready_now) in
+        (subst (λ c. AreReady (base rules) (over_at rules) (finished_at rules) c (style_from styles from) (place ∷ rest)) e ready_now) in
         let none : from ≡ None = up.decimal_first head e in
         record {
           room = room_now;
@@ -139,9 +139,9 @@ module _ (rules : List StyleDef) where
       closed = λ place other h e.
           done_at_end other
           ∙ elim (or_cases (is_done first place) (is_in place whole) (sym (done_at_end place) ∙ h)) [
-              inl done ↦ or_left (is_done first other) (is_in other whole) (s.closed place other done e)
+            | inl done ↦ or_left (is_done first other) (is_in other whole) (s.closed place other done e)
             | inr there ↦ d.covered place other there e
-            ];
+          ];
       plain = λ place h e. done_at_end place ∙ or_left (is_done first place) (is_in place whole) (s.plain place h e);
     }
 

@@ -50,9 +50,9 @@ module _ (rules : List StyleDef) (styles : List (Option CounterStyle)) (start : 
 
   covered_more : (at p : ℕ) (path : List ℕ) → is_covered styles path p ≡ true → is_covered styles (at ∷ path) p ≡ true
   covered_more at p path h = elim (or_cases (is_done styles p) (is_in p path) h) [
-      inl i ↦ or_left (is_done styles p) (is_in p (at ∷ path)) i
+    | inl i ↦ or_left (is_done styles p) (is_in p (at ∷ path)) i
     | inr i ↦ or_right (is_done styles p) (is_in p (at ∷ path)) (or_right (at == p) (is_in p path) i)
-    ]
+  ]
 
   covered_here : (at : ℕ) (path : List ℕ) → is_covered styles (at ∷ path) at ≡ true
   covered_here at path = or_right (is_done styles at) (is_in at (at ∷ path)) (or_left (at == at) (is_in at path) (eq-eqb at at refl))
@@ -68,39 +68,39 @@ module _ (rules : List StyleDef) (styles : List (Option CounterStyle)) (start : 
         linked = (e, d.linked);
         distinct = (off.1, d.distinct);
         marked = λ p. elim (cases_eq p at) [
-            inl i ↦ get_or-set_at begun at p true false i inside ∙ sym (ap (is_covered styles (at ∷ path)) i ∙ covered_here at path)
+          | inl i ↦ get_or-set_at begun at p true false i inside ∙ sym (ap (is_covered styles (at ∷ path)) i ∙ covered_here at path)
           | inr n ↦
               get_or-set_other begun at p true false n ∙ d.marked p
               ∙ ap (λ b. is_done styles p || (b || is_in p path)) (sym (ne_eqb at p (λ i. n (sym i))))
-          ];
+        ];
         unfinished = λ p i. elim (or_cases (at == p) (is_in p path) i) [
-            inl here ↦ ap (is_done styles) (sym (eqb-true at p here)) ∙ off.0
+          | inl here ↦ ap (is_done styles) (sym (eqb-true at p here)) ∙ off.0
           | inr there ↦ d.unfinished p there
-          ];
+        ];
         started = elim d.started [
-            inl i ↦ inr (ap (is_covered styles (at ∷ path)) (sym i) ∙ covered_here at path)
+          | inl i ↦ inr (ap (is_covered styles (at ∷ path)) (sym i) ∙ covered_here at path)
           | inr i ↦ inr (covered_more at start path i)
-          ];
+        ];
       }
 
   -- The end of the way down.
   covered_next : (begun : List Bool) (at : ℕ) (path : List ℕ) → Descends begun at path → is_covered styles path at ≡ true → (p q : ℕ) → is_in p path ≡ true → base rules p ≡ Some q → is_covered styles path q ≡ true
   covered_next begun at path d h p q i e = elim (linked_next (base rules) (Some at) path p q d.linked i e) [
-      inl same ↦ let here : q ≡ at = cc in ap (is_covered styles path) here ∙ h
+    | inl same ↦ let here : q ≡ at = cc in ap (is_covered styles path) here ∙ h
     | inr there ↦ or_right (is_done styles q) (is_in q path) there
-    ]
+  ]
 
   pub covers_start : (begun : List Bool) (at : ℕ) (path : List ℕ) → Descends begun at path → get_or begun at false ≡ true → is_covered styles path start ≡ true
   covers_start begun at path d h = elim d.started [
-      inl i ↦ ap (is_covered styles path) (sym i) ∙ sym (d.marked at) ∙ h
+    | inl i ↦ ap (is_covered styles path) (sym i) ∙ sym (d.marked at) ∙ h
     | inr i ↦ i
-    ]
+  ]
 
   from_done : (at : ℕ) → AreSettled rules styles → is_done styles at ≡ true → style_from styles (Some at) ≡ finished_at rules at
   from_done at s h = elim (cases_option (get_or styles at None)) [
-      inl e ↦ absurd (both_ways _ (ap is_some e) h)
+    | inl e ↦ absurd (both_ways _ (ap is_some e) h)
     | inr (style, e) ↦ ap (λ found. unwrap_or found decimal_style) e ∙ s.right at style e
-    ]
+  ]
 
   pub ends_finished : (begun : List Bool) (at : ℕ) (path : List ℕ) → Descends begun at path → AreSettled rules styles → get_or begun at false ≡ true → is_done styles at ≡ true → IsDescent rules styles path None (Some at)
   ends_finished begun at path d s h f = record {

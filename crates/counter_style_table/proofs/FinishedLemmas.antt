@@ -25,9 +25,9 @@ use Rattle.counter_style_table.proofs.SettledLemmas.{base_at, base_within}
 -- the first that passes is the one at the first place that does
 find_position : {X : Type 0} (p : X → Bool) (xs : List X) → find p xs ≡ option_and_then (slice_get xs) (position p xs)
 find_position p xs = elim (cases_lt (position_or_len p xs) (length xs)) [
-    inl h ↦ find_at p xs ∙ sym (ap (λ b. option_and_then (slice_get xs) (cond b (Some (position_or_len p xs)) None)) (lt-ltb (position_or_len p xs) (length xs) h))
+  | inl h ↦ find_at p xs ∙ sym (ap (λ b. option_and_then (slice_get xs) (cond b (Some (position_or_len p xs)) None)) (lt-ltb (position_or_len p xs) (length xs) h))
   | inr h ↦ find_at p xs ∙ slice_get_past xs (position_or_len p xs) h ∙ sym (ap (λ b. option_and_then (slice_get xs) (cond b (Some (position_or_len p xs)) None)) (le-ltb (position_or_len p xs) (length xs) h))
-  ]
+]
 
 abbrev pub no_rule : StyleDef
 no_rule = record { name = []; descriptors = [] }
@@ -71,18 +71,18 @@ module _ (rules : List StyleDef) where
 
   same_place : (q to : ℕ) (a b : StyleDef) → slice_get put q ≡ Some a → slice_get put to ≡ Some b → bytes_eq (name_of a) (name_of b) ≡ (q == to)
   same_place q to a b at there = elim (cases_eq q to) [
-      inl same ↦
+    | inl same ↦
         let one : Some a ≡ Some b = sym at ∙ ap (slice_get put) same ∙ there in
         let rule : a ≡ b = cc in
         ap (λ r. bytes_eq (name_of r) (name_of b)) rule ∙ bytes_eq-refl (name_of b) ∙ sym (eq-eqb q to same)
     | inr away ↦
         false_from_ne_true _ (λ e.
-            let both : Some q ≡ Some to =
-                sym (position-own put q a (apart-put rules) at) ∙ ap (λ name. position (is_named name) put) (bytes_eq-same (name_of a) (name_of b) e) ∙ position-own put to b (apart-put rules) there in
-            let same : q ≡ to = cc in
-            away same)
+        let both : Some q ≡ Some to =
+        sym (position-own put q a (apart-put rules) at) ∙ ap (λ name. position (is_named name) put) (bytes_eq-same (name_of a) (name_of b) e) ∙ position-own put to b (apart-put rules) there in
+        let same : q ≡ to = cc in
+        away same)
         ∙ sym (ne_eqb q to away)
-    ]
+  ]
 
   leads_by_place : (steps from to : ℕ) (a b : StyleDef) → slice_get put from ≡ Some a → slice_get put to ≡ Some b → leads_to rules steps (name_of a) (name_of b) ≡ leads (base put) steps from to
   leads_by_place zero from to a b at there = refl
@@ -91,11 +91,11 @@ module _ (rules : List StyleDef) where
       let places : Option ℕ → Bool = λ o. option_map_or (λ next. (next == to) || leads (base put) steps next to) o false in
       ap names (extended_own from a at)
       ∙ elim (cases_option (extended_by (system_of a))) [
-          inl e ↦ ap names e ∙ sym (ap places (base_nothing from a at e))
+        | inl e ↦ ap names e ∙ sym (ap places (base_nothing from a at e))
         | inr (name, e) ↦ ap names e ∙ elim (cases_option (position (is_named name) put)) [
-            inl f ↦
+          | inl f ↦
               let away : bytes_eq name (name_of b) ≡ false = false_from_ne_true _ (λ same.
-                  none_some (sym f ∙ ap (λ n. position (is_named n) put) (bytes_eq-same name (name_of b) same) ∙ position-own put to b (apart-put rules) there)) in
+              none_some (sym f ∙ ap (λ n. position (is_named n) put) (bytes_eq-same name (name_of b) same) ∙ position-own put to b (apart-put rules) there)) in
               ap (λ t. t || leads_to rules steps name (name_of b)) away ∙ undefined_leads steps name (name_of b) f ∙ sym (ap places (base_by from a name at e ∙ f))
           | inr (q, f) ↦
               let found = found_at name q f in
@@ -103,8 +103,8 @@ module _ (rules : List StyleDef) where
               ∙ ap (λ t. t || leads_to rules steps (name_of found.0) (name_of b)) (same_place q to found.0 b found.1 there)
               ∙ ap (λ t. (q == to) || t) (leads_by_place steps q to found.0 b found.1 there)
               ∙ sym (ap places (base_by from a name at e ∙ f))
-          ]
         ]
+      ]
       ∙ refl
 
   -- finished styles
@@ -127,10 +127,10 @@ module _ (rules : List StyleDef) where
       let places : Option ℕ → CounterStyle = λ o. option_map_or (λ other. over_at put p (cond (leads (base put) (length rules) p p) decimal_style (finished_place_within (base put) (own put) (over_at put) (length rules) styles other))) o (own put p) in
       ap (λ found. option_map_or (λ r. option_map_or (λ other. over r (cond (is_on_cycle rules (name_of rule)) decimal_style (finished_within rules styles other))) (extended_by (system_of r)) (own_style r)) found decimal_style) (found_own p rule at)
       ∙ elim (cases_option (extended_by (system_of rule))) [
-          inl e ↦
+        | inl e ↦
             ap names e ∙ sym (ap (λ o. cond (is_some o) (over rule decimal_style) (own_style rule)) e) ∙ sym (own_at p rule at) ∙ sym (ap places (base_nothing p rule at e))
         | inr (name, e) ↦ ap names e ∙ elim (cases_option (position (is_named name) put)) [
-            inl f ↦
+          | inl f ↦
               ap (λ style. over rule (cond (is_on_cycle rules (name_of rule)) decimal_style style)) (undefined_finished styles name f)
               ∙ ap (over rule) (cond_same (is_on_cycle rules (name_of rule)) decimal_style)
               ∙ sym (ap (λ o. cond (is_some o) (over rule decimal_style) (own_style rule)) e) ∙ sym (own_at p rule at) ∙ sym (ap places (base_by p rule name at e ∙ f))
@@ -141,16 +141,16 @@ module _ (rules : List StyleDef) where
               ∙ ap (λ style. over rule (cond (leads (base put) (length rules) p p) decimal_style style)) (finished_by_place styles q found.0 found.1)
               ∙ sym (ap (λ r. option_map_or (λ kept. over kept (cond (leads (base put) (length rules) p p) decimal_style (finished_place_within (base put) (own put) (over_at put) (length rules) styles q))) r (cond (leads (base put) (length rules) p p) decimal_style (finished_place_within (base put) (own put) (over_at put) (length rules) styles q))) at)
               ∙ sym (ap places (base_by p rule name at e ∙ f))
-          ]
         ]
+      ]
 
   -- no more rules are kept than were put
   length-with_rule : (all : List StyleDef) (rule : StyleDef) → length (with_rule all rule) ≤ length all + 1
   length-with_rule [] rule = omega arith
   length-with_rule (other ∷ all) rule = elim (cases_Bool (is_named (name_of rule) other)) [
-      inl h ↦ rw h (omega arith)
+    | inl h ↦ rw h (omega arith)
     | inr h ↦ rw h (omega (arith, length-with_rule all rule))
-    ]
+  ]
 
   pub length-fold : (more before : List StyleDef) → length (fold with_rule before more) ≤ length before + length more
   length-fold [] before = omega arith
@@ -167,8 +167,8 @@ module _ (rules : List StyleDef) where
   finished-all =
       ap (map (finished rules)) (sym (names-put rules))
       ∙ fill_by_all (finished_at put) (map (finished rules) (map name_of put)) (length put) decimal_style
-        (length-map (map name_of put) (finished rules) ∙ length-map put name_of)
-        (λ k h. at_place k h)  where
+      (length-map (map name_of put) (finished rules) ∙ length-map put name_of)
+      (λ k h. at_place k h) where
         at_place : (k : ℕ) → k < length put → get_or (map (finished rules) (map name_of put)) k decimal_style ≡ finished_at put k
         at_place k h =
             let rule = get_or put k no_rule in

@@ -26,20 +26,20 @@ bytes_eq-same a b h = (bytes_eq-Decides a b).0 h
 find-with_rule : (name : List ℕ) (rules : List StyleDef) (rule : StyleDef) → find (is_named name) (with_rule rules rule) ≡ cond (is_named name rule) (Some rule) (find (is_named name) rules)
 find-with_rule name [] rule = refl
 find-with_rule name (other ∷ rules) rule = elim (cases_Bool (is_named (name_of rule) other)) [
-    inl h ↦
+  | inl h ↦
       let same : name_of rule ≡ name_of other = bytes_eq-same (name_of rule) (name_of other) h in
       elim (cases_Bool (is_named name rule)) [
-        inl i ↦ rw (h, i) refl
-      | inr i ↦ let away : is_named name other ≡ false = ap (bytes_eq name) (sym same) ∙ i in rw (h, i, away) refl
+        | inl i ↦ rw (h, i) refl
+        | inr i ↦ let away : is_named name other ≡ false = ap (bytes_eq name) (sym same) ∙ i in rw (h, i, away) refl
       ]
   | inr h ↦ elim (cases_Bool (is_named name other)) [
-      inl i ↦
+    | inl i ↦
         let away : is_named name rule ≡ false =
-            false_from_ne_true _ (λ j. both_ways _ h (ap (λ n. bytes_eq n (name_of other)) (sym (bytes_eq-same name (name_of rule) j)) ∙ i)) in
+        false_from_ne_true _ (λ j. both_ways _ h (ap (λ n. bytes_eq n (name_of other)) (sym (bytes_eq-same name (name_of rule) j)) ∙ i)) in
         rw (h, i, away) refl
     | inr i ↦ rw (h, i) (find-with_rule name rules rule)
-    ]
   ]
+]
 
 last_from : (name : List ℕ) (rules before : List StyleDef) (found : Option StyleDef) → found ≡ find (is_named name) before
     → fold (λ last (rule : StyleDef). cond (bytes_eq (name_of rule) name) (Some rule) last) found rules ≡ find (is_named name) (fold with_rule before rules)
@@ -70,9 +70,9 @@ is_among-push (first ∷ names) last name = ap (λ rest. bytes_eq name first || 
 names-with_rule : (rules : List StyleDef) (rule : StyleDef) → map name_of (with_rule rules rule) ≡ cond (is_among (map name_of rules) (name_of rule)) (map name_of rules) (map name_of rules ++ name_of rule ∷ [])
 names-with_rule [] rule = refl
 names-with_rule (other ∷ rules) rule = elim (cases_Bool (is_named (name_of rule) other)) [
-    inl h ↦ rw (h) (ap (λ name. name ∷ map name_of rules) (bytes_eq-same (name_of rule) (name_of other) h))
+  | inl h ↦ rw (h) (ap (λ name. name ∷ map name_of rules) (bytes_eq-same (name_of rule) (name_of other) h))
   | inr h ↦ rw (h) (ap (λ names. name_of other ∷ names) (names-with_rule rules rule) ∙ cons_cond (is_among (map name_of rules) (name_of rule)) (name_of other) (map name_of rules) (map name_of rules ++ name_of rule ∷ []))
-  ] where
+] where
   cons_cond : (b : Bool) (x : List ℕ) (xs ys : List (List ℕ)) → x ∷ cond b xs ys ≡ cond b (x ∷ xs) (x ∷ ys)
   cons_cond true x xs ys = refl
   cons_cond false x xs ys = refl
@@ -84,30 +84,30 @@ fresh names more = filter (λ name. not (is_among names name)) more
 fresh-others : (names : List (List ℕ)) (name : List ℕ) (more : List (List ℕ)) → is_among names name ≡ true → fresh names (filter (λ other. not (bytes_eq name other)) more) ≡ fresh names more
 fresh-others names name [] h = refl
 fresh-others names name (x ∷ more) h = elim (cases_Bool (bytes_eq name x)) [
-    inl same ↦
+  | inl same ↦
       let there : is_among names x ≡ true = ap (is_among names) (sym (bytes_eq-same name x same)) ∙ h in
       rw (same, there) (fresh-others names name more h)
   | inr away ↦ elim (cases_Bool (is_among names x)) [
-      inl there ↦ rw (away, there) (fresh-others names name more h)
+    | inl there ↦ rw (away, there) (fresh-others names name more h)
     | inr new ↦ rw (away, new) (ap (λ rest. x ∷ rest) (fresh-others names name more h))
-    ]
   ]
+]
 
 fresh-push : (names : List (List ℕ)) (name : List ℕ) (more : List (List ℕ)) → fresh (names ++ name ∷ []) more ≡ fresh names (filter (λ other. not (bytes_eq name other)) more)
 fresh-push names name [] = refl
 fresh-push names name (x ∷ more) =
     let test : is_among (names ++ name ∷ []) x ≡ (is_among names x || bytes_eq name x) = is_among-push names name x ∙ ap (λ b. is_among names x || b) (bytes_eq-sym x name) in
     elim (cases_Bool (bytes_eq name x)) [
-      inl same ↦
-        let there : is_among (names ++ name ∷ []) x ≡ true = test ∙ or_right (is_among names x) (bytes_eq name x) same in
-        rw (there, same) (fresh-push names name more)
-    | inr away ↦ elim (cases_Bool (is_among names x)) [
-        inl in_names ↦
-          let there : is_among (names ++ name ∷ []) x ≡ true = test ∙ or_left (is_among names x) (bytes_eq name x) in_names in
-          rw (there, away, in_names) (fresh-push names name more)
-      | inr new ↦
-          let gone : is_among (names ++ name ∷ []) x ≡ false = test ∙ ap (λ b. b || bytes_eq name x) new ∙ away in
-          rw (gone, away, new) (ap (λ rest. x ∷ rest) (fresh-push names name more))
+      | inl same ↦
+          let there : is_among (names ++ name ∷ []) x ≡ true = test ∙ or_right (is_among names x) (bytes_eq name x) same in
+          rw (there, same) (fresh-push names name more)
+      | inr away ↦ elim (cases_Bool (is_among names x)) [
+        | inl in_names ↦
+            let there : is_among (names ++ name ∷ []) x ≡ true = test ∙ or_left (is_among names x) (bytes_eq name x) in_names in
+            rw (there, away, in_names) (fresh-push names name more)
+        | inr new ↦
+            let gone : is_among (names ++ name ∷ []) x ≡ false = test ∙ ap (λ b. b || bytes_eq name x) new ∙ away in
+            rw (gone, away, new) (ap (λ rest. x ∷ rest) (fresh-push names name more))
       ]
     ]
 
@@ -116,7 +116,7 @@ names_from [] before = sym (append-nil (map name_of before))
 names_from (rule ∷ rules) before =
     names_from rules (with_rule before rule)
     ∙ elim (cases_Bool (is_among (map name_of before) (name_of rule))) [
-        inl there ↦
+      | inl there ↦
           let same : map name_of (with_rule before rule) ≡ map name_of before = names-with_rule before rule ∙ ap (λ b. cond b (map name_of before) (map name_of before ++ name_of rule ∷ [])) there in
           ap (λ names. names ++ fresh names (distinct (map name_of rules))) same
           ∙ ap (λ rest. map name_of before ++ rest) (sym (fresh-others (map name_of before) (name_of rule) (distinct (map name_of rules)) there))
@@ -127,7 +127,7 @@ names_from (rule ∷ rules) before =
           ∙ append_assoc (map name_of before) (name_of rule ∷ []) (fresh (map name_of before ++ name_of rule ∷ []) (distinct (map name_of rules)))
           ∙ ap (λ rest. map name_of before ++ name_of rule ∷ rest) (fresh-push (map name_of before) (name_of rule) (distinct (map name_of rules)))
           ∙ ap (λ b. map name_of before ++ cond (not b) (name_of rule ∷ fresh (map name_of before) (filter (λ other. not (bytes_eq (name_of rule) other)) (distinct (map name_of rules)))) (fresh (map name_of before) (filter (λ other. not (bytes_eq (name_of rule) other)) (distinct (map name_of rules))))) (sym new)
-      ]
+    ]
 
 all_fresh : (names : List (List ℕ)) → fresh [] names ≡ names
 all_fresh [] = refl
@@ -146,9 +146,9 @@ AreApart (rule ∷ rules) = (is_among (map name_of rules) (name_of rule) ≡ fal
 apart-with_rule : (rules : List StyleDef) (rule : StyleDef) → AreApart rules → AreApart (with_rule rules rule)
 apart-with_rule [] rule a = (refl, tt)
 apart-with_rule (other ∷ rules) rule a = elim (cases_Bool (is_named (name_of rule) other)) [
-    inl h ↦ rw h (ap (is_among (map name_of rules)) (bytes_eq-same (name_of rule) (name_of other) h) ∙ a.0, a.1)
+  | inl h ↦ rw h (ap (is_among (map name_of rules)) (bytes_eq-same (name_of rule) (name_of other) h) ∙ a.0, a.1)
   | inr h ↦ rw h (ap (λ names. is_among names (name_of other)) (names-with_rule rules rule) ∙ still_new (is_among (map name_of rules) (name_of rule)) (bytes_eq-sym (name_of other) (name_of rule) ∙ h), apart-with_rule rules rule a.1)
-  ] where
+] where
   still_new : (b : Bool) → bytes_eq (name_of other) (name_of rule) ≡ false → is_among (cond b (map name_of rules) (map name_of rules ++ name_of rule ∷ [])) (name_of other) ≡ false
   still_new true e = a.0
   still_new false e = is_among-push (map name_of rules) (name_of rule) (name_of other) ∙ ap (λ b. b || bytes_eq (name_of other) (name_of rule)) a.0 ∙ e

@@ -27,32 +27,32 @@ under head (p ∷ ps) = cond (p == head) ps (under head ps)
 under_in : (head x : ℕ) (places : List ℕ) → is_in x (under head places) ≡ true → is_in x places ≡ true
 under_in head x [] h = h
 under_in head x (p ∷ ps) h = elim (cases_Bool (p == head)) [
-    inl e ↦ or_right (p == x) (is_in x ps) (subst (λ b. is_in x (cond b ps (under head ps)) ≡ true) e h)
+  | inl e ↦ or_right (p == x) (is_in x ps) (subst (λ b. is_in x (cond b ps (under head ps)) ≡ true) e h)
   | inr e ↦ or_right (p == x) (is_in x ps) (under_in head x ps (subst (λ b. is_in x (cond b ps (under head ps)) ≡ true) e h))
-  ]
+]
 
 under_not_upper : (head x : ℕ) (places : List ℕ) → AreDistinct places → is_in x (under head places) ≡ true → is_in x (upper head places) ≡ true → ⊥
 under_not_upper head x [] d h u = both_ways _ refl h
 under_not_upper head x (p ∷ ps) d h u = elim (cases_Bool (p == head)) [
-    inl e ↦ elim (or_cases (p == x) (is_in x (cond (p == head) [] (upper head ps))) u) [
-      inl at ↦ both_ways _ d.0 (subst (λ y. is_in y ps ≡ true) (sym (eqb-true p x at)) (subst (λ b. is_in x (cond b ps (under head ps)) ≡ true) e h))
+  | inl e ↦ elim (or_cases (p == x) (is_in x (cond (p == head) [] (upper head ps))) u) [
+    | inl at ↦ both_ways _ d.0 (subst (λ y. is_in y ps ≡ true) (sym (eqb-true p x at)) (subst (λ b. is_in x (cond b ps (under head ps)) ≡ true) e h))
     | inr i ↦ both_ways _ refl (subst (λ b. is_in x (cond b [] (upper head ps)) ≡ true) e i)
-    ]
-  | inr e ↦ elim (or_cases (p == x) (is_in x (cond (p == head) [] (upper head ps))) u) [
-      inl at ↦ both_ways _ d.0 (subst (λ y. is_in y ps ≡ true) (sym (eqb-true p x at)) (under_in head x ps (subst (λ b. is_in x (cond b ps (under head ps)) ≡ true) e h)))
-    | inr i ↦ under_not_upper head x ps d.1 (subst (λ b. is_in x (cond b ps (under head ps)) ≡ true) e h) (subst (λ b. is_in x (cond b [] (upper head ps)) ≡ true) e i)
-    ]
   ]
+  | inr e ↦ elim (or_cases (p == x) (is_in x (cond (p == head) [] (upper head ps))) u) [
+    | inl at ↦ both_ways _ d.0 (subst (λ y. is_in y ps ≡ true) (sym (eqb-true p x at)) (under_in head x ps (subst (λ b. is_in x (cond b ps (under head ps)) ≡ true) e h)))
+    | inr i ↦ under_not_upper head x ps d.1 (subst (λ b. is_in x (cond b ps (under head ps)) ≡ true) e h) (subst (λ b. is_in x (cond b [] (upper head ps)) ≡ true) e i)
+  ]
+]
 
 head_upper : (head : ℕ) (places : List ℕ) → is_in head places ≡ true → is_in head (upper head places) ≡ true
 head_upper head [] h = h
 head_upper head (p ∷ ps) h = elim (cases_Bool (p == head)) [
-    inl e ↦ or_left (p == head) (is_in head (cond (p == head) [] (upper head ps))) e
+  | inl e ↦ or_left (p == head) (is_in head (cond (p == head) [] (upper head ps))) e
   | inr e ↦ elim (or_cases (p == head) (is_in head ps) h) [
-      inl at ↦ absurd (both_ways _ e at)
+    | inl at ↦ absurd (both_ways _ e at)
     | inr i ↦ or_right (p == head) (is_in head (cond (p == head) [] (upper head ps))) (subst (λ b. is_in head (cond b [] (upper head ps)) ≡ true) (sym e) (head_upper head ps i))
-    ]
   ]
+]
 
 eq_sides : (p q : ℕ) (b : Bool) → (p == q) ≡ b → b ≡ (q == p)
 eq_sides p q true e = sym (eq-eqb q p (sym (eqb-true p q e)))
@@ -62,43 +62,43 @@ module _ (base : ℕ → Option ℕ) where
   upper_closed : (head : ℕ) (at : Option ℕ) (places : List ℕ) (x y : ℕ) → AreLinked base at places → is_in x (upper head places) ≡ true → base x ≡ Some y → (Some y ≡ at) ⊎ (is_in y (upper head places) ≡ true)
   upper_closed head at [] x y l u b = absurd (both_ways _ refl u)
   upper_closed head at (p ∷ ps) x y l u b = elim (or_cases (p == x) (is_in x (cond (p == head) [] (upper head ps))) u) [
-      inl here ↦ inl (sym b ∙ ap base (sym (eqb-true p x here)) ∙ l.0)
+    | inl here ↦ inl (sym b ∙ ap base (sym (eqb-true p x here)) ∙ l.0)
     | inr i ↦ elim (cases_Bool (p == head)) [
-        inl e ↦ absurd (both_ways _ refl (subst (λ c. is_in x (cond c [] (upper head ps)) ≡ true) e i))
+      | inl e ↦ absurd (both_ways _ refl (subst (λ c. is_in x (cond c [] (upper head ps)) ≡ true) e i))
       | inr e ↦ elim (upper_closed head (Some p) ps x y l.1 (subst (λ c. is_in x (cond c [] (upper head ps)) ≡ true) e i) b) [
-          inl same ↦ let at_p : y ≡ p = cc in inr (or_left (p == y) (is_in y (cond (p == head) [] (upper head ps))) (eq-eqb p y (sym at_p)))
+        | inl same ↦ let at_p : y ≡ p = cc in inr (or_left (p == y) (is_in y (cond (p == head) [] (upper head ps))) (eq-eqb p y (sym at_p)))
         | inr there ↦ inr (or_right (p == y) (is_in y (cond (p == head) [] (upper head ps))) (subst (λ c. is_in y (cond c [] (upper head ps)) ≡ true) (sym e) there))
-        ]
       ]
     ]
+  ]
 
   -- what a place of the path extends is on the path, or where the path ends
   pub linked_next : (at : Option ℕ) (places : List ℕ) (x y : ℕ) → AreLinked base at places → is_in x places ≡ true → base x ≡ Some y → (Some y ≡ at) ⊎ (is_in y places ≡ true)
   linked_next at [] x y l h b = absurd (both_ways _ refl h)
   linked_next at (p ∷ ps) x y l h b = elim (or_cases (p == x) (is_in x ps) h) [
-      inl here ↦ inl (sym b ∙ ap base (sym (eqb-true p x here)) ∙ l.0)
+    | inl here ↦ inl (sym b ∙ ap base (sym (eqb-true p x here)) ∙ l.0)
     | inr i ↦ elim (linked_next (Some p) ps x y l.1 i b) [
-        inl same ↦ let at_p : y ≡ p = cc in inr (or_left (p == y) (is_in y ps) (eq-eqb p y (sym at_p)))
+      | inl same ↦ let at_p : y ≡ p = cc in inr (or_left (p == y) (is_in y ps) (eq-eqb p y (sym at_p)))
       | inr there ↦ inr (or_right (p == y) (is_in y ps) there)
-      ]
     ]
+  ]
 
   led_to : (head : ℕ) (at : Option ℕ) (places : List ℕ) → AreLinked base at places → is_in head places ≡ true → (k : ℕ) × (led base (suc k) head ≡ at)
   led_to head at [] l h = absurd (both_ways _ refl h)
   led_to head at (p ∷ ps) l h = elim (or_cases (p == head) (is_in head ps) h) [
-      inl here ↦ (0, then_some base (base head) ∙ ap base (sym (eqb-true p head here)) ∙ l.0)
+    | inl here ↦ (0, then_some base (base head) ∙ ap base (sym (eqb-true p head here)) ∙ l.0)
     | inr there ↦ let found = led_to head (Some p) ps l.1 there in (suc found.0, led_more base (suc found.0) head p found.1 ∙ l.0)
-    ]
+  ]
 
   top_on_cycle : (head p : ℕ) (ps : List ℕ) (at : Option ℕ) → AreLinked base at (p ∷ ps) → is_in head (p ∷ ps) ≡ true → OnCycle base head → OnCycle base p
   top_on_cycle head p [] at l h o = elim (or_cases (p == head) false h) [
-      inl here ↦ subst (OnCycle base) (sym (eqb-true p head here)) o
+    | inl here ↦ subst (OnCycle base) (sym (eqb-true p head here)) o
     | inr there ↦ absurd (both_ways _ refl there)
-    ]
+  ]
   top_on_cycle head p (q ∷ qs) at l h o = elim (or_cases (p == head) (is_in head (q ∷ qs)) h) [
-      inl here ↦ subst (OnCycle base) (sym (eqb-true p head here)) o
+    | inl here ↦ subst (OnCycle base) (sym (eqb-true p head here)) o
     | inr there ↦ base_on_cycle base q p l.1.0 (top_on_cycle head q qs (Some p) l.1 there o)
-    ]
+  ]
 
   extending_from : (p : ℕ) (ps : List ℕ) → (OnCycle base p → ⊥) → AreLinked base (Some p) ps → AreExtending base p ps
   extending_from p [] n l = tt
@@ -113,9 +113,9 @@ module _ (base : ℕ → Option ℕ) where
   comes_above head places l h r b c =
       leads_within base (λ x. is_in x (upper head places) ≡ true)
       (λ x y u e. elim (upper_closed head (Some head) places x y l u e) [
-          inl same ↦ let at : head ≡ y = cc in subst (λ z. is_in z (upper head places) ≡ true) at (head_upper head places h)
+        | inl same ↦ let at : head ≡ y = cc in subst (λ z. is_in z (upper head places) ≡ true) at (head_upper head places h)
         | inr there ↦ there
-        ])
+      ])
       c.steps head r (head_upper head places h) (rw b at c.back)
 
   module _ (over : ℕ → CounterStyle → CounterStyle) (finished : ℕ → CounterStyle) (count : ℕ) where
@@ -134,12 +134,12 @@ module _ (base : ℕ → Option ℕ) where
         refl,
         sym (on p q w.0 l.0 (top_on_cycle head p ps (Some q) l h o)),
         elim (cases_Bool (p == head)) [
-            inl e ↦ subst (λ b. EitherFact b (AreExtending base p ps) (AreReady base over finished (Some head) decimal_style ps)) (eq_sides p head true e) (extending_start p ps (λ r i f. n r (subst (λ b. is_in r (cond b ps (under head ps)) ≡ true) (sym e) i) (f ∙ ap Some (eqb-true p head e))) l.1)
+          | inl e ↦ subst (λ b. EitherFact b (AreExtending base p ps) (AreReady base over finished (Some head) decimal_style ps)) (eq_sides p head true e) (extending_start p ps (λ r i f. n r (subst (λ b. is_in r (cond b ps (under head ps)) ≡ true) (sym e) i) (f ∙ ap Some (eqb-true p head e))) l.1)
           | inr e ↦ subst (λ b. EitherFact b (AreExtending base p ps) (AreReady base over finished (Some head) decimal_style ps)) (eq_sides p head false e) (elim (or_cases (p == head) (is_in head ps) h) [
-              inl i ↦ absurd (both_ways _ e i)
+            | inl i ↦ absurd (both_ways _ e i)
             | inr i ↦ cyclic_part head ps p l.1 w.1 i o (λ r j f. n r (subst (λ b. is_in r (cond b ps (under head ps)) ≡ true) (sym e) j) f)
-            ])
-          ],
+          ])
+        ],
       )
 
       -- the way down ended at a place of its own

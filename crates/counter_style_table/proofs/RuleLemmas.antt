@@ -41,14 +41,14 @@ module _ {K : Type 0} (bytes : K → List ℕ) (text : (k : K) → IsUtf8 (bytes
       let first : chars (bytes entry.0) ≡ name_of entry.1 = cc in
       let rest : AreNamed entries = cc in
       let test : bytes_eq (bytes key) (bytes entry.0) ≡ is_named (name_of rule) entry.1 =
-          bytes_eq-chars (bytes key) (bytes entry.0) (text key) (text entry.0) ∙ ap (λ name. bytes_eq name (chars (bytes entry.0))) e ∙ ap (bytes_eq (name_of rule)) first in
+      bytes_eq-chars (bytes key) (bytes entry.0) (text key) (text entry.0) ∙ ap (λ name. bytes_eq name (chars (bytes entry.0))) e ∙ ap (bytes_eq (name_of rule)) first in
       let later = put_rule entries key rule rest e in
       elim (cases_Bool (is_named (name_of rule) entry.1)) [
-        inl h ↦
-          let same : name_of rule ≡ name_of entry.1 = (bytes_eq-Decides (name_of rule) (name_of entry.1)).0 h in
-          rw (test, h) (refl, ap (λ name. name ∷ map (λ k. chars (bytes k)) (map (λ e. e.0) entries)) (first ∙ sym same) ∙ ap (λ names. name_of rule ∷ names) rest)
-      | inr h ↦
-          rw (test, h) (ap (λ rules. entry.1 ∷ rules) later.0, ap (λ name. name ∷ map (λ k. chars (bytes k)) (map (λ e. e.0) (insert_entry (λ a b. bytes_eq (bytes a) (bytes b)) entries key rule))) first ∙ ap (λ names. name_of entry.1 ∷ names) later.1)
+        | inl h ↦
+            let same : name_of rule ≡ name_of entry.1 = (bytes_eq-Decides (name_of rule) (name_of entry.1)).0 h in
+            rw (test, h) (refl, ap (λ name. name ∷ map (λ k. chars (bytes k)) (map (λ e. e.0) entries)) (first ∙ sym same) ∙ ap (λ names. name_of rule ∷ names) rest)
+        | inr h ↦
+            rw (test, h) (ap (λ rules. entry.1 ∷ rules) later.0, ap (λ name. name ∷ map (λ k. chars (bytes k)) (map (λ e. e.0) (insert_entry (λ a b. bytes_eq (bytes a) (bytes b)) entries key rule))) first ∙ ap (λ names. name_of entry.1 ∷ names) later.1)
       ]
 
   tests_agree : (entries : List (K × StyleDef)) (name : List ℕ) (query : List ℕ) → AreNamed entries → IsUtf8 query → chars query ≡ name
@@ -58,7 +58,7 @@ module _ {K : Type 0} (bytes : K → List ℕ) (text : (k : K) → IsUtf8 (bytes
       let first : chars (bytes entry.0) ≡ name_of entry.1 = cc in
       let rest : AreNamed entries = cc in
       let test : bytes_eq query (bytes entry.0) ≡ is_named name entry.1 =
-          bytes_eq-chars query (bytes entry.0) u (text entry.0) ∙ ap (λ n. bytes_eq n (chars (bytes entry.0))) e ∙ ap (bytes_eq name) first in
+      bytes_eq-chars query (bytes entry.0) u (text entry.0) ∙ ap (λ n. bytes_eq n (chars (bytes entry.0))) e ∙ ap (bytes_eq name) first in
       ap (λ b. b ∷ map (λ key. bytes_eq query (bytes key)) (map (λ e. e.0) entries)) test ∙ ap (λ tests. is_named name entry.1 ∷ tests) (tests_agree entries name query rest u e)
 
   pub find_rule : (entries : List (K × StyleDef)) (name : List ℕ) (query : List ℕ) → AreNamed entries → IsUtf8 query → chars query ≡ name

@@ -28,9 +28,9 @@ module _ (rules : List StyleDef) where
 
   pub base_within : (p q : ℕ) → base rules p ≡ Some q → q < length rules
   base_within p q e = elim (cases_option (slice_get rules p)) [
-      inl none ↦ absurd (none_some (sym (ap (option_and_then (base_of rules)) none) ∙ e))
+    | inl none ↦ absurd (none_some (sym (ap (option_and_then (base_of rules)) none) ∙ e))
     | inr (rule, at) ↦ base_of_within rule q (sym (ap (option_and_then (base_of rules)) at) ∙ e)
-    ]
+  ]
 
   pub base_at : (p : ℕ) (rule : StyleDef) → slice_get rules p ≡ Some rule → base rules p ≡ base_of rules rule
   base_at p rule at = ap (option_and_then (base_of rules)) at
@@ -65,21 +65,21 @@ module _ (rules : List StyleDef) where
   first_more place styles styles' style e f a = (
     ap length e ∙ length-append styles (style ∷ []) ∙ omega (arith, a.0),
     λ p h. elim (cases_eq p place) [
-        inl same ↦
+      | inl same ↦
           let seam : get_or styles' place None ≡ style = ap (λ xs. get_or xs place None) e ∙ ap (λ n. get_or (styles ++ style ∷ []) n None) (sym a.0) ∙ get_or-append_seam styles style [] None in
           ap (λ n. get_or styles' n None) same ∙ seam ∙ f ∙ ap first_style (sym same)
       | inr away ↦
           let below : p < length styles = omega (arith, a.0, h, away) in
           ap (λ xs. get_or xs p None) e ∙ get_or-append styles (style ∷ []) None p below ∙ a.1 p (omega (arith, a.0, below))
-      ],
+    ],
   )
 
   -- a place with a style is one of the places
   done_within : (styles : List (Option CounterStyle)) (place : ℕ) → is_done styles place ≡ true → place < length styles
   done_within styles place d = elim (cases_lt place (length styles)) [
-      inl h ↦ h
+    | inl h ↦ h
     | inr h ↦ absurd (both_ways _ (ap is_some (get_or_past styles place None h)) d)
-    ]
+  ]
 
   some_done : (styles : List (Option CounterStyle)) (place : ℕ) (style : CounterStyle) → get_or styles place None ≡ Some style → is_done styles place ≡ true
   some_done styles place style e = ap is_some e
@@ -87,9 +87,9 @@ module _ (rules : List StyleDef) where
   -- a place whose style is known at first extends nothing
   first_done : (place : ℕ) → is_some (first_style place) ≡ true → base rules place ≡ None
   first_done place d = elim (cases_option (base rules place)) [
-      inl e ↦ e
+    | inl e ↦ e
     | inr (other, e) ↦ absurd (both_ways _ (ap is_some (first_some place other e)) d)
-    ]
+  ]
 
   pub settled_first : (styles : List (Option CounterStyle)) → AreFirst (length rules) styles → AreSettled rules styles
   settled_first styles a =
@@ -136,19 +136,19 @@ module _ (rules : List StyleDef) where
     room = e ∙ f.room;
     marked = λ p. marked p ∙ sym (covered p);
     done = λ p h. elim (cases_eq p place) [
-        inl same ↦ covered p ∙ ap (is_covered styles path) same ∙ here
+      | inl same ↦ covered p ∙ ap (is_covered styles path) same ∙ here
       | inr away ↦ covered p ∙ or_left (is_done styles p) (is_in p path) (f.done p (omega (arith, h, away)))
-      ];
+    ];
   }
 
   pub finished_all : (styles : List (Option CounterStyle)) (begun : List Bool) (place : ℕ) → length rules ≤ place → AreFinishedBefore rules styles begun place
       → styles ≡ map (λ p. Some (finished_at rules p)) (range_with_len 0 (length rules))
   finished_all styles begun place h f =
       fill_by_all (λ p. Some (finished_at rules p)) styles (length rules) None f.settled.room (λ p k. finished_here p (f.done p (omega (arith, h, k)))) where
-      finished_here : (p : ℕ) → is_done styles p ≡ true → get_or styles p None ≡ Some (finished_at rules p)
-      finished_here p d = elim (cases_option (get_or styles p None)) [
-          inl e ↦ absurd (both_ways _ (ap is_some e) d)
-        | inr (style, e) ↦ e ∙ ap Some (f.settled.right p style e)
+        finished_here : (p : ℕ) → is_done styles p ≡ true → get_or styles p None ≡ Some (finished_at rules p)
+        finished_here p d = elim (cases_option (get_or styles p None)) [
+          | inl e ↦ absurd (both_ways _ (ap is_some e) d)
+          | inr (style, e) ↦ e ∙ ap Some (f.settled.right p style e)
         ]
 
 pub filter_map-Some : {X : Type 0} (f : ℕ → X) (places : List ℕ) → filter_map (λ (style : Option X). style) (map (λ p. Some (f p)) places) ≡ map f places

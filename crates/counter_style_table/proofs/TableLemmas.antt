@@ -57,7 +57,7 @@ module _ (rules : List StyleDef) (right : list_all gives_right_symbols rules ≡
   over_supplied : (rule : StyleDef) (name : List ℕ) (style : CounterStyle) → gives_right_symbols rule ≡ true → extended_by (system_of rule) ≡ Some name → has_its_symbols style ≡ true → has_its_symbols (over rule style) ≡ true
   over_supplied rule name style g e h =
       let nothing : list_any gives_symbols rule.descriptors ≡ false =
-          not-true _ (sym (ap (λ o. cond (is_some o) (not (list_any gives_symbols rule.descriptors)) (has_its_symbols (own_style rule))) e) ∙ g) in
+      not-true _ (sym (ap (λ o. cond (is_some o) (not (list_any gives_symbols rule.descriptors)) (has_its_symbols (own_style rule))) e) ∙ g) in
       fold-keeps rule.descriptors style nothing ∙ h
 
   own_supplied : (rule : StyleDef) → gives_right_symbols rule ≡ true → extended_by (system_of rule) ≡ None → has_its_symbols (own_style rule) ≡ true
@@ -72,15 +72,15 @@ module _ (rules : List StyleDef) (right : list_all gives_right_symbols rules ≡
   finished_supplied (suc styles) name =
       let within : Option StyleDef → CounterStyle = λ found. option_map_or (λ rule. option_map_or (λ other. over rule (cond (is_on_cycle rules name) decimal_style (finished_within rules styles other))) (extended_by (system_of rule)) (own_style rule)) found decimal_style in
       elim (cases_option (last_named rules name)) [
-        inl e ↦ ap (λ found. has_its_symbols (within found)) e
-      | inr (rule, e) ↦
-          let g = rule_right name rule e in
-          ap (λ found. has_its_symbols (within found)) e
-          ∙ elim (cases_option (extended_by (system_of rule))) [
-              inl f ↦ ap (λ o. has_its_symbols (option_map_or (λ other. over rule (cond (is_on_cycle rules name) decimal_style (finished_within rules styles other))) o (own_style rule))) f ∙ own_supplied rule g f
-            | inr (other, f) ↦
-                ap (λ o. has_its_symbols (option_map_or (λ other. over rule (cond (is_on_cycle rules name) decimal_style (finished_within rules styles other))) o (own_style rule))) f
-                ∙ over_supplied rule other (cond (is_on_cycle rules name) decimal_style (finished_within rules styles other)) g f (cond_supplied (is_on_cycle rules name) (finished_within rules styles other) (finished_supplied styles other))
+        | inl e ↦ ap (λ found. has_its_symbols (within found)) e
+        | inr (rule, e) ↦
+            let g = rule_right name rule e in
+            ap (λ found. has_its_symbols (within found)) e
+            ∙ elim (cases_option (extended_by (system_of rule))) [
+              | inl f ↦ ap (λ o. has_its_symbols (option_map_or (λ other. over rule (cond (is_on_cycle rules name) decimal_style (finished_within rules styles other))) o (own_style rule))) f ∙ own_supplied rule g f
+              | inr (other, f) ↦
+                  ap (λ o. has_its_symbols (option_map_or (λ other. over rule (cond (is_on_cycle rules name) decimal_style (finished_within rules styles other))) o (own_style rule))) f
+                  ∙ over_supplied rule other (cond (is_on_cycle rules name) decimal_style (finished_within rules styles other)) g f (cond_supplied (is_on_cycle rules name) (finished_within rules styles other) (finished_supplied styles other))
             ]
       ]
 
@@ -93,9 +93,9 @@ module _ (rules : List StyleDef) (right : list_all gives_right_symbols rules ≡
 right_defines : (styles : List StyleDef) → list_all gives_right_symbols (filter defines styles) ≡ true
 right_defines [] = refl
 right_defines (rule ∷ styles) = elim (cases_Bool (defines rule)) [
-    inl h ↦ rw h (ap (λ b. b && list_all gives_right_symbols (filter defines styles)) (and_parts (may_be_defined rule.name) (gives_right_symbols rule) h).1 ∙ right_defines styles)
+  | inl h ↦ rw h (ap (λ b. b && list_all gives_right_symbols (filter defines styles)) (and_parts (may_be_defined rule.name) (gives_right_symbols rule) h).1 ∙ right_defines styles)
   | inr h ↦ rw h (right_defines styles)
-  ]
+]
 
 list_all-append : {X : Type 0} (p : X → Bool) (xs ys : List X) → list_all p xs ≡ true → list_all p ys ≡ true → list_all p (xs ++ ys) ≡ true
 list_all-append p [] ys h g = g
@@ -113,9 +113,9 @@ module _ (rules : List StyleDef) where
       let extending : Option (List ℕ) → List ℕ = λ o. (option_map_or (λ other. over rule (cond (is_on_cycle rules name) decimal_style (finished_within rules styles other))) o (own_style rule)).name in
       ap (λ found. (option_map_or (λ r. option_map_or (λ other. over r (cond (is_on_cycle rules name) decimal_style (finished_within rules styles other))) (extended_by (system_of r)) (own_style r)) found decimal_style).name) e
       ∙ elim (cases_option (extended_by (system_of rule))) [
-          inl f ↦ ap extending f
+        | inl f ↦ ap extending f
         | inr (other, f) ↦ ap extending f
-        ]
+      ]
 
   names_of : 0 < length rules → (all : List StyleDef) → ((k : ℕ) (rule : StyleDef) → slice_get all k ≡ Some rule → last_named rules (name_of rule) ≡ Some rule)
       → map (λ (style : CounterStyle). style.name) (map (finished rules) (map name_of all)) ≡ map name_of all
@@ -146,9 +146,9 @@ module _ (rules : List StyleDef) where
       let b = get_or (put rules) j no_rule in
       let names : name_of a ≡ name_of b = sym (name_at h i d (omega (arith, before, within))) ∙ same ∙ name_at h j d within in
       let places : Some i ≡ Some j =
-          sym (position-own (put rules) i a (apart-put rules) (slice_get-get_or (put rules) i no_rule (omega (arith, before, within, length-table))))
-          ∙ ap (λ name. position (is_named name) (put rules)) names
-          ∙ position-own (put rules) j b (apart-put rules) (slice_get-get_or (put rules) j no_rule (omega (arith, within, length-table))) in
+      sym (position-own (put rules) i a (apart-put rules) (slice_get-get_or (put rules) i no_rule (omega (arith, before, within, length-table))))
+      ∙ ap (λ name. position (is_named name) (put rules)) names
+      ∙ position-own (put rules) j b (apart-put rules) (slice_get-get_or (put rules) j no_rule (omega (arith, within, length-table))) in
       let equal : i ≡ j = cc in
       omega (arith, before, equal)
 
@@ -169,14 +169,14 @@ module _ (rules : List StyleDef) where
   table-found h name rule last own =
       ap (option_and_then (slice_get table)) (position-agree _ _ table (put rules) (tests_agree name table (put rules) (table-names h)))
       ∙ elim (cases_option (position (is_named name) (put rules))) [
-          inl e ↦ absurd (none_some (sym (last_position rules name ∙ ap (option_and_then (slice_get (put rules))) e) ∙ last))
+        | inl e ↦ absurd (none_some (sym (last_position rules name ∙ ap (option_and_then (slice_get (put rules))) e) ∙ last))
         | inr (place, e) ↦
             let at : slice_get (put rules) place ≡ Some rule = sym (last_position rules name ∙ ap (option_and_then (slice_get (put rules))) e) ∙ last in
             ap (option_and_then (slice_get table)) e
             ∙ slice_get-map (finished rules) (map name_of (put rules)) place
             ∙ ap (option_map (finished rules)) (slice_get-map name_of (put rules) place ∙ ap (option_map name_of) at)
             ∙ ap (λ n. Some (finished rules n)) own
-        ]
+      ]
 
 -- The last rule named `decimal` is the predefined one.
 
@@ -192,12 +192,12 @@ any_false p (y ∷ xs) (suc k) x h e = any_false p xs k x (or_parts (p y) (list_
 not_decimal : (rule : StyleDef) → defines rule ≡ true → bytes_eq (name_of rule) decimal_name ≡ false
 not_decimal rule h =
     let lower : bytes_eq (lower_case rule.name) decimal_name ≡ false =
-        any_false (bytes_eq (lower_case rule.name)) (excluded_names ++ kept_names) 8 decimal_name (not-true _ (and_parts (may_be_defined rule.name) (gives_right_symbols rule) h).0) refl in
+    any_false (bytes_eq (lower_case rule.name)) (excluded_names ++ kept_names) 8 decimal_name (not-true _ (and_parts (may_be_defined rule.name) (gives_right_symbols rule) h).0) refl in
     elim (cases_Bool (list_any (bytes_eq (lower_case rule.name)) predefined_names)) [
-      inl known ↦ ap (λ b. bytes_eq (cond b (lower_case rule.name) rule.name) decimal_name) known ∙ lower
-    | inr other ↦
-        ap (λ b. bytes_eq (cond b (lower_case rule.name) rule.name) decimal_name) other
-        ∙ false_from_ne_true _ (λ same. both_ways _ other (ap (λ name. list_any (bytes_eq (lower_case name)) predefined_names) (bytes_eq-same rule.name decimal_name same)))
+      | inl known ↦ ap (λ b. bytes_eq (cond b (lower_case rule.name) rule.name) decimal_name) known ∙ lower
+      | inr other ↦
+          ap (λ b. bytes_eq (cond b (lower_case rule.name) rule.name) decimal_name) other
+          ∙ false_from_ne_true _ (λ same. both_ways _ other (ap (λ name. list_any (bytes_eq (lower_case name)) predefined_names) (bytes_eq-same rule.name decimal_name same)))
     ]
 
 abbrev after : Option StyleDef → StyleDef → Option StyleDef
@@ -206,9 +206,9 @@ after last rule = cond (bytes_eq (name_of rule) decimal_name) (Some rule) last
 last_stays : (styles : List StyleDef) (found : Option StyleDef) → fold after found (filter defines styles) ≡ found
 last_stays [] found = refl
 last_stays (rule ∷ styles) found = elim (cases_Bool (defines rule)) [
-    inl h ↦ rw h (ap (λ b. fold after (cond b (Some rule) found) (filter defines styles)) (not_decimal rule h) ∙ last_stays styles found)
+  | inl h ↦ rw h (ap (λ b. fold after (cond b (Some rule) found) (filter defines styles)) (not_decimal rule h) ∙ last_stays styles found)
   | inr h ↦ rw h (last_stays styles found)
-  ]
+]
 
 fold-append : {X Y : Type 0} (f : Y → X → Y) (before : Y) (xs ys : List X) → fold f before (xs ++ ys) ≡ fold f (fold f before xs) ys
 fold-append f before [] ys = refl

@@ -29,11 +29,7 @@ pub fn own_style(alloc: Global, rule: &StyleDef) -> Result<CounterStyle, Memory>
 }
 
 /// The style of a rule over another, which has what the rule does not say.
-pub fn over(
-    alloc: Global,
-    rule: &StyleDef,
-    mut style: CounterStyle,
-) -> Result<CounterStyle, Memory>
+pub fn over(alloc: Global, rule: &StyleDef, mut style: CounterStyle) -> Result<CounterStyle, Memory>
     ensures style { IfOk result (λ over_it. over_it ≡ over rule.now style) }
 {
     for descriptor in rule.descriptors.as_slice() {
@@ -67,11 +63,7 @@ pub fn named_system(descriptors: &[Descriptor]) -> Option<&System>
 }
 
 /// Lets a descriptor say what it says of a style.
-fn describe(
-    alloc: Global,
-    style: &mut CounterStyle,
-    descriptor: &Descriptor,
-) -> Result<(), Memory>
+fn describe(alloc: Global, style: &mut CounterStyle, descriptor: &Descriptor) -> Result<(), Memory>
     ensures ok { OnOk result (style.new ≡ described style.old descriptor.now) }
 {
     match descriptor {

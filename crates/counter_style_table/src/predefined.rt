@@ -347,11 +347,7 @@ fn descriptors_of(alloc: Global, kind: &Kind) -> Result<List<Descriptor>, Memory
 }
 
 /// A system and its symbols.
-fn with_symbols(
-    alloc: Global,
-    system: System,
-    characters: &str,
-) -> Result<List<Descriptor>, Memory>
+fn with_symbols(alloc: Global, system: System, characters: &str) -> Result<List<Descriptor>, Memory>
     ensures descriptors { IfOk result (λ descriptors. descriptors ≡ Descriptor.System system ∷ Descriptor.Symbols (symbols_of (chars characters.now)) ∷ []) }
 {
     let mut descriptors = List::new(alloc);

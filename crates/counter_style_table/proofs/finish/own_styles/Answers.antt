@@ -7,9 +7,9 @@ pub loop-place-preserved : goal.loop-place-preserved
 loop-place-preserved c =
     first_more c.args.rules.now c.loop-place.place c.loop-place.styles.items c.push.new.self.items c.match-base.style c.in_ok-push.ensures.items
     (elim c.match-base.branch [
-        in-Some w ↦ w.style-is ∙ sym (first_some c.args.rules.now c.loop-place.place _ (sym c.base.ensures.base ∙ w.in-Some.is))
+      | in-Some w ↦ w.style-is ∙ sym (first_some c.args.rules.now c.loop-place.place _ (sym c.base.ensures.base ∙ w.in-Some.is))
       | in-None+in_ok-own-in-None w ↦ w.style-is ∙ ap Some w.in_ok-own-in-None.ensures.style ∙ sym (first_none c.args.rules.now c.loop-place.place (sym c.base.ensures.base ∙ w.in-None.is))
-      ])
+    ])
     c.loop-place.invariant
 
 pub returns : goal.returns

@@ -12,7 +12,7 @@ returns c =
       symbols =
           c.loop-character.invariant
           ∙ ap symbols_of
-            (Chars-Drains (chars c.args.characters.now) c.loop-character.yielded c.into_iter-character-iterator.result
-                (encodes-chars c.args.characters.now c.utf8.characters ∙ sym rest)
-                (c.next.new.self, (c.loop-character.character-iterator, c.loop-character.yielded_by, c.in-None.ensures.steps)));
+          (Chars-Drains (chars c.args.characters.now) c.loop-character.yielded c.into_iter-character-iterator.result
+          (encodes-chars c.args.characters.now c.utf8.characters ∙ sym rest)
+          (c.next.new.self, (c.loop-character.character-iterator, c.loop-character.yielded_by, c.in-None.ensures.steps)));
     }
