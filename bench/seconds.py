@@ -4,12 +4,16 @@ import subprocess
 import time
 
 
-def seconds(*words, runs=3, statuses=(0,)):
-    """The least time of the runs of this command, which must end with one of the statuses."""
+def seconds(*words, runs=3, statuses=(0,), most=None):
+    """The least time of the runs of this command, which must end with one of the statuses. None where a
+    run takes more than so many seconds."""
     best = None
     for _ in range(runs):
         begin = time.perf_counter()
-        status = subprocess.run(words, stdout=subprocess.DEVNULL, stderr=subprocess.DEVNULL).returncode
+        try:
+            status = subprocess.run(words, stdout=subprocess.DEVNULL, stderr=subprocess.DEVNULL, timeout=most).returncode
+        except subprocess.TimeoutExpired:
+            return None
         taken = time.perf_counter() - begin
         if status not in statuses:
             raise SystemExit(f"{' '.join(words)[:200]}: status {status}")
