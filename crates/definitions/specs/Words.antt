@@ -1,4 +1,4 @@
--- Words that count in any ASCII case: CSS Values 4, 2.1 and 2.3, and Infra, 4.7 "ASCII case-insensitive match".
+-- Words that count in any ASCII case: CSS Values 4, 4.1, and Infra, 4.7 "ASCII case-insensitive match".
 use Rattle.std.specs.Prelude.{ℕ, Bool, nat_lt, List}
 use Rattle.std.specs.List.{list_all}
 use Rattle.std.specs.Str.{str_eq_ignore_ascii_case}
