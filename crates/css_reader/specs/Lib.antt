@@ -1,0 +1,6 @@
+pub mod Blocks
+pub mod Declarations
+pub mod Rules
+pub mod Seen
+pub mod Sheets
+pub mod Waiting

@@ -1,0 +1,6 @@
+//! Style sheets.
+#![tactic(auto)]
+
+mod declarations;
+mod pieces;
+mod rules;
