@@ -9,9 +9,10 @@ use Rattle.definitions.specs.Punctuation.{exclamation_mark}
 use Rattle.definitions.specs.Reading.{◌then◌}
 use Rattle.css_tokens.specs.declared.token.Token.{Token}
 use Rattle.css_tokens.specs.declared.token.TokenKind.{TokenKind}
-use Rattle.css_values.specs.Parts.{is_blank_kind, is_sign, is_keyword, word_of, solid}
+use Rattle.css_values.specs.Parts.{is_sign, is_keyword, solid}
 use Rattle.css_values.specs.Declarations.{declared}
 use Rattle.css_values.specs.Descriptors.{described}
+use Rattle.css_reader.specs.FromSelectors.{name_at, past_sign, past_whitespace}
 use Rattle.css_reader.specs.Blocks.{piece, past_piece}
 use Rattle.css_reader.specs.Rules.{parts}
 
@@ -20,18 +21,9 @@ colon = 58
 
 -- What a declaration is made of.
 
-unfoldable pub past_blanks : List Token → List Token
-past_blanks [] = []
-past_blanks (first ∷ rest) = if is_blank_kind first.kind then past_blanks rest else first ∷ rest
-
-abbrev pub past_colon : List Token → Option (List Token)
-past_colon [] = None
-past_colon (first ∷ rest) = if is_sign colon first.kind then Some rest else None
-
 -- an identifier, whitespace if there is some, a colon, and what stands after it
 abbrev pub named_at : List Token → Option (List ℕ × List Token)
-named_at [] = None
-named_at (first ∷ rest) = word_of first.kind then λ name. past_colon (past_blanks rest) then λ value. Some (name, value)
+named_at tokens = name_at tokens then λ name. past_sign colon (past_whitespace name.1) then λ value. Some (name.0, value)
 
 abbrev pub is_exclamation : TokenKind → Bool
 is_exclamation kind = is_sign exclamation_mark kind
@@ -39,13 +31,13 @@ is_exclamation kind = is_sign exclamation_mark kind
 -- `important`, and nothing after it but whitespace
 abbrev pub is_important : List Token → Bool
 is_important [] = false
-is_important (word ∷ rest) = is_keyword (codes "important") word.kind && length (past_blanks rest) == 0
+is_important (word ∷ rest) = is_keyword (codes "important") word.kind && length (past_whitespace rest) == 0
 
 -- Whether a declaration is important, by what is left after its value: nothing, or `!` and `important`.
 -- With anything else it is none, since a value has no `!` of its own outside of blocks (8.2).
 abbrev pub importance : List Token → Option Bool
 importance [] = Some false
-importance (exclamation ∷ rest) = if is_important (past_blanks rest) then Some true else None
+importance (exclamation ∷ rest) = if is_important (past_whitespace rest) then Some true else None
 
 -- the name, the value up to the first `!`, and whether it is important
 abbrev pub cut_of : List ℕ → List Token → Option (List ℕ × List Token × Bool)

@@ -4,12 +4,13 @@ ghost use Rattle.std.specs.Prelude.{◌≡◌, ◌++◌, ◌∷◌, [], List, no
 ghost use Rattle.std.specs.List.{filter, filter_map};
 ghost use Rattle.definitions.specs.Reading.{Reads};
 ghost use Rattle.css_values.specs.Parts.{is_keyword};
-ghost use Rattle.css_reader.specs.Declarations.{past_blanks, past_colon, named_at, is_important, importance, cut, declaration, declarations, descriptor_in, descriptor_name, is_same_descriptor, last_of_each, descriptors};
+ghost use Rattle.css_reader.specs.Declarations.{colon, named_at, is_important, importance, cut, declaration, declarations, descriptor_in, descriptor_name, is_same_descriptor, last_of_each, descriptors};
 ghost use Rattle.plain_types.specs.declared.counter_style.Descriptor.{Descriptor};
+ghost use Rattle.css_reader.specs.FromSelectors.{name_at, past_sign, past_whitespace};
 ghost use Rattle.css_reader.specs.Seen.{tokens_seen_if};
 
 use crate::pieces::{PieceEnd, is_sign, piece};
-use crate::rules::{is_blank, part};
+use crate::rules::part;
 use css_tokens::token::{Token, TokenKind};
 use css_tokens::words::is_word;
 use css_values::declarations::read_declaration;
@@ -21,25 +22,40 @@ use plain_types::memory::Memory;
 use plain_types::text::Text;
 use std::alloc::Global;
 
-#[tactic(auto, unfolding(crate::specs::Declarations::past_blanks))]
-fn past_blanks(tokens: &[Token]) -> &[Token]
-    ensures { result.now ≡ past_blanks tokens.now }
+/// The tokens after the whitespace at the front.
+pub(crate) fn past_whitespace(tokens: &[Token]) -> &[Token]
+    ensures { result.now ≡ past_whitespace tokens.now }
 {
     let mut rest = tokens;
-    'blanks: while let Some((first, after)) = rest.split_first() {
-        if !is_blank(&first.kind) {
-            break;
+    'blanks: while let Some((token, after)) = rest.split_first() {
+        match &token.kind {
+            TokenKind::Blank => {
+                rest = after;
+            }
+            _ => {
+                return rest;
+            }
         }
-        rest = after;
     }
     rest
 }
 
-fn past_colon(tokens: &[Token]) -> Option<&[Token]>
-    ensures { Reads (λ x. x.now) result (past_colon tokens.now) }
+/// `<ident-token>`
+pub(crate) fn name(tokens: &[Token]) -> Option<(&Text, &[Token])>
+    ensures { Reads (λ x. (x.0.now, x.1.now)) result (name_at tokens.now) }
 {
-    let (first, rest) = tokens.split_first()?;
-    if is_sign(':', &first.kind) {
+    let (token, rest) = tokens.split_first()?;
+    match &token.kind {
+        TokenKind::Word(name) => Some((name, rest)),
+        _ => None,
+    }
+}
+
+fn past_colon(tokens: &[Token]) -> Option<&[Token]>
+    ensures { Reads (λ x. x.now) result (past_sign colon tokens.now) }
+{
+    let (token, rest) = tokens.split_first()?;
+    if is_sign(':', &token.kind) {
         Some(rest)
     } else {
         None
@@ -50,11 +66,9 @@ fn past_colon(tokens: &[Token]) -> Option<&[Token]>
 fn named(tokens: &[Token]) -> Option<(&Text, &[Token])>
     ensures { Reads (λ x. (x.0.now, x.1.now)) result (named_at tokens.now) }
 {
-    let (first, rest) = tokens.split_first()?;
-    match &first.kind {
-        TokenKind::Word(name) => Some((name, past_colon(past_blanks(rest))?)),
-        _ => None,
-    }
+    let (name, rest) = name(tokens)?;
+    let value = past_colon(past_whitespace(rest))?;
+    Some((name, value))
 }
 
 fn is_important_word(kind: &TokenKind) -> bool
@@ -71,7 +85,7 @@ fn is_important(tokens: &[Token]) -> bool
     ensures { result ≡ is_important tokens.now }
 {
     match tokens.split_first() {
-        Some((word, rest)) => is_important_word(&word.kind) && past_blanks(rest).is_empty(),
+        Some((word, rest)) => is_important_word(&word.kind) && past_whitespace(rest).is_empty(),
         None => false,
     }
 }
@@ -81,7 +95,7 @@ fn importance(tokens: &[Token]) -> Option<bool>
     ensures { result ≡ importance tokens.now }
 {
     match tokens.split_first() {
-        Some((_, rest)) if is_important(past_blanks(rest)) => Some(true),
+        Some((_, rest)) if is_important(past_whitespace(rest)) => Some(true),
         Some(_) => None,
         None => Some(false),
     }
@@ -181,11 +195,18 @@ fn is_same_descriptor(first: &Descriptor, second: &Descriptor) -> bool
     descriptor_name(first) == descriptor_name(second)
 }
 
+/// Drops those of the descriptor's name.
+fn drop_same(kept: &mut Vec<Descriptor>, descriptor: &Descriptor)
+    ensures { kept.new.items ≡ filter (λ earlier. not (is_same_descriptor earlier descriptor.now)) kept.old.items }
+{
+    kept.retain(|earlier| !is_same_descriptor(earlier, descriptor));
+}
+
 /// Puts the descriptor at the end, in the place of an earlier one of its name.
 fn put_descriptor(kept: &mut Vec<Descriptor>, descriptor: Descriptor) -> Result<(), Memory>
-    ensures ok { OnOk result (kept.new.items ≡ filter (λ earlier. not (is_same_descriptor earlier descriptor)) kept.old.items ++ descriptor ∷ []) }
+    ensures ok { OnOk result ((found : List Descriptor) → kept.old.items ≡ last_of_each found → kept.new.items ≡ last_of_each (found ++ descriptor ∷ [])) }
 {
-    kept.retain(|earlier| !is_same_descriptor(earlier, &descriptor));
+    drop_same(kept, &descriptor);
     kept.push(descriptor)?;
     Ok(())
 }

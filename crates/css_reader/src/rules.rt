@@ -27,7 +27,7 @@ pub(crate) enum FoundRule<'a> {
     },
 }
 
-pub(crate) fn is_blank(kind: &TokenKind) -> bool
+fn is_blank(kind: &TokenKind) -> bool
     ensures { result ≡ is_blank_kind kind.now }
 {
     match kind {
