@@ -1,0 +1,4 @@
+pub mod Adding
+pub mod Shortening
+pub mod Sourcing
+pub mod Stepping
