@@ -12,12 +12,10 @@ use Rattle.css_tokens.specs.declared.token.TokenKind.{TokenKind}
 use Rattle.css_values.specs.Parts.{is_sign, is_keyword, solid}
 use Rattle.css_values.specs.Declarations.{declared}
 use Rattle.css_values.specs.Descriptors.{described}
-use Rattle.css_reader.specs.FromSelectors.{name_at, past_sign, past_whitespace}
+use Rattle.selectors.specs.Compounds.{colon}
+use Rattle.selectors.specs.Parts.{name_at, past_sign, past_whitespace}
 use Rattle.css_reader.specs.Blocks.{piece, past_piece}
 use Rattle.css_reader.specs.Rules.{parts}
-
-abbrev pub colon : ℕ
-colon = 58
 
 -- What a declaration is made of.
 

@@ -1,7 +1,6 @@
 pub mod Blocks
 pub mod Declarations
 pub mod Features
-pub mod FromSelectors
 pub mod Rules
 pub mod Seen
 pub mod Sheets

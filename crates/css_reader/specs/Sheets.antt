@@ -9,7 +9,8 @@ use Rattle.definitions.specs.SheetText.{prepared}
 use Rattle.definitions.specs.Words.{is_word}
 use Rattle.css_tokens.specs.Tokens.{tokens}
 use Rattle.css_tokens.specs.declared.token.Token.{Token}
-use Rattle.css_reader.specs.FromSelectors.{name_at, past_whitespace, only, selector_list}
+use Rattle.selectors.specs.Parts.{name_at, past_whitespace, only}
+use Rattle.selectors.specs.Selectors.{selector_list}
 use Rattle.css_reader.specs.Declarations.{declarations, descriptors}
 use Rattle.css_reader.specs.Rules.{Rule, style_rule, at_rule, rules}
 

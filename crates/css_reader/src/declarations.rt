@@ -4,9 +4,10 @@ ghost use Rattle.std.specs.Prelude.{◌≡◌, ◌++◌, ◌∷◌, [], List, no
 ghost use Rattle.std.specs.List.{filter, filter_map};
 ghost use Rattle.definitions.specs.Reading.{Reads};
 ghost use Rattle.css_values.specs.Parts.{is_keyword};
-ghost use Rattle.css_reader.specs.Declarations.{colon, named_at, is_important, importance, cut, declaration, declarations, descriptor_in, descriptor_name, is_same_descriptor, last_of_each, descriptors};
+ghost use Rattle.css_reader.specs.Declarations.{named_at, is_important, importance, cut, declaration, declarations, descriptor_in, descriptor_name, is_same_descriptor, last_of_each, descriptors};
 ghost use Rattle.plain_types.specs.declared.counter_style.Descriptor.{Descriptor};
-ghost use Rattle.css_reader.specs.FromSelectors.{name_at, past_sign, past_whitespace};
+ghost use Rattle.selectors.specs.Compounds.{colon};
+ghost use Rattle.selectors.specs.Parts.{name_at, past_sign, past_whitespace};
 ghost use Rattle.css_reader.specs.Seen.{tokens_seen_if};
 
 use crate::pieces::{PieceEnd, is_sign, piece};
@@ -211,11 +212,7 @@ fn put_descriptor(kept: &mut Vec<Descriptor>, descriptor: Descriptor) -> Result<
     Ok(())
 }
 
-fn put_part(
-    alloc: Global,
-    part: Option<&[Token]>,
-    kept: &mut Vec<Descriptor>,
-) -> Result<(), Memory>
+fn put_part(alloc: Global, part: Option<&[Token]>, kept: &mut Vec<Descriptor>) -> Result<(), Memory>
     ensures ok { OnOk result ((found : List Descriptor) → kept.old.items ≡ last_of_each found → kept.new.items ≡ last_of_each (found ++ filter_map descriptor_in (filter_map (λ x. x) (tokens_seen_if part.entry ∷ [])))) }
 {
     let Some(part) = part else {

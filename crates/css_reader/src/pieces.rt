@@ -87,7 +87,11 @@ fn step(waiting: &mut Vec<char>, kind: &TokenKind) -> Result<(), Memory>
 fn ends_here(waiting: &Vec<char>, end: PieceEnd, kind: &TokenKind) -> bool
     ensures { result ≡ (is_none_waiting (reverse waiting.now.items) && ends_at end kind.now) }
 {
-    if waiting.is_empty() { ends_at(end, kind) } else { false }
+    if waiting.is_empty() {
+        ends_at(end, kind)
+    } else {
+        false
+    }
 }
 
 /// The tokens before the first one that ends the piece and stands in no block of it, and those from that

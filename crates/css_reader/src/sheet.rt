@@ -10,7 +10,6 @@ ghost use Rattle.css_reader.specs.Sheets.{lone_name, style_rule_of, style_def_of
 
 use crate::declarations::{declarations, descriptors, name, past_whitespace};
 use crate::rules::{FoundRule, rule};
-use crate::stub::read_selectors;
 use css_tokens::lexer::tokens;
 use css_tokens::sheet_text::prepare_text;
 use css_tokens::token::Token;
@@ -21,6 +20,7 @@ use plain_types::list::List;
 use plain_types::memory::Memory;
 use plain_types::sheet::{Sheet, StyleRule};
 use plain_types::text::Text;
+use selectors::selector_list::read_selectors;
 use std::alloc::Global;
 
 /// The identifier that stands there alone, between Blanks.
@@ -91,11 +91,13 @@ fn push_rule(
         Some(FoundRule::Style { prelude, block }) => {
             push_style_rule(alloc, text, prelude, block, &mut sheet.rules)
         }
-        Some(FoundRule::At {
-            name,
-            prelude,
-            block,
-        }) => push_style_def(alloc, name.as_str(), prelude, block, &mut sheet.styles),
+        Some(
+            FoundRule::At {
+                name,
+                prelude,
+                block,
+            },
+        ) => push_style_def(alloc, name.as_str(), prelude, block, &mut sheet.styles),
     }
 }
 

@@ -8,6 +8,7 @@ use plain_types::declaration::{Declaration, Declared, Said};
 use plain_types::selector::{Compound, Selector, Simple};
 use plain_types::selector_parts::{Join, PseudoElement};
 use plain_types::sheet::{Sheet, StyleRule};
+use selectors::counting::specificity;
 use std::alloc::{AllocError, Global};
 use std::test::Fail;
 
@@ -98,7 +99,10 @@ static SHEETS: [(&str, &str); 101] = [
     ("a{", "a{}"),
     ("a{;;;}", "a{}"),
     ("a{ ; content : none ; }", "a{content none}"),
-    ("a{content:none;content:normal}", "a{content none;content normal}"),
+    (
+        "a{content:none;content:normal}",
+        "a{content none;content normal}",
+    ),
     ("a{content:none content:normal}", "a{}"),
     ("a{x;content:none}", "a{content none}"),
     ("a{x{content:none}content:normal}", "a{}"),
@@ -111,7 +115,10 @@ static SHEETS: [(&str, &str); 101] = [
     ("a{x:[)];content:none}", "a{content none}"),
     ("a{x:)];content:none}", "a{content none}"),
     ("a{x:f(;);content:none}", "a{content none}"),
-    ("a{content:\";\";content:\"}\"}", "a{content ';';content '}'}"),
+    (
+        "a{content:\";\";content:\"}\"}",
+        "a{content ';';content '}'}",
+    ),
     ("a{content:\"b\n;content:none}", "a{content none}"),
     ("a{x:url(;);content:none}", "a{content none}"),
     ("a{@x;content:none}", "a{content none}"),
@@ -150,14 +157,32 @@ static STYLES: [(&str, &str); 20] = [
     ("@counter-style x;", ""),
     ("@counter-style x", ""),
     ("@counter-style x(a){}", ""),
-    ("@counter-style x{symbols:a b;suffix:\"\"}a{}", "a{}@x{symbols 2;suffix}"),
-    ("@counter-style x{symbols:a;symbols:b c;suffix:d}", "@x{symbols 2;suffix}"),
-    ("@counter-style x{symbols:b c;suffix:d;symbols:,}", "@x{symbols 2;suffix}"),
-    ("@counter-style x{symbols:b c;suffix:d;symbols:a}", "@x{suffix;symbols 1}"),
+    (
+        "@counter-style x{symbols:a b;suffix:\"\"}a{}",
+        "a{}@x{symbols 2;suffix}",
+    ),
+    (
+        "@counter-style x{symbols:a;symbols:b c;suffix:d}",
+        "@x{symbols 2;suffix}",
+    ),
+    (
+        "@counter-style x{symbols:b c;suffix:d;symbols:,}",
+        "@x{symbols 2;suffix}",
+    ),
+    (
+        "@counter-style x{symbols:b c;suffix:d;symbols:a}",
+        "@x{suffix;symbols 1}",
+    ),
     ("@counter-style x{range:1 2;range:auto}", "@x{range auto}"),
     ("@counter-style x{range:auto;range:1 2}", "@x{range}"),
-    ("@counter-style x{symbols:a!important;suffix:b}", "@x{suffix}"),
-    ("@counter-style x{content:none;system:fixed;@y{}pad:1 a}", "@x{system;pad}"),
+    (
+        "@counter-style x{symbols:a!important;suffix:b}",
+        "@x{suffix}",
+    ),
+    (
+        "@counter-style x{content:none;system:fixed;@y{}pad:1 a}",
+        "@x{system;pad}",
+    ),
     ("@media x{@counter-style x{}}", ""),
 ];
 
@@ -337,6 +362,21 @@ fn sheets_recover_as_css_does(rt: HostRuntime) -> Result<(), Fail> {
 }
 
 #[test]
+fn a_selector_of_a_rule_has_its_specificity(rt: HostRuntime) -> Result<(), Fail> {
+    let alloc = rt.alloc();
+    let sheet = read_sheet(alloc, ":is(#a,b) > c.d:nth-child(2n + 1)::before{}")?;
+    let mut counts = (0, 0, 0);
+    for rule in sheet.rules.as_slice() {
+        for selector in rule.selectors.as_slice() {
+            let found = specificity(selector);
+            counts = (found.ids, found.classes, found.types);
+        }
+    }
+    assert!(rt; counts == (1, 2, 2));
+    Ok(())
+}
+
+#[test]
 fn counter_styles_keep_the_last_of_each_descriptor(rt: HostRuntime) -> Result<(), Fail> {
     let alloc = rt.alloc();
     for (text, expected) in &STYLES {
@@ -383,7 +423,8 @@ p { color: red; content counter(x); }
 @media print { a { color: black } }
 ";
 
-static HOUSE_SHOWN: &str = "body{counter-reset}section{counter-increment}h2{}h2::before{content 2}figure{counter-increment}figcaption::before{content 3}a:other,a:other{}a.ref::after{content 5}a.fn::after{content 1}ol.notes{list-style}ol ol{list-style}ul li::marker{content '- '}q{quotes}p{}@note{system;symbols 3;suffix}";
+static HOUSE_SHOWN: &str =
+    "body{counter-reset}section{counter-increment}h2{}h2::before{content 2}figure{counter-increment}figcaption::before{content 3}a:other,a:other{}a.ref::after{content 5}a.fn::after{content 1}ol.notes{list-style}ol ol{list-style}ul li::marker{content '- '}q{quotes}p{}@note{system;symbols 3;suffix}";
 
 #[test]
 fn a_house_sheet_gives_its_rules(rt: HostRuntime) -> Result<(), Fail> {

@@ -1,5 +1,5 @@
 use Rattle.std.proofs.Common.{◌≡◌, length}
-use Rattle.css_reader.specs.FromSelectors.{past_whitespace}
+use Rattle.selectors.specs.Parts.{past_whitespace}
 use Rattle.css_reader.proofs.declarations.past_whitespace.Given as goal
 
 abbrev pub invariant-blanks : goal.invariant-blanks
