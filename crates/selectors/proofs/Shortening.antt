@@ -3,7 +3,8 @@ use Rattle.std.proofs.Common.{ℕ, zero, suc, Bool, true, false, cond, List, [],
 use Rattle.plain_types.specs.declared.selector.Compound.{Compound}
 use Rattle.plain_types.specs.declared.selector.Simple.{Simple}
 use Rattle.definitions.specs.Reading.{◌then◌, ◌otherwise◌, run_at}
-use Rattle.definitions.proofs.Following.{Follows, here, later, left, nothing, ended, none_ends, Follows-trans, Leaves, Ends, follow_if, rest_if, leave_if, end_if, leave_otherwise, leave_then, end_then, leave_more, end_more, leave_within, TakesOne, takes_leaves, run_follows}
+use Rattle.definitions.proofs.Following.{Follows, here, later, left, nothing, ended, none_ends, Follows-trans, Leaves, Ends, follow_if, rest_if, leave_if, end_if, leave_otherwise, leave_then, end_then, leave_more, end_more, leave_within, TakesOne, takes_leaves, takes_shorter, run_follows}
+use Rattle.definitions.proofs.Runs.{Shortens}
 use Rattle.css_tokens.specs.declared.token.Token.{Token}
 use Rattle.css_tokens.specs.declared.token.TokenKind.{TokenKind}
 use Rattle.css_values.specs.Parts.{is_sign, is_blank_kind, word_of}
@@ -183,3 +184,14 @@ pub selector_within : (text : List ℕ) (ts : List Token) → Leaves ts (selecto
 unfolding selector_at
 selector_within text ts = leave_otherwise (pseudo_element_at ts then _) _ (leave_then (pseudo_element_at ts) _ (pseudo_within ts) (λ pseudo p. left _ p))
     (leave_then (outer_compound_at text ts) _ (outer_compound_within text ts) (λ first p. leave_more _ (Follows-trans p (run_follows (step_at text) (step_takes text) first.1)) (end_within _ (run_at (step_at text) first.1).1)))
+
+-- ---- each piece leaves fewer tokens
+
+pub subclass_shorter : (text : List ℕ) (levels : ℕ) → Shortens (subclass_at text (choices_at text levels))
+subclass_shorter text levels = takes_shorter (subclass_at text (choices_at text levels)) (subclass_takes text (choices_at text levels) (choices_within text levels))
+
+pub after_choice_shorter : (text : List ℕ) (levels : ℕ) → Shortens (after_comma_at (compound_at text (choices_at text levels)))
+after_choice_shorter text levels = takes_shorter (after_comma_at (compound_at text (choices_at text levels))) (after_comma_takes (compound_at text (choices_at text levels)) (compound_within text (choices_at text levels) (choices_within text levels)))
+
+pub after_selector_shorter : (text : List ℕ) → Shortens (after_comma_at (selector_at text))
+after_selector_shorter text = takes_shorter (after_comma_at (selector_at text)) (after_comma_takes (selector_at text) (selector_within text))

@@ -23,7 +23,7 @@ pub Sources-more : (text : List ℕ) (whole : List Token) (bytes next : List ℕ
 Sources-more text whole bytes next rest t after s e n = record {
   pieces = s.pieces ++ t ∷ [];
   goes = Goes-more argument_token_at whole s.pieces rest t after s.goes e;
-  bytes_are = n ∙ rw (s.bytes_are, append-nil (slice text t)) (sym (flat_map-append (slice text) s.pieces (t ∷ []) ∙ ap (λ (x : List ℕ). flat_map (slice text) s.pieces ++ x) (append-nil (slice text t))));
+  bytes_are = n ∙ ap (λ (x : List ℕ). x ++ slice text t) s.bytes_are ∙ sym (flat_map-append (slice text) s.pieces (t ∷ []) ∙ ap (λ (x : List ℕ). flat_map (slice text) s.pieces ++ x) (append-nil (slice text t)));
 }
 
 pub Sources-read : (text : List ℕ) (whole : List Token) (bytes : List ℕ) (rest : List Token) → Sources text whole bytes rest → argument_token_at rest ≡ None

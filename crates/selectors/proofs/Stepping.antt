@@ -42,3 +42,7 @@ module _ (text : List ℕ) (first : Compound) (whole : List Token) where
   Leads-read compounds joins rest l e =
       let read = Goes-read (step_at text) (takes_shorter (step_at text) (step_takes text)) whole l.steps rest l.goes e in
       (rw read l.compounds_are, rw read l.joins_are, rw read refl)
+
+pub same_sequence : (compounds : List Compound) (joins : List Join) (first : Compound) (steps : List Step) → compounds ≡ first ∷ compounds_of steps → joins ≡ joins_of steps
+    → ◌≡◌ {A = Sequence} (record { compounds = compounds; joins = joins }) (sequence first steps)
+same_sequence compounds joins first steps c j = rw (c, j) refl

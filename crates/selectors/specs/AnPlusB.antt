@@ -1,7 +1,7 @@
 -- The An+B notation: CSS Syntax 3, 6. Our own: it is read from the source text of the argument, in which
 -- comments count for nothing, and not from its tokens; and its numbers stop at the least and the greatest.
 -- All of it is ASCII, so the text is read by bytes.
-use Rattle.std.specs.Prelude.{ℕ, Bool, true, false, ◌-◌, ◌==◌, if◌then◌else◌, List, [], ◌∷◌, take, drop, flat_map, Option, Some, None, codes, ℤ, pos}
+use Rattle.std.specs.Prelude.{ℕ, Bool, true, false, ◌-◌, ◌^◌, min, ◌==◌, if◌then◌else◌, List, [], ◌∷◌, take, drop, flat_map, Option, Some, None, codes, ℤ, pos}
 use Rattle.std.specs.Str.Parse.{digits_value}
 use Rattle.plain_types.specs.StyleNames.{lower_case}
 use Rattle.definitions.specs.Punctuation.{plus_sign, hyphen_minus, right_parenthesis}
@@ -33,6 +33,10 @@ signed_at sign = digits_at sign.1 then λ digits. Some (saturated sign.0 (digits
 abbrev pub digits_or_one : Option (List ℕ × List ℕ) → List ℕ → ℕ × List ℕ
 digits_or_one (Some digits) text = (digits_value 10 digits.0, digits.1)
 digits_or_one None text = (1, text)
+
+-- the same as the code counts it, by numbers of 64 bits
+abbrev pub counted_or_one : ℕ × List ℕ → ℕ × List ℕ
+counted_or_one count = (min count.0 (2 ^ 64 - 1), count.1)
 
 -- `n` after a sign and these digits
 abbrev pub n_of : Bool → ℕ × List ℕ → Option (ℤ × List ℕ)

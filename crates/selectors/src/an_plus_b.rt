@@ -8,7 +8,7 @@ ghost use Rattle.definitions.specs.Reading.{Reads, past_character, past_text, sp
 ghost use Rattle.css_tokens.specs.Counting.{counted};
 ghost use Rattle.css_tokens.specs.Numbers.{sign_at, digits_at, saturated};
 ghost use Rattle.css_tokens.specs.Urls.{past_blanks};
-ghost use Rattle.selectors.specs.AnPlusB.{ended, written_sign_at, signed_at, digits_or_one, n_of, n_at, offset_at, odd_or_even, b_alone, a_and_b, an_plus_b_of, an_plus_b_value, slice, source, argument_token_at, an_plus_b_at};
+ghost use Rattle.selectors.specs.AnPlusB.{ended, written_sign_at, signed_at, digits_or_one, counted_or_one, n_at, offset_at, odd_or_even, b_alone, a_and_b, an_plus_b_of, an_plus_b_value, slice, source, argument_token_at, an_plus_b_at};
 
 use crate::parts::past_close;
 use css_tokens::token::{Token, TokenKind};
@@ -148,6 +148,7 @@ fn saturated(negative: bool, number: u64) -> i32
 }
 
 /// The number of digits after a sign.
+#[tactic(auto, using(crate::proofs::Numbering::signed_some, crate::proofs::Numbering::signed_none))]
 fn signed(negative: bool, text: &[u8]) -> Option<(i32, &[u8])>
     ensures { Reads (λ x. (x.0, x.1.now)) result (signed_at (negative, text.now)) }
 {
@@ -155,11 +156,23 @@ fn signed(negative: bool, text: &[u8]) -> Option<(i32, &[u8])>
     Some((saturated(negative, number), rest))
 }
 
+/// The number of the digits at the front, or 1 where there are none, and the text after them.
+#[tactic(auto, using(crate::proofs::Numbering::digits_or_one_some, crate::proofs::Numbering::digits_or_one_none))]
+fn digits_or_one(text: &[u8]) -> (u64, &[u8])
+    ensures { counted_or_one (digits_or_one (digits_at text.now) text.now) ≡ (result.0, result.1.now) }
+{
+    match digits(text) {
+        Some((number, rest)) => (number, rest),
+        None => (1, text),
+    }
+}
+
 /// `n` after a sign and perhaps digits.
+#[tactic(auto, using(crate::proofs::Numbering::n_some, crate::proofs::Numbering::n_none))]
 fn n(negative: bool, text: &[u8]) -> Option<(i32, &[u8])>
     ensures { Reads (λ x. (x.0, x.1.now)) result (n_at (negative, text.now)) }
 {
-    let (count, rest) = digits(text).unwrap_or((1, text));
+    let (count, rest) = digits_or_one(text);
     let rest = past_byte(b'n', rest)?;
     Some((saturated(negative, count), rest))
 }
