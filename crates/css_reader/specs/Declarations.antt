@@ -56,7 +56,7 @@ declarations content = filter_map declaration (parts content)
 
 -- Descriptors of `@counter-style`.
 
--- CSS Syntax 3, 5.4.6, and CSS Cascade 5, 6.4: `!important` is for properties; a descriptor with it is none
+-- CSS Syntax 3, 5.4.6, and CSS Cascade 5, 6.3: `!important` is for properties; a descriptor with it is none
 unfoldable pub descriptor_in : List Token → Option Descriptor
 descriptor_in tokens = cut tokens then λ found. if found.2 then None else described found.0 (solid found.1)
 

@@ -1,5 +1,5 @@
 -- How contracts see what the code cuts out of tokens.
-use Rattle.std.specs.Prelude.{◌||◌, ℕ, Bool, List, Option, Some, None}
+use Rattle.std.specs.Prelude.{Bool, List, Option, Some, None}
 use Rattle.std.specs.Borrow.{Bor}
 use Rattle.css_tokens.specs.declared.token.Token.{Token}
 use Rattle.css_tokens.specs.declared.token.TokenKind.{TokenKind}
