@@ -1,12 +1,12 @@
 -- A piece of tokens, cut where no block is open.
-use Rattle.std.proofs.Common.{◌≡◌, ℕ, zero, suc, ◌+◌, ◌-◌, ◌<◌, ◌≤◌, Bool, true, false, eqb, false-eqb, ◌&&◌, cond, List, [], ◌∷◌, ◌++◌, length, take, drop, reverse, Option, Some, None, refl, sym, ap, ◌∙◌, arith}
+use Rattle.std.proofs.Common.{◌≡◌, ℕ, zero, suc, ◌-◌, ◌<◌, ◌≤◌, Bool, true, false, eqb, false-eqb, ◌&&◌, cond, List, [], ◌∷◌, length, drop, reverse, Option, Some, None, refl, sym, ap, ◌∙◌, arith}
 use Rattle.std.proofs.lemmas.Bool.{eqb-true}
-use Rattle.std.proofs.lemmas.List.{take_at, drop_at, length-append, length-reverse}
+use Rattle.std.proofs.lemmas.List.{drop_at, length-append, length-reverse}
 use Rattle.definitions.proofs.Following.{Follows, here, later, Follows-trans, Follows-length, Follows-front, rest_if}
 use Rattle.css_tokens.specs.declared.token.Token.{Token}
 use Rattle.css_tokens.specs.declared.token.TokenKind.{TokenKind}
 use Rattle.css_values.specs.Parts.{is_sign}
-use Rattle.css_reader.specs.Blocks.{closing_bracket, past_value, past_values, past_piece, piece}
+use Rattle.css_reader.specs.Blocks.{closing_bracket, past_value, past_values, past_piece}
 use Rattle.css_reader.specs.Waiting.{opened, waiting_after, is_none_waiting}
 
 -- ---- what is left is an end of the tokens

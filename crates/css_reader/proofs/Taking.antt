@@ -2,10 +2,9 @@
 use Rattle.std.proofs.Common.{◌≡◌, Bool, true, false, cond, ◌||◌, List, [], ◌∷◌, Option, Some, None, refl, drop, ℕ}
 use Rattle.definitions.proofs.Following.{Follows, here, later, left, Follows-trans, follow_if, Leaves, leave_if, TakesOne}
 use Rattle.css_tokens.specs.declared.token.Token.{Token}
-use Rattle.css_tokens.specs.declared.token.TokenKind.{TokenKind}
 use Rattle.css_values.specs.Parts.{is_blank_kind}
 use Rattle.css_reader.specs.Blocks.{past_values, past_piece}
-use Rattle.css_reader.specs.Rules.{Rule, is_semicolon, is_opening, is_closing, is_semicolon_or_opening, block_after, style_rule_at, at_rule_at, at_name, rule_begun, rule_at, is_between_rules, is_between_declarations, part_begun, part_at}
+use Rattle.css_reader.specs.Rules.{is_semicolon, is_opening, is_closing, is_semicolon_or_opening, block_after, style_rule_at, at_rule_at, at_name, rule_begun, rule_at, is_between_rules, is_between_declarations, part_begun, part_at}
 use Rattle.css_reader.proofs.Cutting.{one_follows, piece_follows, piece_takes}
 
 block_follows : (tokens : List Token) → Follows tokens (drop 1 (past_piece is_closing tokens))

@@ -1,4 +1,3 @@
-use Rattle.std.proofs.Common.{◌∙◌}
 use Rattle.definitions.proofs.Following.{takes_shorter}
 use Rattle.css_reader.specs.Declarations.{descriptors}
 use Rattle.css_reader.specs.Rules.{part_at, parts}

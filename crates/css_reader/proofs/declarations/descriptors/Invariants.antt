@@ -1,6 +1,4 @@
 use Rattle.std.proofs.Common.{length}
-use Rattle.css_reader.specs.Declarations.{descriptor_in}
-use Rattle.css_reader.specs.Rules.{part_at}
 use Rattle.css_reader.proofs.Keeping.{Keeps}
 use Rattle.css_reader.proofs.declarations.descriptors.Given as goal
 
