@@ -195,3 +195,6 @@ after_choice_shorter text levels = takes_shorter (after_comma_at (compound_at te
 
 pub after_selector_shorter : (text : List ℕ) → Shortens (after_comma_at (selector_at text))
 after_selector_shorter text = takes_shorter (after_comma_at (selector_at text)) (after_comma_takes (selector_at text) (selector_within text))
+
+pub step_shorter : (text : List ℕ) → Shortens (step_at text)
+step_shorter text = takes_shorter (step_at text) (step_takes text)

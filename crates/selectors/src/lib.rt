@@ -12,7 +12,9 @@
 //!
 //! The layer above knows it by the words `selector_list text tokens`, the selectors of these tokens of the
 //! text or nothing, and `Selectors text tokens selectors`, that they are these (`specs/Selectors.antt`);
-//! and by `specificity selector` and `is_less` (`specs/Specificity.antt`).
+//! and by `specificity selector` and `is_less` (`specs/Specificity.antt`). `AreSelectors text tokens selectors`
+//! (`specs/Grammar.antt`) is the grammar as a relation; [`laws`] says that the two agree, and that tokens have
+//! at most one reading.
 //!
 //! ```text
 //! let text = prepare_text(alloc, ":is(#a, b) > c.d:nth-child(2n + 1)::before")?;
@@ -25,6 +27,7 @@
 mod an_plus_b;
 mod compounds;
 pub mod counting;
+pub mod laws;
 mod parts;
 mod pseudo_classes;
 pub mod selector_list;
