@@ -1,5 +1,10 @@
 pub mod Adding
+pub mod Complete
+pub mod Exact
+pub mod Heads
 pub mod Numbering
 pub mod Shortening
+pub mod Sound
 pub mod Sourcing
 pub mod Stepping
+pub mod Words

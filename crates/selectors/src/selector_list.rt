@@ -1,10 +1,12 @@
 //! Complex selectors and lists of them.
 
-ghost use Rattle.std.specs.Prelude.{◌≡◌, ◌∷◌, [], map, IfOk};
+ghost use Rattle.std.specs.Prelude.{◌≡◌, ◌∷◌, [], List, IfOk, IfSome, IfNone};
+ghost use Rattle.plain_types.specs.declared.selector.Selector.{Selector};
 ghost use Rattle.std.specs.Str.{chars};
 ghost use Rattle.definitions.specs.Reading.{Reads, run_at};
 ghost use Rattle.selectors.specs.Parts.{held_at, spaced_at, after_comma_at, comma_list_at};
-ghost use Rattle.selectors.specs.Selectors.{combinator_of, descendant_at, combinator_at, legacy_pseudo_element, pseudo_element, pseudo_element_at, Step, outer_compound_at, step_at, modern_pseudo_element_at, step_to, sequence, no_compound, and_no_compound, selects, lone_at, complex_end, selector_at, selector_list};
+ghost use Rattle.selectors.specs.Grammar.{AreSelectors};
+ghost use Rattle.selectors.specs.Selectors.{combinator_of, descendant_at, combinator_at, legacy_pseudo_element, pseudo_element, pseudo_element_at, Step, outer_compound_at, step_at, modern_pseudo_element_at, step_to, sequence, no_compound, and_no_compound, with_pseudo, lone_at, complex_end, selector_at, selector_list};
 
 use crate::compounds::compound;
 use crate::parts::{name, past_sign, past_whitespace};
@@ -174,8 +176,8 @@ fn no_compound(alloc: Global) -> Compound
     }
 }
 
-fn selects(sequence: Sequence, pseudo: PseudoElement) -> Selector
-    ensures { result ≡ selects sequence pseudo }
+fn with_pseudo(sequence: Sequence, pseudo: PseudoElement) -> Selector
+    ensures { result ≡ with_pseudo sequence pseudo }
 {
     let Sequence { compounds, joins } = sequence;
     Selector {
@@ -207,20 +209,20 @@ fn complex_end(
     ensures { IfOk result (λ x. complex_end sequence tokens.now ≡ Some (x.0, x.1.now)) }
 {
     if let Some((pseudo, rest)) = pseudo_element(tokens) {
-        return Ok((selects(sequence, pseudo), rest));
+        return Ok((with_pseudo(sequence, pseudo), rest));
     }
     match lone_pseudo_element(tokens) {
         Some((join, pseudo, rest)) => {
             let sequence = and_no_compound(alloc, sequence, join)?;
-            Ok((selects(sequence, pseudo), rest))
+            Ok((with_pseudo(sequence, pseudo), rest))
         }
-        None => Ok((selects(sequence, PseudoElement::Own), tokens)),
+        None => Ok((with_pseudo(sequence, PseudoElement::Own), tokens)),
     }
 }
 
 /// The selector of a pseudo-element alone.
 fn alone(alloc: Global, pseudo: PseudoElement) -> Result<Selector, Memory>
-    ensures { IfOk result (λ r. r ≡ selects (sequence no_compound []) pseudo) }
+    ensures { IfOk result (λ r. r ≡ with_pseudo (sequence no_compound []) pseudo) }
 {
     let mut compounds = List::new(alloc);
     compounds.push(no_compound(alloc))?;
@@ -300,19 +302,10 @@ fn with_others<'a>(
     Ok((selectors, rest))
 }
 
-/// The selectors that these tokens of the text are as a whole (Selectors 4, Grammar), or `None` where they
-/// are no list of selectors. The text is needed for the An+B notation, which is read from the source; a
-/// token that does not lie within it has no source text there.
-///
-/// Time and memory are linear in the tokens and in their source text. It calls itself for `:is()`, `:where()`
-/// and `:not()`, at most [`MOST_NESTED`] deep.
+/// `<selector-list>`
 #[tactic(auto, unfolding(crate::specs::Selectors::selector_list))]
-pub fn read_selectors(
-    alloc: Global,
-    text: &str,
-    tokens: &[Token],
-) -> Result<Option<List<Selector>>, Memory>
-    ensures read { IfOk result (λ r. r ≡ selector_list text.now tokens.now) }
+fn whole_list(alloc: Global, text: &str, tokens: &[Token]) -> Result<Option<List<Selector>>, Memory>
+    ensures { IfOk result (λ r. r ≡ selector_list text.now tokens.now) }
 {
     let Some((first, rest)) = spaced(alloc, text, tokens)? else {
         return Ok(None);
@@ -323,4 +316,25 @@ pub fn read_selectors(
     } else {
         Ok(None)
     }
+}
+
+/// The selectors that these tokens of the text are as a whole (Selectors 4, Grammar), or `None` where they
+/// are no list of selectors. The end of the tokens closes what is open, as CSS Syntax has it. The text is
+/// needed for the An+B notation, which is read from the source; a token that does not lie within the text
+/// has no source there.
+///
+/// Time and memory are linear in the tokens and in their source. It calls itself for `:is()`, `:where()`
+/// and `:not()`, at most [`MOST_NESTED`] deep.
+pub fn read_selectors(
+    alloc: Global,
+    text: &str,
+    tokens: &[Token],
+) -> Result<Option<List<Selector>>, Memory>
+    ensures read { IfOk result (λ r. r ≡ selector_list text.now tokens.now) }
+    // The grammar says so.
+    ensures found { IfOk result (λ r. IfSome r (λ selectors. AreSelectors text.now tokens.now selectors)) }
+    // The grammar has no reading.
+    ensures none { IfOk result (λ r. IfNone r ((selectors : List Selector) → AreSelectors text.now tokens.now selectors → ⊥)) }
+{
+    whole_list(alloc, text, tokens)
 }
