@@ -5,7 +5,7 @@ use Rattle.css_tokens.specs.declared.token.Token.{Token}
 use Rattle.css_tokens.specs.declared.token.TokenKind.{TokenKind}
 use Rattle.css_tokens.specs.declared.token.TokenKind.TheVariants as kind
 use Rattle.css_values.specs.Parts.{is_sign}
-use Rattle.selectors.specs.Simples.{left_bracket, right_bracket}
+use Rattle.selectors.specs.Simples.{left_square_bracket, right_square_bracket}
 
 abbrev pub left_curly_bracket : ℕ
 left_curly_bracket = 123
@@ -18,7 +18,7 @@ abbrev pub closing_bracket : TokenKind → Option ℕ
 closing_bracket (kind.Function name) = Some right_parenthesis
 closing_bracket (kind.Sign c) =
     if c == left_parenthesis then Some right_parenthesis
-    else (if c == left_bracket then Some right_bracket
+    else (if c == left_square_bracket then Some right_square_bracket
     else (if c == left_curly_bracket then Some right_curly_bracket else None))
 closing_bracket _ = None
 
