@@ -1,5 +1,5 @@
 -- A piece of tokens, cut where no block is open.
-use Rattle.std.proofs.Common.{◌≡◌, ℕ, zero, suc, ◌-◌, ◌<◌, ◌≤◌, Bool, true, false, eqb, false-eqb, ◌&&◌, cond, List, [], ◌∷◌, length, drop, reverse, Option, Some, None, refl, sym, ap, ◌∙◌, arith}
+use Rattle.std.proofs.Common.{◌≡◌, ◌↔◌, ℕ, zero, suc, ◌-◌, ◌<◌, ◌≤◌, Bool, true, false, eqb, false-eqb, ◌&&◌, cond, List, [], ◌∷◌, length, drop, reverse, Option, Some, None, refl, sym, ap, ◌∙◌, arith}
 use Rattle.std.proofs.lemmas.Bool.{eqb-true}
 use Rattle.std.proofs.lemmas.List.{drop_at, length-append, length-reverse}
 use Rattle.definitions.proofs.Following.{Follows, here, later, Follows-trans, Follows-length, Follows-front, rest_if}
@@ -7,6 +7,7 @@ use Rattle.css_tokens.specs.declared.token.Token.{Token}
 use Rattle.css_tokens.specs.declared.token.TokenKind.{TokenKind}
 use Rattle.css_values.specs.Parts.{is_sign}
 use Rattle.css_reader.specs.Blocks.{closing_bracket, past_value, past_values, past_piece}
+use Rattle.css_reader.specs.Grammar.{IsPast, nothing, ended, token, block}
 use Rattle.css_reader.specs.Waiting.{opened, waiting_after, is_none_waiting}
 
 -- ---- what is left is an end of the tokens
@@ -35,15 +36,7 @@ pub piece_takes : (ends : TokenKind → Bool) (first : Token) (rest : List Token
 unfolding past_values
 piece_takes ends first rest goes_on = rw goes_on (Follows-trans (value_follows (past_values (length rest)) (values_follow (length rest)) (closing_bracket first.kind) rest) (values_follow (length rest) ends _))
 
--- ---- the same as a relation, without a number of turns
-
--- what is left after the component values at the front
-pub data IsPast : (TokenKind → Bool) → List Token → List Token → Type 0 where
-  nothing : {ends : TokenKind → Bool} → IsPast ends [] []
-  ended : {ends : TokenKind → Bool} (first : Token) (rest : List Token) → ends first.kind ≡ true → IsPast ends (first ∷ rest) (first ∷ rest)
-  token : {ends : TokenKind → Bool} (first : Token) {tokens rest : List Token} → ends first.kind ≡ false → closing_bracket first.kind ≡ None → IsPast ends tokens rest → IsPast ends (first ∷ tokens) rest
-  block : {ends : TokenKind → Bool} (first : Token) (bracket : ℕ) {tokens : List Token} (closing : List Token) {rest : List Token} → ends first.kind ≡ false → closing_bracket first.kind ≡ Some bracket
-      → IsPast (is_sign bracket) tokens closing → IsPast ends (drop 1 closing) rest → IsPast ends (first ∷ tokens) rest
+-- ---- the grammar and the function
 
 past_follows : {ends : TokenKind → Bool} {tokens rest : List Token} → IsPast ends tokens rest → Follows tokens rest
 past_follows nothing = here
@@ -64,6 +57,29 @@ past_values_is (block first bracket closing e s p q) (suc most) le =
     let inner = past_values_is p most (omega arith) in
     let shorter = Follows-length (Follows-trans (past_follows p) (one_follows closing)) in
     rw (e, s, inner) (past_values_is q most (omega (arith, shorter)))
+
+module _ (most : ℕ) (smaller : (ends : TokenKind → Bool) (tokens : List Token) → length tokens ≤ most → IsPast ends tokens (past_values most ends tokens)) where
+  first_value : (ends : TokenKind → Bool) (first : Token) (rest : List Token) → length rest ≤ most → ends first.kind ≡ false → (bracket : Option ℕ) → closing_bracket first.kind ≡ bracket
+      → IsPast ends (first ∷ rest) (past_values most ends (past_value (past_values most) bracket rest))
+  first_value ends first rest le e None is = token first e is (smaller ends rest le)
+  first_value ends first rest le e (Some bracket) is =
+      let shorter = Follows-length (value_follows (past_values most) (values_follow most) (Some bracket) rest) in
+      block first bracket (past_values most (is_sign bracket) rest) e is (smaller (is_sign bracket) rest le) (smaller ends (drop 1 (past_values most (is_sign bracket) rest)) (omega (arith, shorter)))
+
+  here_or_later : (ends : TokenKind → Bool) (first : Token) (rest : List Token) → length rest ≤ most → (ends_here : Bool) → ends first.kind ≡ ends_here
+      → IsPast ends (first ∷ rest) (cond ends_here (first ∷ rest) (past_values most ends (past_value (past_values most) (closing_bracket first.kind) rest)))
+  here_or_later ends first rest le true e = ended first rest e
+  here_or_later ends first rest le false e = first_value ends first rest le e (closing_bracket first.kind) refl
+
+values_are_past : (most : ℕ) (ends : TokenKind → Bool) (tokens : List Token) → length tokens ≤ most → IsPast ends tokens (past_values most ends tokens)
+unfolding past_values
+values_are_past zero ends [] le = nothing
+values_are_past zero ends (first ∷ rest) le = absurd (omega arith)
+values_are_past (suc most) ends [] le = nothing
+values_are_past (suc most) ends (first ∷ rest) le = here_or_later most (values_are_past most) ends first rest (omega arith) (ends first.kind) refl
+
+pub past_piece_is : (ends : TokenKind → Bool) (tokens rest : List Token) → IsPast ends tokens rest ↔ (rest ≡ past_piece ends tokens)
+past_piece_is ends tokens rest = (λ p. sym (past_values_is p (length tokens) (omega arith)), λ e. rw e (values_are_past (length tokens) ends tokens (omega arith)))
 
 -- ---- the loop
 

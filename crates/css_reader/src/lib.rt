@@ -12,7 +12,7 @@
 //! The layers above know this crate by the words `sheet` (`specs/Sheets.antt`) and `features`
 //! (`specs/Features.antt`). A sheet is told from its text in four steps, a file of `specs/` each: `Blocks` (what
 //! stands in a block, and what outside of it), `Rules`, `Declarations`, `Sheets`. Each is a function, so a text
-//! has exactly one sheet.
+//! has exactly one sheet. `laws` says that the first is what the grammar of component values says.
 //!
 //! ```text
 //! let sheet = read_sheet(alloc, "p { content: none; color: red } @media print { p {} }")?;
@@ -22,6 +22,7 @@
 
 mod declarations;
 pub mod features;
+pub mod laws;
 mod pieces;
 mod rules;
 pub mod sheet;
