@@ -14,7 +14,8 @@ use Rattle.selectors.specs.Selectors.{selector_list}
 use Rattle.css_reader.specs.Declarations.{declarations, descriptors}
 use Rattle.css_reader.specs.Rules.{Rule, style_rule, at_rule, rules}
 
--- Selectors 4, 4.1, and CSS Syntax 3, 9.1: a rule whose prelude is no list of selectors is none
+-- Selectors 4, 4.1, and CSS Syntax 3, 9.1: a rule whose prelude is no list of selectors is none. The text is
+-- taken as its bytes, among which tokens have their places.
 abbrev pub style_rule_of : List ℕ → Rule → Option StyleRule
 style_rule_of text (style_rule prelude block) = selector_list text prelude then λ selectors. Some (record { selectors = selectors; declared = declarations block })
 style_rule_of text (at_rule name prelude block) = None
