@@ -1,6 +1,6 @@
 -- What a loop over pieces keeps that appends them to a list.
-use Rattle.std.proofs.Common.{◌≡◌, List, [], ◌∷◌, ◌++◌, map, Option, Some, None, refl, sym, ap, ◌∙◌, append_assoc}
-use Rattle.std.proofs.lemmas.List.{append-nil, map-append}
+use Rattle.std.proofs.Common.{◌≡◌, List, [], ◌∷◌, ◌++◌, Option, Some, None, refl, sym, ap, ◌∙◌, append_assoc}
+use Rattle.std.proofs.lemmas.List.{append-nil}
 use Rattle.definitions.specs.Reading.{run_at}
 use Rattle.definitions.proofs.Runs.{Goes, Goes-start, Goes-more, Goes-read, Shortens}
 

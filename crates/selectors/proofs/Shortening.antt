@@ -2,18 +2,18 @@
 use Rattle.std.proofs.Common.{ℕ, zero, suc, Bool, true, false, cond, List, [], ◌∷◌, Option, Some, None, refl}
 use Rattle.plain_types.specs.declared.selector.Compound.{Compound}
 use Rattle.plain_types.specs.declared.selector.Simple.{Simple}
-use Rattle.definitions.specs.Reading.{◌then◌, ◌otherwise◌, run_at}
-use Rattle.definitions.proofs.Following.{Follows, here, later, left, nothing, ended, none_ends, Follows-trans, Leaves, Ends, follow_if, rest_if, leave_if, end_if, leave_otherwise, leave_then, end_then, leave_more, end_more, leave_within, TakesOne, takes_leaves, takes_shorter, run_follows}
+use Rattle.definitions.specs.Reading.{◌then◌, run_at}
+use Rattle.definitions.proofs.Following.{Follows, here, later, left, nothing, ended, none_ends, Follows-trans, Leaves, Ends, rest_if, leave_if, end_if, leave_otherwise, leave_then, end_then, leave_more, end_more, leave_within, TakesOne, takes_leaves, takes_shorter, run_follows}
 use Rattle.definitions.proofs.Runs.{Shortens}
 use Rattle.css_tokens.specs.declared.token.Token.{Token}
 use Rattle.css_tokens.specs.declared.token.TokenKind.{TokenKind}
 use Rattle.css_values.specs.Parts.{is_sign, is_blank_kind, word_of}
 use Rattle.selectors.specs.Parts.{held_at, name_at, function_of, function_at, past_sign, past_close, past_whitespace, optional, spaced_at, after_comma_at, comma_list_at}
-use Rattle.selectors.specs.AnPlusB.{an_plus_b_value, source, argument_token_at, argument_of, an_plus_b_at}
-use Rattle.selectors.specs.Simples.{type_of, type_at, id_of, id_at, class_at, test_of, test_at, value_of, flag_of, flag_at, bracket_end, present, after_value, tested_at, attribute_at, plain_class, nth_class}
+use Rattle.selectors.specs.AnPlusB.{an_plus_b_value, source, argument_token_at, an_plus_b_at}
+use Rattle.selectors.specs.Simples.{type_of, type_at, id_of, id_at, class_at, test_of, test_at, value_of, flag_of, flag_at, bracket_end, present, tested_at, attribute_at, plain_class, nth_class}
 use Rattle.selectors.specs.Compounds.{plain_class_at, nesting_class, type_part, some_compound, with_subclasses, class_function_at, pseudo_class_at, subclass_at, compound_at, choices_at}
 use Rattle.selectors.specs.declared.selector_list.Sequence.{Sequence}
-use Rattle.selectors.specs.Selectors.{combinator_of, descendant_at, combinator_at, pseudo_element, legacy_pseudo_element, modern_pseudo_element_at, legacy_pseudo_element_at, pseudo_element_at, lone_at, complex_end, sequence_end, outer_compound_at, step_at, selector_at}
+use Rattle.selectors.specs.Selectors.{combinator_of, combinator_at, pseudo_element, legacy_pseudo_element, modern_pseudo_element_at, pseudo_element_at, lone_at, complex_end, outer_compound_at, step_at, selector_at}
 
 -- ---- single tokens
 

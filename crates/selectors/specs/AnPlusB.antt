@@ -1,12 +1,13 @@
 -- The An+B notation: CSS Syntax 3, 6. Our own: it is read from the source text of the argument, in which
--- comments count for nothing, and not from its tokens; and its numbers stop at the least and the greatest.
+-- comments count for nothing, and not from its tokens; and its numbers stop at those of 32 bits.
 -- All of it is ASCII, so the text is read by bytes.
-use Rattle.std.specs.Prelude.{ℕ, Bool, true, false, ◌-◌, ◌^◌, min, ◌==◌, if◌then◌else◌, List, [], ◌∷◌, take, drop, flat_map, Option, Some, None, codes, ℤ, pos}
+use Rattle.std.specs.Prelude.{ℕ, Bool, true, false, ◌-◌, ◌^◌, min, ◌==◌, if◌then◌else◌, List, [], ◌∷◌, take, drop, flat_map, Option, Some, None, codes, ℤ, pos, neg_ℤ}
+use Rattle.std.specs.Int.{int_max, int_min}
 use Rattle.std.specs.Str.Parse.{digits_value}
 use Rattle.plain_types.specs.StyleNames.{lower_case}
 use Rattle.definitions.specs.Punctuation.{plus_sign, hyphen_minus, right_parenthesis}
 use Rattle.definitions.specs.Reading.{◌then◌, ◌otherwise◌, past_character, past_text, run_at}
-use Rattle.css_tokens.specs.Numbers.{sign_at, digits_at, saturated}
+use Rattle.css_tokens.specs.Numbers.{sign_at, digits_at, signed}
 use Rattle.css_tokens.specs.Urls.{past_blanks}
 use Rattle.css_tokens.specs.declared.token.Token.{Token}
 use Rattle.css_values.specs.Parts.{is_sign}
@@ -25,9 +26,13 @@ abbrev pub written_sign_at : List ℕ → Option (Bool × List ℕ)
 written_sign_at [] = None
 written_sign_at (first ∷ rest) = if first == hyphen_minus then Some (true, rest) else (if first == plus_sign then Some (false, rest) else None)
 
+-- the nearest number of 32 bits with a sign
+abbrev pub nearest_i32 : Bool → ℕ → ℤ
+nearest_i32 negative number = int_max (neg_ℤ (pos (2 ^ 31))) (int_min (signed negative number) (pos (2 ^ 31 - 1)))
+
 -- digits after a sign
 abbrev pub signed_at : Bool × List ℕ → Option (ℤ × List ℕ)
-signed_at sign = digits_at sign.1 then λ digits. Some (saturated sign.0 (digits_value 10 digits.0), digits.1)
+signed_at sign = digits_at sign.1 then λ digits. Some (nearest_i32 sign.0 (digits_value 10 digits.0), digits.1)
 
 -- the digits before `n`, or 1 where there are none
 abbrev pub digits_or_one : Option (List ℕ × List ℕ) → List ℕ → ℕ × List ℕ
@@ -40,7 +45,7 @@ counted_or_one count = (min count.0 (2 ^ 64 - 1), count.1)
 
 -- `n` after a sign and these digits
 abbrev pub n_of : Bool → ℕ × List ℕ → Option (ℤ × List ℕ)
-n_of negative count = past_character 110 count.1 then λ rest. Some (saturated negative count.0, rest)
+n_of negative count = past_character 110 count.1 then λ rest. Some (nearest_i32 negative count.0, rest)
 
 -- after a sign: digits, or 1 where there are none, and `n`
 abbrev pub n_at : Bool × List ℕ → Option (ℤ × List ℕ)

@@ -1,6 +1,6 @@
 -- The parts of selectors, read from the front of tokens. Between the parts of a selector whitespace means
 -- something, so unlike values they are read from all tokens.
-use Rattle.std.specs.Prelude.{ℕ, Bool, true, false, if◌then◌else◌, List, [], ◌∷◌, Option, Some, None}
+use Rattle.std.specs.Prelude.{ℕ, if◌then◌else◌, List, [], ◌∷◌, Option, Some, None}
 use Rattle.definitions.specs.Punctuation.{comma}
 use Rattle.definitions.specs.Reading.{◌then◌, run_at}
 use Rattle.css_tokens.specs.declared.token.Token.{Token}

@@ -82,8 +82,8 @@ no_compound = compound []
 abbrev pub and_no_compound : Sequence → Join → Sequence
 and_no_compound sequence join = record { compounds = sequence.compounds ++ no_compound ∷ []; joins = sequence.joins ++ join ∷ [] }
 
-abbrev pub selects : Sequence → PseudoElement → Selector
-selects sequence pseudo = record { compounds = sequence.compounds; joins = sequence.joins; pseudo = pseudo }
+abbrev pub with_pseudo : Sequence → PseudoElement → Selector
+with_pseudo sequence pseudo = record { compounds = sequence.compounds; joins = sequence.joins; pseudo = pseudo }
 
 -- a combinator, and a pseudo-element that stands alone after it
 abbrev pub lone_at : List Token → Option ((Join × PseudoElement) × List Token)
@@ -92,9 +92,9 @@ lone_at tokens = combinator_at tokens then λ join. pseudo_element_at join.1 the
 -- after the last compound selector: its pseudo-element, or one that stands alone, or none
 unfoldable pub complex_end : Sequence → List Token → Option (Selector × List Token)
 complex_end sequence tokens =
-    (pseudo_element_at tokens then λ pseudo. Some (selects sequence pseudo.0, pseudo.1))
-    otherwise (lone_at tokens then λ lone. Some (selects (and_no_compound sequence lone.0.0) lone.0.1, lone.1))
-    otherwise Some (selects sequence pseudo.Own, tokens)
+    (pseudo_element_at tokens then λ pseudo. Some (with_pseudo sequence pseudo.0, pseudo.1))
+    otherwise (lone_at tokens then λ lone. Some (with_pseudo (and_no_compound sequence lone.0.0) lone.0.1, lone.1))
+    otherwise Some (with_pseudo sequence pseudo.Own, tokens)
 
 -- how deep `:is()`, `:where()` and `:not()` may be nested
 abbrev pub most_nested : ℕ
@@ -116,7 +116,7 @@ module _ (text : List ℕ) where
   -- pseudo-element; or a pseudo-element alone
   unfoldable pub selector_at : List Token → Option (Selector × List Token)
   selector_at tokens =
-      (pseudo_element_at tokens then λ pseudo. Some (selects (sequence no_compound []) pseudo.0, pseudo.1))
+      (pseudo_element_at tokens then λ pseudo. Some (with_pseudo (sequence no_compound []) pseudo.0, pseudo.1))
       otherwise (outer_compound_at tokens then λ first. sequence_end first.0 (run_at step_at first.1))
 
   -- `<selector-list>`: what these tokens of the text are as a whole. One that is bad makes the list bad.

@@ -1,7 +1,6 @@
 -- Simple selectors: Selectors 4, Grammar. Names of pseudo-classes count in any ASCII case, those of types,
 -- ids, classes and attributes as they are written (our own: without namespaces).
 use Rattle.std.specs.Prelude.{ℕ, Bool, true, false, ◌==◌, if◌then◌else◌, List, [], ◌∷◌, Option, Some, None, codes, pos}
-use Rattle.plain_types.specs.declared.selector.Compound.{Compound}
 use Rattle.plain_types.specs.declared.selector.Simple.{Simple}
 use Rattle.plain_types.specs.declared.selector.Simple.TheVariants as simple
 use Rattle.plain_types.specs.declared.selector_parts.AttrTest.{AttrTest}
@@ -79,15 +78,15 @@ abbrev pub or_sensitive : Option Bool → Bool
 or_sensitive (Some fold) = fold
 or_sensitive None = false
 
-abbrev pub left_bracket : ℕ
-left_bracket = 91
+abbrev pub left_square_bracket : ℕ
+left_square_bracket = 91
 
-abbrev pub right_bracket : ℕ
-right_bracket = 93
+abbrev pub right_square_bracket : ℕ
+right_square_bracket = 93
 
 -- whitespace and the bracket
 abbrev pub bracket_end : Simple → List Token → Option (Simple × List Token)
-bracket_end attribute tokens = past_close right_bracket (past_whitespace tokens) then λ rest. Some (attribute, rest)
+bracket_end attribute tokens = past_close right_square_bracket (past_whitespace tokens) then λ rest. Some (attribute, rest)
 
 abbrev pub present : List ℕ → Simple
 present name = simple.Attr name test.Present [] false
@@ -106,11 +105,11 @@ tested_at name tokens = test_at (past_whitespace tokens) then λ test. held_at v
 -- `<attribute-selector>`
 unfoldable pub attribute_at : List Token → Option (Simple × List Token)
 attribute_at tokens =
-    past_sign left_bracket tokens then λ inside. name_at (past_whitespace inside) then λ name. bracket_end (present name.0) name.1 otherwise tested_at name.0 name.1
+    past_sign left_square_bracket tokens then λ inside. name_at (past_whitespace inside) then λ name. bracket_end (present name.0) name.1 otherwise tested_at name.0 name.1
 
--- Pseudo-classes: Selectors 4, 4, 8, 9 and those of the tree's structure.
+-- Pseudo-classes: Selectors 4, 8, 9 and those of the tree's structure.
 
--- those in which no element is ever (our own: nothing is hovered, visited or a target)
+-- those in which no element is ever (our own: nobody points at an element, has it in focus or follows links)
 abbrev pub never_classes : List (List ℕ)
 never_classes =
     codes "hover" ∷ codes "active" ∷ codes "focus" ∷ codes "focus-visible" ∷ codes "focus-within" ∷ codes "link" ∷ codes "visited" ∷ codes "any-link" ∷ codes "target"

@@ -1,5 +1,5 @@
 -- Selectors 4, Calculating a selector's specificity.
-use Rattle.std.specs.Prelude.{ℕ, Bool, true, false, ◌&&◌, ◌||◌, ◌==◌, ◌+◌, ◌-◌, ◌^◌, min, nat_lt, if◌then◌else◌, List, [], ◌∷◌, map}
+use Rattle.std.specs.Prelude.{ℕ, Bool, ◌&&◌, ◌||◌, ◌==◌, ◌+◌, ◌-◌, ◌^◌, min, nat_lt, if◌then◌else◌, List, [], ◌∷◌, map}
 use Rattle.plain_types.specs.declared.selector.Compound.{Compound}
 use Rattle.plain_types.specs.declared.selector.Selector.{Selector}
 use Rattle.plain_types.specs.declared.selector.Simple.{Simple}
@@ -16,11 +16,11 @@ abbrev pub nothing : Specificity
 nothing = counts 0 0 0
 
 -- a sum of counts, which stops at the greatest number of 32 bits (the standard leaves the limit open)
-abbrev pub count_sum : ℕ → ℕ → ℕ
-count_sum a b = min (a + b) (2 ^ 32 - 1)
+abbrev pub tally_sum : ℕ → ℕ → ℕ
+tally_sum a b = min (a + b) (2 ^ 32 - 1)
 
 abbrev pub plus : Specificity → Specificity → Specificity
-plus a b = counts (count_sum a.ids b.ids) (count_sum a.classes b.classes) (count_sum a.types b.types)
+plus a b = counts (tally_sum a.ids b.ids) (tally_sum a.classes b.classes) (tally_sum a.types b.types)
 
 -- the counts are compared in order: ids, then classes, then types
 abbrev pub is_less : Specificity → Specificity → Bool

@@ -6,13 +6,12 @@ ghost use Rattle.std.specs.Str.Parse.{digits_value};
 ghost use Rattle.definitions.specs.Characters.{is_blank, is_digit};
 ghost use Rattle.definitions.specs.Reading.{Reads, past_character, past_text, span, run_at};
 ghost use Rattle.css_tokens.specs.Counting.{counted};
-ghost use Rattle.css_tokens.specs.Numbers.{sign_at, digits_at, saturated};
+ghost use Rattle.css_tokens.specs.Numbers.{sign_at, digits_at};
 ghost use Rattle.css_tokens.specs.Urls.{past_blanks};
-ghost use Rattle.selectors.specs.AnPlusB.{ended, written_sign_at, signed_at, digits_or_one, counted_or_one, n_at, offset_at, odd_or_even, b_alone, a_and_b, an_plus_b_of, an_plus_b_value, slice, source, argument_token_at, an_plus_b_at};
+ghost use Rattle.selectors.specs.AnPlusB.{ended, written_sign_at, nearest_i32, signed_at, digits_or_one, counted_or_one, n_at, offset_at, odd_or_even, b_alone, a_and_b, an_plus_b_of, an_plus_b_value, slice, source, argument_token_at, an_plus_b_at};
 
 use crate::parts::past_close;
 use css_tokens::token::{Token, TokenKind};
-use plain_types::count::{COUNT_HIGH, COUNT_LOW};
 use plain_types::memory::Memory;
 use std::alloc::Global;
 
@@ -138,13 +137,13 @@ fn digits(text: &[u8]) -> Option<(u64, &[u8])>
     }
 }
 
-/// The nearest number of 32 bits.
-fn saturated(negative: bool, number: u64) -> i32
-    ensures { result ≡ saturated negative number }
+/// The nearest number of 32 bits with a sign.
+fn nearest_i32(negative: bool, number: u64) -> i32
+    ensures { result ≡ nearest_i32 negative number }
 {
     let magnitude = i128::from(number);
     let value = if negative { -magnitude } else { magnitude };
-    value.clamp(i128::from(COUNT_LOW), i128::from(COUNT_HIGH)) as i32
+    value.clamp(i128::from(i32::MIN), i128::from(i32::MAX)) as i32
 }
 
 /// The number of digits after a sign.
@@ -153,7 +152,7 @@ fn signed(negative: bool, text: &[u8]) -> Option<(i32, &[u8])>
     ensures { Reads (λ x. (x.0, x.1.now)) result (signed_at (negative, text.now)) }
 {
     let (number, rest) = digits(text)?;
-    Some((saturated(negative, number), rest))
+    Some((nearest_i32(negative, number), rest))
 }
 
 /// The number of the digits at the front, or 1 where there are none, and the text after them.
@@ -174,7 +173,7 @@ fn n(negative: bool, text: &[u8]) -> Option<(i32, &[u8])>
 {
     let (count, rest) = digits_or_one(text);
     let rest = past_byte(b'n', rest)?;
-    Some((saturated(negative, count), rest))
+    Some((nearest_i32(negative, count), rest))
 }
 
 /// Blanks, a sign, blanks and digits.

@@ -4,7 +4,7 @@ ghost use Rattle.std.specs.Prelude.{◌≡◌, ◌∷◌, [], map, IfOk};
 ghost use Rattle.std.specs.Str.{chars};
 ghost use Rattle.definitions.specs.Reading.{Reads, run_at};
 ghost use Rattle.selectors.specs.Parts.{held_at, spaced_at, after_comma_at, comma_list_at};
-ghost use Rattle.selectors.specs.Selectors.{combinator_of, descendant_at, combinator_at, legacy_pseudo_element, pseudo_element, pseudo_element_at, Step, outer_compound_at, step_at, modern_pseudo_element_at, step_to, sequence, no_compound, and_no_compound, selects, lone_at, complex_end, selector_at, selector_list};
+ghost use Rattle.selectors.specs.Selectors.{combinator_of, descendant_at, combinator_at, legacy_pseudo_element, pseudo_element, pseudo_element_at, Step, outer_compound_at, step_at, modern_pseudo_element_at, step_to, sequence, no_compound, and_no_compound, with_pseudo, lone_at, complex_end, selector_at, selector_list};
 
 use crate::compounds::compound;
 use crate::parts::{name, past_sign, past_whitespace};
@@ -174,8 +174,8 @@ fn no_compound(alloc: Global) -> Compound
     }
 }
 
-fn selects(sequence: Sequence, pseudo: PseudoElement) -> Selector
-    ensures { result ≡ selects sequence pseudo }
+fn with_pseudo(sequence: Sequence, pseudo: PseudoElement) -> Selector
+    ensures { result ≡ with_pseudo sequence pseudo }
 {
     let Sequence { compounds, joins } = sequence;
     Selector {
@@ -207,20 +207,20 @@ fn complex_end(
     ensures { IfOk result (λ x. complex_end sequence tokens.now ≡ Some (x.0, x.1.now)) }
 {
     if let Some((pseudo, rest)) = pseudo_element(tokens) {
-        return Ok((selects(sequence, pseudo), rest));
+        return Ok((with_pseudo(sequence, pseudo), rest));
     }
     match lone_pseudo_element(tokens) {
         Some((join, pseudo, rest)) => {
             let sequence = and_no_compound(alloc, sequence, join)?;
-            Ok((selects(sequence, pseudo), rest))
+            Ok((with_pseudo(sequence, pseudo), rest))
         }
-        None => Ok((selects(sequence, PseudoElement::Own), tokens)),
+        None => Ok((with_pseudo(sequence, PseudoElement::Own), tokens)),
     }
 }
 
 /// The selector of a pseudo-element alone.
 fn alone(alloc: Global, pseudo: PseudoElement) -> Result<Selector, Memory>
-    ensures { IfOk result (λ r. r ≡ selects (sequence no_compound []) pseudo) }
+    ensures { IfOk result (λ r. r ≡ with_pseudo (sequence no_compound []) pseudo) }
 {
     let mut compounds = List::new(alloc);
     compounds.push(no_compound(alloc))?;

@@ -493,7 +493,9 @@ fn pseudo_classes_are_nested_sixteen_deep(rt: HostRuntime) -> Result<(), Fail> {
     let alloc = rt.alloc();
     let deepest = nested(alloc, 16)?;
     assert!(rt; read(alloc, deepest.as_str())?.is_some());
-    let wide = format!(in alloc; "{0}{0}:is({0}) {0},b", nested(alloc, 15)?.as_str())?;
+    let deep = nested(alloc, 15)?;
+    let deep = deep.as_str();
+    let wide = format!(in alloc; "{deep} :is({deep}) {deep},b")?;
     assert!(rt; read(alloc, wide.as_str())?.is_some());
     let too_deep = nested(alloc, 17)?;
     assert!(rt; read(alloc, too_deep.as_str())?.is_none());

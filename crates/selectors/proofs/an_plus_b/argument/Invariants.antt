@@ -1,5 +1,4 @@
 use Rattle.std.proofs.Common.{length}
-use Rattle.selectors.specs.AnPlusB.{argument_token_at}
 use Rattle.selectors.proofs.Sourcing.{Sources}
 use Rattle.selectors.proofs.an_plus_b.argument.Given as goal
 

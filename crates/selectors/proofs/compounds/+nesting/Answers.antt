@@ -1,10 +1,4 @@
-use Rattle.std.proofs.Common.{◌≡◌, List, ◌∷◌, Option, Some, refl, ◌∙◌, ◌<◌, length}
-use Rattle.plain_types.specs.declared.selector.Compound.{Compound}
-use Rattle.plain_types.specs.declared.selector.Simple.{Simple}
-use Rattle.definitions.proofs.Following.{takes_shorter}
-use Rattle.definitions.proofs.Runs.{Shortens}
-use Rattle.selectors.specs.Parts.{after_comma_at}
-use Rattle.selectors.specs.Compounds.{subclass_at, compound_at, choices_at}
+use Rattle.std.proofs.Common.{refl, ◌∙◌}
 use Rattle.selectors.proofs.Adding.{Adds-start, Adds-more, Adds-read}
 use Rattle.selectors.proofs.Shortening.{subclass_shorter, after_choice_shorter}
 use Rattle.selectors.proofs.compounds.+nesting.Goals as goal
