@@ -1,0 +1,2 @@
+//! Sets of counters.
+#![tactic(auto)]
