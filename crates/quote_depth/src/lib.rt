@@ -1,0 +1,2 @@
+//! Quotation marks by depth.
+#![tactic(auto)]
