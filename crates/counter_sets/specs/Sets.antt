@@ -1,6 +1,6 @@
 -- Sets of counters, and what properties and functions do to them: CSS Lists 3, 4. The set of a box lists the
--- counters in whose scope it is, the innermost of a name last. No two have the same name and creator.
-use Rattle.std.specs.Prelude.{ℕ, zero, suc, Bool, true, false, ◌&&◌, ◌==◌, not, ℤ, pos, List, [], ◌∷◌, ◌++◌, Option, Some, None, cond, filter, find, is_some, map, remove, slice_get, unwrap_or}
+-- counters in whose scope it is, the innermost of a name last. They are distinct.
+use Rattle.std.specs.Prelude.{◌≡◌, ℕ, zero, suc, Bool, true, false, ◌&&◌, ◌==◌, not, ℤ, pos, List, [], ◌∷◌, ◌++◌, Option, Some, None, cond, filter, find, is_some, map, remove, slice_get, unwrap_or}
 use Rattle.std.specs.List.{list_any}
 use Rattle.std.specs.Option.{option_and_then, option_map_or}
 use Rattle.std.specs.Str.{bytes_eq}
@@ -32,15 +32,20 @@ is_same first second = is_named first.name second && is_same_box first.creator s
 abbrev pub is_missing_in : List Counter → Counter → Bool
 is_missing_in set counter = not (list_any (is_same counter) set)
 
+-- no two of the counters are the same
+abbrev pub AreDistinct : List Counter → Type 0
+AreDistinct [] = Unit {0}
+AreDistinct (counter ∷ set) = (is_missing_in set counter ≡ true) × AreDistinct set
+
 -- 4.4, inheriting counters. The rule is our own after the standard's.
 
 -- the counter with the value that it has in a set, where it is there
 abbrev pub valued_in : List Counter → Counter → Counter
 valued_in set counter = option_map_or (λ (same : Counter). record counter { value = same.value }) (find (is_same counter) set) counter
 
--- the counters of the parent's set, and after them those of the set of the sibling before that the parent
--- lacks; each takes its value from the set of the box just before in tree order. Where there is no such
--- box, there is no set.
+-- the parent's counters, and after them, in their order, those of the preceding sibling's set that are not
+-- among these; each takes its value from the set of the box just before in tree order, where that has it. A
+-- set is missing where there is no such box.
 abbrev pub inherited : List Counter → Option (List Counter) → Option (List Counter) → List Counter
 inherited parent sibling preceding =
     map (valued_in (unwrap_or preceding [])) (parent ++ filter (is_missing_in parent) (unwrap_or sibling []))
@@ -88,6 +93,7 @@ module _ (is_replaced : Counter → Bool) where
   abbrev pub instantiated : List Counter → Counter → List Counter
   instantiated set counter = option_map_or (remove set) (replaced_place set counter.name) set ++ counter ∷ []
 
+  -- Only where a name has no counter is one instantiated here, so that none is replaced.
   module _ (creator : BoxId) where
     -- 4.2 and 4.7: the set with a counter of this name. Where there is none, the box instantiates one with 0,
     -- which is not reversed.
@@ -95,10 +101,11 @@ module _ (is_replaced : Counter → Bool) where
     with_counter set name =
         cond (is_some (innermost set name)) set (instantiated set (record { name = name; creator = creator; reversed = false; value = pos 0 }))
 
-    -- 4.2, `counter-increment`: the value of the innermost counter of the name is raised
+    -- 4.2, `counter-increment`: the increment is added to the innermost counter of the name. The sum stops at
+    -- the ends of counts (our own).
     abbrev pub incremented : List Counter → List ℕ → ℤ → List Counter
     incremented set name by = with_innermost (λ value. count_sum value by) (with_counter set name) name
 
-    -- 4.2, `counter-set`: the value of the innermost counter of the name is replaced
+    -- 4.2, `counter-set`: the innermost counter of the name takes this value
     abbrev pub assigned : List Counter → List ℕ → ℤ → List Counter
     assigned set name value = with_innermost (λ _. value) (with_counter set name) name

@@ -1,8 +1,8 @@
 //! Sets that share their lists.
 
-ghost use Rattle.std.specs.Prelude.{◌≡◌, ◌++◌, ◌∷◌, [], ◌<◌, IfOk, IfSome, length, option_copied, false, unwrap_or};
+ghost use Rattle.std.specs.Prelude.{◌≡◌, None, ◌++◌, ◌∷◌, [], ◌<◌, IfOk, IfSome, length, option_copied, false, unwrap_or};
 ghost use Rattle.std.specs.Str.{chars};
-ghost use Rattle.counter_sets.specs.Sets.{assigned, incremented, inherited, innermost, innermost_place, instantiated, is_missing_in, replaced_place, change_at, with_value};
+ghost use Rattle.counter_sets.specs.Sets.{AreDistinct, assigned, incremented, inherited, innermost, innermost_place, instantiated, is_missing_in, replaced_place, change_at, with_value};
 
 use crate::counters::{copy_valued_in, copy_with_value, copy_without, is_missing_in, last_place};
 use plain_types::box_id::BoxId;
@@ -28,7 +28,11 @@ impl Model for CounterSet {
 
     ghost Value = { List Counter };
 
+    ghost use Rattle.counter_sets.specs.Sets.{AreDistinct};
+
     ghost view = { λ set. set.counters.value };
+
+    ghost invariant = { λ set. AreDistinct set.counters.value };
 }
 
 impl CounterSet {
@@ -65,13 +69,14 @@ impl CounterSet {
 
     /// The set with a new counter at its end (CSS Lists 3, 4.4). The innermost counter of its name goes where
     /// the parent's set lacks it: the box itself or an earlier sibling created it. It takes time linear in
-    /// the sets' lengths.
+    /// the sets' lengths. The caller sees to it that no other counter of the set is the same as the new one.
     pub fn instantiate(
         &self,
         alloc: Global,
         parent: &CounterSet,
         counter: Counter,
     ) -> Result<CounterSet, Memory>
+        requires distinct { AreDistinct (instantiated (is_missing_in parent.now) self.now counter) }
         ensures set { IfOk result (λ set. set ≡ instantiated (is_missing_in parent.now) self.now counter) }
     {
         let mut counters = match self.replaced_place(parent, counter.name.as_str()) {
@@ -143,12 +148,14 @@ impl CounterSet {
     /// The counters, the innermost of a name last. It takes no memory.
     pub fn as_slice(&self) -> &[Counter]
         ensures counters { result.now ≡ self.now }
+        ensures distinct { AreDistinct self.now }
     {
         self.counters.as_slice()
     }
 
     /// The set of these counters.
     fn of(alloc: Global, counters: List<Counter>) -> Result<CounterSet, Memory>
+        requires distinct { AreDistinct counters }
         ensures counters { IfOk result (λ set. set ≡ counters) }
     {
         Ok(CounterSet {
@@ -187,7 +194,7 @@ impl CounterSet {
         )
     }
 
-    /// The set with a new counter that is not reversed.
+    /// The set with a new counter that is not reversed, of a name that has none.
     fn with_new(
         &self,
         alloc: Global,
@@ -195,6 +202,7 @@ impl CounterSet {
         creator: BoxId,
         value: Count,
     ) -> Result<CounterSet, Memory>
+        requires unused { innermost_place self.now name.now ≡ None }
         ensures set { IfOk result (λ set. set ≡ self.now ++ record { name = name.now; creator = creator; reversed = false; value = value } ∷ []) }
     {
         let mut counters = self.counters.duplicate(alloc)?;
@@ -211,6 +219,7 @@ impl CounterSet {
 /// The counters of a set, and none where there is no set.
 fn counters_of<'a>(set: Option<&'a CounterSet>) -> &'a [Counter]
     ensures counters { result.now ≡ unwrap_or (option_copied set.entry) [] }
+    ensures distinct { AreDistinct (unwrap_or (option_copied set.entry) []) }
 {
     match set {
         Some(set) => set.as_slice(),

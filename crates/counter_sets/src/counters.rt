@@ -12,7 +12,7 @@ use plain_types::list::List;
 use plain_types::memory::Memory;
 use std::alloc::Global;
 
-/// Whether the counter has this name.
+/// Whether the counter has this name, compared as written.
 pub fn is_named(name: &str, counter: &Counter) -> bool
     ensures test { result ≡ is_named (chars name.now) counter.now }
 {
@@ -41,14 +41,14 @@ fn contains(counters: &[Counter], counter: &Counter) -> bool
 }
 
 /// Whether no counter in a list is the same as this one.
-pub fn is_missing_in(counters: &[Counter], counter: &Counter) -> bool
+pub(crate) fn is_missing_in(counters: &[Counter], counter: &Counter) -> bool
     ensures test { result ≡ is_missing_in counters.now counter.now }
 {
     !contains(counters, counter)
 }
 
 /// The place of the last counter of a name.
-pub fn last_place(counters: &[Counter], name: &str) -> Option<usize>
+pub(crate) fn last_place(counters: &[Counter], name: &str) -> Option<usize>
     ensures place { result ≡ last_place (is_named (chars name.now)) counters.now }
     ensures within { IfSome result (λ place. place < length counters.now) }
 {
@@ -63,7 +63,7 @@ pub fn last_place(counters: &[Counter], name: &str) -> Option<usize>
 }
 
 /// A copy of the counter, with the value that it has among these, where it is there.
-pub fn copy_valued_in(
+pub(crate) fn copy_valued_in(
     alloc: Global,
     counters: &[Counter],
     counter: &Counter,
@@ -78,7 +78,7 @@ pub fn copy_valued_in(
 }
 
 /// Copies of the counters but for that at a place.
-pub fn copy_without(
+pub(crate) fn copy_without(
     alloc: Global,
     counters: &[Counter],
     place: usize,
@@ -95,7 +95,7 @@ pub fn copy_without(
 }
 
 /// Copies of the counters, with another value for that at a place.
-pub fn copy_with_value(
+pub(crate) fn copy_with_value(
     alloc: Global,
     counters: &[Counter],
     place: usize,

@@ -21,4 +21,4 @@
 #![tactic(auto)]
 
 pub mod counter_set;
-mod counters;
+pub mod counters;

@@ -7,7 +7,7 @@ use Rattle.plain_types.specs.declared.style.Pair.{Pair}
 use Rattle.plain_types.specs.declared.style.Quotes.{Quotes}
 use Rattle.plain_types.specs.declared.style.Quotes.TheVariants.{Nothing, Auto, Pairs}
 
--- “ ” and ‘ ’; 3.1 leaves the marks of `auto` to the program
+-- 3.1 leaves the marks of `auto` to the program; they are “ ” and ‘ ’ in all languages (our own)
 abbrev pub auto_pairs : List Pair
 auto_pairs = record { left = 8220 ∷ []; right = 8221 ∷ [] } ∷ record { left = 8216 ∷ []; right = 8217 ∷ [] } ∷ []
 
