@@ -16,5 +16,8 @@
 //! ```
 #![tactic(auto)]
 
+mod attributes;
+mod counters;
+pub mod eval_items;
 pub mod generated;
 pub mod place;

@@ -1,5 +1,5 @@
 -- Lemmas on the lists of sets.
-use Rattle.std.proofs.Common.{◌≡◌, ◌+◌, ◌∷◌, ◌++◌, ◌<◌, ◌==◌, ℕ, zero, suc, List, [], Bool, true, false, cond, Some, None, length, take, get_or, refl, sym, ap, ◌∙◌, arith, inl, inr}
+use Rattle.std.proofs.Common.{◌≡◌, ◌+◌, ◌∷◌, ◌++◌, ◌<◌, ◌==◌, ℕ, zero, suc, List, [], Bool, true, false, cond, Option, Some, None, length, take, get_or, refl, sym, ap, ◌∙◌, arith, inl, inr}
 use Rattle.std.proofs.lemmas.Bool.{cases_Bool}
 use Rattle.std.proofs.lemmas.Bool.Decides.{nat_tests}
 use Rattle.std.proofs.lemmas.List.{take_more, length-take-le}
@@ -9,7 +9,7 @@ use Rattle.std.specs.Prelude.{ℤ, pos, is_some, remove, slice_get}
 use Rattle.std.specs.Option.{option_and_then, option_map_or}
 use Rattle.plain_types.specs.declared.box_id.BoxId.{BoxId}
 use Rattle.plain_types.specs.declared.counter.Counter.{Counter}
-use Rattle.counter_sets.specs.Sets.{change_at, innermost_place, instantiated, is_named, last_place, with_counter, with_innermost, with_value}
+use Rattle.counter_sets.specs.Sets.{change_at, innermost, innermost_place, instantiated, is_named, last_place, with_counter, with_innermost, with_value}
 
 module _ {X : Type 0} where
   -- the last place is that of the last item, where that passes, and else one before it
@@ -96,3 +96,22 @@ module _ (is_replaced : Counter → Bool) (creator : BoxId) (change : ℤ → �
       sym (change_at_last (with_value change) set new)
       ∙ sym (ap (λ o. option_map_or (change_at (with_value change) (set ++ new ∷ [])) o (set ++ new ∷ [])) place)
       ∙ ap (λ counters. with_innermost change counters name) (sym made)
+
+-- The innermost counter is at its place.
+
+within_one_more : (o : Option ℕ) (passes : Bool) (n place : ℕ) → ((p : ℕ) → o ≡ Some p → p < n) → option_map_or (λ p. Some (suc p)) o (cond passes (Some 0) None) ≡ Some place → place < suc n
+within_one_more (Some p) passes n place h e = let at : suc p ≡ place = cc in omega (arith, h p refl)
+within_one_more None true n place h e = let at : 0 ≡ place = cc in omega arith
+within_one_more None false n place h e = absurd (cc)
+
+pub last_place_within : {X : Type 0} (test : X → Bool) (xs : List X) (place : ℕ) → last_place test xs ≡ Some place → place < length xs
+last_place_within test [] place e = absurd (cc)
+last_place_within test (x ∷ xs) place e = within_one_more (last_place test xs) (test x) (length xs) place (λ p f. last_place_within test xs p f) e
+
+none_there : (set : List Counter) (o : Option ℕ) → ((place : ℕ) → o ≡ Some place → place < length set) → option_and_then (slice_get set) o ≡ None → o ≡ None
+none_there set None within h = refl
+none_there [] (Some place) within h = absurd (omega (arith, within place refl))
+none_there (c ∷ set) (Some place) within h = let there = slice_get-get_or (c ∷ set) place c (within place refl) in absurd (cc)
+
+pub innermost_none : (set : List Counter) (name : List ℕ) → innermost set name ≡ None → innermost_place set name ≡ None
+innermost_none set name h = none_there set (innermost_place set name) (λ place e. last_place_within (is_named name) set place e) h
