@@ -22,7 +22,7 @@ use Rattle.content_eval.specs.declared.generated.Piece.TheVariants as piece
 
 -- What single items give.
 
--- CSS Values 4, `attr()`: the value of the attribute on the originating element; one that is absent gives
+-- CSS Values 5, `attr()`: the value of the attribute on the originating element; one that is absent gives
 -- nothing
 abbrev pub attribute : List Attr → List ℕ → List ℕ
 attribute attrs name = option_map_or (λ (attr : Attr). attr.value) (find (λ (attr : Attr). bytes_eq attr.name name) attrs) []
@@ -49,7 +49,8 @@ abbrev pub depth_behind : ℕ → Item → ℕ
 depth_behind depth (item.Quote kind) = depth_after depth kind
 depth_behind depth _ = depth
 
--- CSS Lists 3, 4.7: `counter()` and `counters()` of a name without a counter create one first
+-- CSS Lists 3, 4.7: `counter()` and `counters()` of a name without a counter create one first. It takes the
+-- place of none, whatever `is_replaced` says.
 module _ (is_replaced : Counter → Bool) (creator : BoxId) where
   abbrev pub set_behind : List Counter → Item → List Counter
   set_behind set (item.Counter name style) = with_counter is_replaced creator set name
@@ -77,8 +78,7 @@ module _ (table : List CounterStyle) (attrs : List Attr) (quotes : Quotes) where
         piece_of (set_behind is_replaced creator set first) depth first
         ∷ pieces (set_behind is_replaced creator set first) (depth_behind depth first) items
 
--- What the items of a box give, in a table of counter styles. `is_replaced` tells of which counters a new one
--- takes the place.
+-- what the items of a box give, in a table of counter styles
 abbrev pub generated : List CounterStyle → List Item → List Attr → Quotes → BoxId → (Counter → Bool) → List Counter → ℕ → Generated
 generated table items attrs quotes creator is_replaced set depth = record {
   pieces = pieces table attrs quotes is_replaced creator set depth items;

@@ -22,3 +22,5 @@
 
 pub mod counter_set;
 pub mod counters;
+#[cfg(test)]
+mod tests;

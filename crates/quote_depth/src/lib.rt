@@ -70,3 +70,68 @@ fn marks_at<'a>(quotes: &'a Quotes, depth: u64) -> Option<(&'a str, &'a str)>
         }
     }
 }
+
+#[cfg(test)]
+mod tests {
+    use super::*;
+    use plain_types::list::List;
+    use std::test::Fail;
+
+    /// The marks and depths of some keywords, one after the other from a depth on, are these.
+    fn gives(quotes: &Quotes, depth: u64, rows: &[(QuoteKind, &str, u64)]) -> bool {
+        let mut depth = depth;
+        for (kind, mark, after) in rows {
+            let (written, behind) = step(quotes, depth, *kind);
+            if written.unwrap_or("none") != *mark || behind != *after {
+                return false;
+            }
+            depth = behind;
+        }
+        true
+    }
+
+    // <p><q><q><q/></q></q><b/></p> with b::before{content:close-quote "!"}
+    #[test]
+    fn marks_go_by_depth(rt: HostRuntime) {
+        let rows = [
+            (QuoteKind::Open, "“", 1),
+            (QuoteKind::Open, "‘", 2),
+            (QuoteKind::Open, "‘", 3),
+            (QuoteKind::Close, "’", 2),
+            (QuoteKind::Close, "’", 1),
+            (QuoteKind::Close, "”", 0),
+            (QuoteKind::Close, "none", 0),
+        ];
+        assert!(rt; gives(&Quotes::Auto, 0, &rows));
+    }
+
+    #[test]
+    fn depth_changes_without_marks(rt: HostRuntime) -> Result<(), Fail> {
+        let rows = [
+            (QuoteKind::NoOpen, "none", 1),
+            (QuoteKind::Open, "‘", 2),
+            (QuoteKind::NoClose, "none", 1),
+            (QuoteKind::NoClose, "none", 0),
+            (QuoteKind::NoClose, "none", 0),
+        ];
+        assert!(rt; gives(&Quotes::Auto, 0, &rows));
+        let rows = [
+            (QuoteKind::Open, "none", 1),
+            (QuoteKind::Close, "none", 0),
+            (QuoteKind::Close, "none", 0),
+        ];
+        assert!(rt; gives(&Quotes::Nothing, 0, &rows));
+        assert!(rt; gives(&Quotes::Pairs(List::new(rt.alloc())), 0, &rows));
+        Ok(())
+    }
+
+    #[test]
+    fn depth_ends(rt: HostRuntime) {
+        let rows = [
+            (QuoteKind::Open, "‘", u64::MAX),
+            (QuoteKind::NoOpen, "none", u64::MAX),
+            (QuoteKind::Close, "’", u64::MAX - 1),
+        ];
+        assert!(rt; gives(&Quotes::Auto, u64::MAX, &rows));
+    }
+}
