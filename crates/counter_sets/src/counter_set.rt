@@ -1,0 +1,228 @@
+//! Sets that share their lists.
+
+ghost use Rattle.std.specs.Prelude.{◌≡◌, None, ◌++◌, ◌∷◌, [], ◌<◌, IfOk, IfSome, length, option_copied, false, unwrap_or};
+ghost use Rattle.std.specs.Str.{chars};
+ghost use Rattle.counter_sets.specs.Sets.{AreDistinct, assigned, incremented, inherited, innermost, innermost_place, instantiated, is_missing_in, replaced_place, change_at, with_value};
+
+use crate::counters::{copy_valued_in, copy_with_value, copy_without, is_missing_in, last_place};
+use plain_types::box_id::BoxId;
+use plain_types::count::{Count, add_counts};
+use plain_types::counter::Counter;
+use plain_types::duplicate::Duplicate;
+use plain_types::list::List;
+use plain_types::memory::Memory;
+use plain_types::text::Text;
+use std::alloc::Global;
+use std::marker::Model;
+use std::rc::Rc;
+
+/// The counters in whose scope a box is, the innermost of a name last, in a list that sets can share.
+#[derive(Drop)]
+pub struct CounterSet {
+    counters: Rc<List<Counter>>,
+}
+
+impl Model for CounterSet {
+    ghost use Rattle.std.specs.Prelude.{List};
+    ghost use Rattle.plain_types.specs.declared.counter.Counter.{Counter};
+
+    ghost Value = { List Counter };
+
+    ghost use Rattle.counter_sets.specs.Sets.{AreDistinct};
+
+    ghost view = { λ set. set.counters.value };
+
+    ghost invariant = { λ set. AreDistinct set.counters.value };
+}
+
+impl CounterSet {
+    /// The set without counters.
+    pub fn empty(alloc: Global) -> Result<CounterSet, Memory>
+        ensures empty { IfOk result (λ set. set ≡ []) }
+    {
+        CounterSet::of(alloc, List::new(alloc))
+    }
+
+    /// The set that a box inherits (CSS Lists 3, 4.4): the parent's counters, then those that the sibling
+    /// before it has besides, each with its value in the set of the box just before in tree order. It takes
+    /// time in the product of the sets' lengths.
+    pub fn inherit(
+        alloc: Global,
+        parent: &CounterSet,
+        sibling: Option<&CounterSet>,
+        preceding: Option<&CounterSet>,
+    ) -> Result<CounterSet, Memory>
+        ensures set { IfOk result (λ set. set ≡ inherited parent.now (option_copied sibling.entry) (option_copied preceding.entry)) }
+    {
+        let values = counters_of(preceding);
+        let mut counters = List::new(alloc);
+        for counter in parent.as_slice() {
+            counters.push(copy_valued_in(alloc, values, counter)?)?;
+        }
+        for counter in counters_of(sibling) {
+            if is_missing_in(parent.as_slice(), counter) {
+                counters.push(copy_valued_in(alloc, values, counter)?)?;
+            }
+        }
+        CounterSet::of(alloc, counters)
+    }
+
+    /// The set with a new counter at its end (CSS Lists 3, 4.4). The innermost counter of its name goes where
+    /// the parent's set lacks it: the box itself or an earlier sibling created it. It takes time linear in
+    /// the sets' lengths. The caller sees to it that no other counter of the set is the same as the new one.
+    pub fn instantiate(
+        &self,
+        alloc: Global,
+        parent: &CounterSet,
+        counter: Counter,
+    ) -> Result<CounterSet, Memory>
+        requires distinct { AreDistinct (instantiated (is_missing_in parent.now) self.now counter) }
+        ensures set { IfOk result (λ set. set ≡ instantiated (is_missing_in parent.now) self.now counter) }
+    {
+        let mut counters = match self.replaced_place(parent, counter.name.as_str()) {
+            Some(place) => copy_without(alloc, self.as_slice(), place)?,
+            None => self.counters.duplicate(alloc)?,
+        };
+        counters.push(counter)?;
+        CounterSet::of(alloc, counters)
+    }
+
+    /// The set with the innermost counter of the name raised (CSS Lists 3, 4.2), saturated. Where there is
+    /// none, the box `creator` creates one with 0 first. It takes time linear in the set's length.
+    pub fn increment(
+        &self,
+        alloc: Global,
+        parent: &CounterSet,
+        name: &Text,
+        by: Count,
+        creator: BoxId,
+    ) -> Result<CounterSet, Memory>
+        ensures set { IfOk result (λ set. set ≡ incremented (is_missing_in parent.now) creator self.now name.now by) }
+    {
+        match self.innermost_place(name.as_str()) {
+            Some(place) => {
+                let value = add_counts(self.as_slice()[place].value, by);
+                self.with_value(alloc, place, value)
+            }
+            None => self.with_new(alloc, name, creator, add_counts(0, by)),
+        }
+    }
+
+    /// The set with another value for the innermost counter of the name (CSS Lists 3, 4.2). Where there is
+    /// none, the box `creator` creates one. It takes time linear in the set's length.
+    pub fn assign(
+        &self,
+        alloc: Global,
+        parent: &CounterSet,
+        name: &Text,
+        value: Count,
+        creator: BoxId,
+    ) -> Result<CounterSet, Memory>
+        ensures set { IfOk result (λ set. set ≡ assigned (is_missing_in parent.now) creator self.now name.now value) }
+    {
+        match self.innermost_place(name.as_str()) {
+            Some(place) => self.with_value(alloc, place, value),
+            None => self.with_new(alloc, name, creator, value),
+        }
+    }
+
+    /// The same set, in constant time over the same list; over a copy of it where the list can have no
+    /// further holder.
+    pub fn share(&self, alloc: Global) -> Result<CounterSet, Memory>
+        ensures same { IfOk result (λ set. set ≡ self.now) }
+    {
+        match self.counters.clone() {
+            Ok(counters) => Ok(CounterSet { counters }),
+            Err(_) => CounterSet::of(alloc, self.counters.duplicate(alloc)?),
+        }
+    }
+
+    /// The innermost counter of the name. It takes no memory, and time linear in the set's length.
+    pub fn innermost(&self, name: &str) -> Option<&Counter>
+        ensures innermost { option_copied result ≡ innermost self.now (chars name.now) }
+    {
+        let place = self.innermost_place(name)?;
+        Some(&self.as_slice()[place])
+    }
+
+    /// The counters, the innermost of a name last. It takes no memory.
+    pub fn as_slice(&self) -> &[Counter]
+        ensures counters { result.now ≡ self.now }
+        ensures distinct { AreDistinct self.now }
+    {
+        self.counters.as_slice()
+    }
+
+    /// The set of these counters.
+    fn of(alloc: Global, counters: List<Counter>) -> Result<CounterSet, Memory>
+        requires distinct { AreDistinct counters }
+        ensures counters { IfOk result (λ set. set ≡ counters) }
+    {
+        Ok(CounterSet {
+            counters: Rc::new(alloc, counters)?,
+        })
+    }
+
+    /// The place of the innermost counter of a name.
+    fn innermost_place(&self, name: &str) -> Option<usize>
+        ensures place { result ≡ innermost_place self.now (chars name.now) }
+        ensures within { IfSome result (λ place. place < length self.now) }
+    {
+        last_place(self.as_slice(), name)
+    }
+
+    /// The place of the counter whose place a new one of this name takes.
+    fn replaced_place(&self, parent: &CounterSet, name: &str) -> Option<usize>
+        ensures place { result ≡ replaced_place (is_missing_in parent.now) self.now (chars name.now) }
+        ensures within { IfSome result (λ place. place < length self.now) }
+    {
+        let place = self.innermost_place(name)?;
+        if is_missing_in(parent.as_slice(), &self.as_slice()[place]) {
+            Some(place)
+        } else {
+            None
+        }
+    }
+
+    /// The set with another value for the counter at a place.
+    fn with_value(&self, alloc: Global, place: usize, value: Count) -> Result<CounterSet, Memory>
+        ensures set { IfOk result (λ set. set ≡ change_at (with_value (λ _. value)) self.now place) }
+    {
+        CounterSet::of(
+            alloc,
+            copy_with_value(alloc, self.as_slice(), place, value)?,
+        )
+    }
+
+    /// The set with a new counter that is not reversed, of a name that has none.
+    fn with_new(
+        &self,
+        alloc: Global,
+        name: &Text,
+        creator: BoxId,
+        value: Count,
+    ) -> Result<CounterSet, Memory>
+        requires unused { innermost_place self.now name.now ≡ None }
+        ensures set { IfOk result (λ set. set ≡ self.now ++ record { name = name.now; creator = creator; reversed = false; value = value } ∷ []) }
+    {
+        let mut counters = self.counters.duplicate(alloc)?;
+        counters.push(Counter {
+            name: name.duplicate(alloc)?,
+            creator,
+            reversed: false,
+            value,
+        })?;
+        CounterSet::of(alloc, counters)
+    }
+}
+
+/// The counters of a set, and none where there is no set.
+fn counters_of<'a>(set: Option<&'a CounterSet>) -> &'a [Counter]
+    ensures counters { result.now ≡ unwrap_or (option_copied set.entry) [] }
+    ensures distinct { AreDistinct (unwrap_or (option_copied set.entry) []) }
+{
+    match set {
+        Some(set) => set.as_slice(),
+        None => &[],
+    }
+}

@@ -1,0 +1,115 @@
+//! Lists of counters.
+
+ghost use Rattle.std.specs.Prelude.{◌≡◌, ◌<◌, IfOk, IfSome, find, length, option_copied, remove};
+ghost use Rattle.std.specs.List.{list_any};
+ghost use Rattle.std.specs.Str.{chars};
+ghost use Rattle.counter_sets.specs.Sets.{change_at, is_missing_in, is_named, is_same, last_place, valued_in, with_value};
+
+use plain_types::count::Count;
+use plain_types::counter::Counter;
+use plain_types::duplicate::Duplicate;
+use plain_types::list::List;
+use plain_types::memory::Memory;
+use std::alloc::Global;
+
+/// Whether the counter has this name, compared as written.
+pub fn is_named(name: &str, counter: &Counter) -> bool
+    ensures test { result ≡ is_named (chars name.now) counter.now }
+{
+    name == counter.name.as_str()
+}
+
+/// Whether both are the same counter, by name and creator.
+fn is_same(first: &Counter, second: &Counter) -> bool
+    ensures test { result ≡ is_same first.now second.now }
+{
+    is_named(first.name.as_str(), second) && first.creator == second.creator
+}
+
+/// The counter in a list that is the same as this one.
+fn find_same<'a>(counters: &'a [Counter], counter: &Counter) -> Option<&'a Counter>
+    ensures found { option_copied result ≡ find (is_same counter.now) counters.now }
+{
+    counters.iter().find(|other| is_same(counter, other))
+}
+
+/// Whether a counter in a list is the same as this one.
+fn contains(counters: &[Counter], counter: &Counter) -> bool
+    ensures test { result ≡ list_any (is_same counter.now) counters.now }
+{
+    counters.iter().any(|other| is_same(counter, other))
+}
+
+/// Whether no counter in a list is the same as this one.
+pub(crate) fn is_missing_in(counters: &[Counter], counter: &Counter) -> bool
+    ensures test { result ≡ is_missing_in counters.now counter.now }
+{
+    !contains(counters, counter)
+}
+
+/// The place of the last counter of a name.
+pub(crate) fn last_place(counters: &[Counter], name: &str) -> Option<usize>
+    ensures place { result ≡ last_place (is_named (chars name.now)) counters.now }
+    ensures within { IfSome result (λ place. place < length counters.now) }
+{
+    let mut front = counters;
+    while let Some((last, before)) = front.split_last() {
+        if is_named(name, last) {
+            return Some(before.len());
+        }
+        front = before;
+    }
+    None
+}
+
+/// A copy of the counter, with the value that it has among these, where it is there.
+pub(crate) fn copy_valued_in(
+    alloc: Global,
+    counters: &[Counter],
+    counter: &Counter,
+) -> Result<Counter, Memory>
+    ensures copy { IfOk result (λ copy. copy ≡ valued_in counters.now counter.now) }
+{
+    let mut copy = counter.duplicate(alloc)?;
+    if let Some(same) = find_same(counters, counter) {
+        copy.value = same.value;
+    }
+    Ok(copy)
+}
+
+/// Copies of the counters but for that at a place.
+pub(crate) fn copy_without(
+    alloc: Global,
+    counters: &[Counter],
+    place: usize,
+) -> Result<List<Counter>, Memory>
+    ensures copy { IfOk result (λ copy. copy ≡ remove counters.now place) }
+{
+    let mut copy = List::new(alloc);
+    for (at, counter) in counters.iter().enumerate() {
+        if at != place {
+            copy.push(counter.duplicate(alloc)?)?;
+        }
+    }
+    Ok(copy)
+}
+
+/// Copies of the counters, with another value for that at a place.
+pub(crate) fn copy_with_value(
+    alloc: Global,
+    counters: &[Counter],
+    place: usize,
+    value: Count,
+) -> Result<List<Counter>, Memory>
+    ensures copy { IfOk result (λ copy. copy ≡ change_at (with_value (λ _. value)) counters.now place) }
+{
+    let mut copy = List::new(alloc);
+    for (at, counter) in counters.iter().enumerate() {
+        let mut counter = counter.duplicate(alloc)?;
+        if at == place {
+            counter.value = value;
+        }
+        copy.push(counter)?;
+    }
+    Ok(copy)
+}

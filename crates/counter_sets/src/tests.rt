@@ -1,0 +1,125 @@
+//! Sets as documents have them.
+
+use crate::counter_set::CounterSet;
+use crate::counters::is_missing_in;
+use plain_types::box_id::BoxId;
+use plain_types::box_kind::BoxKind;
+use plain_types::count::{COUNT_HIGH, COUNT_LOW, Count};
+use plain_types::counter::Counter;
+use plain_types::memory::Memory;
+use plain_types::text::Text;
+use std::alloc::Global;
+use std::test::Fail;
+
+fn element(key: usize) -> BoxId {
+    BoxId {
+        key,
+        kind: BoxKind::Element,
+    }
+}
+
+/// The set after `counter-reset: NAME` on an element of this key, which has no counter yet.
+fn reset(
+    alloc: Global,
+    set: &CounterSet,
+    parent: &CounterSet,
+    name: &str,
+    key: usize,
+) -> Result<CounterSet, Memory> {
+    let counter = Counter {
+        name: Text::from_str(alloc, name)?,
+        creator: element(key),
+        reversed: false,
+        value: 0,
+    };
+    if is_missing_in(set.as_slice(), &counter) {
+        return set.instantiate(alloc, parent, counter);
+    }
+    set.share(alloc)
+}
+
+/// Whether the set has counters with these creators and values, in this order.
+fn has(set: &CounterSet, want: &[(usize, Count)]) -> bool {
+    let counters = set.as_slice();
+    counters.len() == want.len()
+        && counters.iter().zip(want).all(|(counter, want)| counter.creator.key == want.0
+            && counter.value == want.1)
+}
+
+// <body><h1/><h2/><h2/><h1/><h2/></body> with h1{counter-reset:s} and h2{counter-increment:s}
+#[test]
+fn a_later_sibling_starts_anew(rt: HostRuntime) -> Result<(), Fail> {
+    let alloc = rt.alloc();
+    let s = Text::from_str(alloc, "s")?;
+    let body = CounterSet::empty(alloc)?;
+    let first = CounterSet::inherit(alloc, &body, None, Some(&body))?;
+    let first = reset(alloc, &first, &body, "s", 1)?;
+    assert!(rt; has(&first, &[(1, 0)]));
+    let second = CounterSet::inherit(alloc, &body, Some(&first), Some(&first))?;
+    let second = second.increment(alloc, &body, &s, 1, element(2))?;
+    assert!(rt; has(&second, &[(1, 1)]));
+    let third = CounterSet::inherit(alloc, &body, Some(&second), Some(&second))?;
+    let third = third.increment(alloc, &body, &s, 1, element(3))?;
+    assert!(rt; has(&third, &[(1, 2)]));
+    let fourth = CounterSet::inherit(alloc, &body, Some(&third), Some(&third))?;
+    let fourth = reset(alloc, &fourth, &body, "s", 4)?;
+    assert!(rt; has(&fourth, &[(4, 0)]));
+    let innermost = fourth.innermost("s").ok_or("the counter of the second h1")?;
+    assert!(rt; innermost.creator == element(4));
+    assert!(rt; fourth.innermost("t").is_none());
+    Ok(())
+}
+
+// <ol><li>a<ol><li>b</li><li>c</li></ol></li><li>d</li></ol>, where each ol resets n and each li increments it
+#[test]
+fn a_child_keeps_the_counter_of_its_parent(rt: HostRuntime) -> Result<(), Fail> {
+    let alloc = rt.alloc();
+    let n = Text::from_str(alloc, "n")?;
+    let root = CounterSet::empty(alloc)?;
+    let outer = reset(alloc, &root, &root, "n", 0)?;
+    let a = CounterSet::inherit(alloc, &outer, None, Some(&outer))?;
+    let a = a.increment(alloc, &outer, &n, 1, element(1))?;
+    let inner = CounterSet::inherit(alloc, &a, None, Some(&a))?;
+    let inner = reset(alloc, &inner, &a, "n", 2)?;
+    assert!(rt; has(&inner, &[(0, 1), (2, 0)]));
+    let b = CounterSet::inherit(alloc, &inner, None, Some(&inner))?;
+    let b = b.increment(alloc, &inner, &n, 1, element(3))?;
+    let c = CounterSet::inherit(alloc, &inner, Some(&b), Some(&b))?;
+    let c = c.increment(alloc, &inner, &n, 1, element(4))?;
+    assert!(rt; has(&c, &[(0, 1), (2, 2)]));
+    let d = CounterSet::inherit(alloc, &outer, Some(&a), Some(&c))?;
+    let d = d.increment(alloc, &outer, &n, 1, element(5))?;
+    assert!(rt; has(&d, &[(0, 2)]));
+    Ok(())
+}
+
+#[test]
+fn values_end_at_the_ends_of_counts(rt: HostRuntime) -> Result<(), Fail> {
+    let alloc = rt.alloc();
+    let n = Text::from_str(alloc, "n")?;
+    let root = CounterSet::empty(alloc)?;
+    for (value, by, want) in [
+        (COUNT_HIGH, 1, COUNT_HIGH),
+        (COUNT_HIGH - 1, 1, COUNT_HIGH),
+        (COUNT_LOW, -1, COUNT_LOW),
+        (COUNT_LOW, COUNT_HIGH, -1),
+    ] {
+        let set = root.assign(alloc, &root, &n, value, element(7))?;
+        let set = set.increment(alloc, &root, &n, by, element(8))?;
+        assert!(rt; has(&set, &[(7, want)]), "{value} and {by}");
+    }
+    let set = root.increment(alloc, &root, &n, COUNT_LOW, element(7))?;
+    assert!(rt; has(&set, &[(7, COUNT_LOW)]));
+    Ok(())
+}
+
+#[test]
+fn a_shared_set_is_the_same(rt: HostRuntime) -> Result<(), Fail> {
+    let alloc = rt.alloc();
+    let root = CounterSet::empty(alloc)?;
+    let set = reset(alloc, &root, &root, "n", 3)?;
+    let shared = set.share(alloc)?;
+    let changed = shared.assign(alloc, &root, &Text::from_str(alloc, "n")?, 5, element(4))?;
+    assert!(rt; has(&set, &[(3, 0)]) && has(&shared, &[(3, 0)]) && has(&changed, &[(3, 5)]));
+    Ok(())
+}
