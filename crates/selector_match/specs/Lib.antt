@@ -1,0 +1,4 @@
+pub mod Elements
+pub mod Attributes
+pub mod Positions
+pub mod Matching

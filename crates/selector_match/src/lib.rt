@@ -1,0 +1,4 @@
+//! Which elements a selector matches.
+#![tactic(auto)]
+
+pub fn nothing() {}
