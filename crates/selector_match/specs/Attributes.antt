@@ -1,14 +1,11 @@
 -- Attribute selectors: Selectors 4, 6.
 use Rattle.std.specs.Prelude.{ℕ, ◌==◌, nat_eq, Bool, true, not, ◌&&◌, ◌||◌, if◌then◌else◌, List, [], ◌∷◌, ◌++◌, length, codes}
 use Rattle.std.specs.Char.{is_ascii_whitespace}
-use Rattle.std.specs.Cmp.Lexicographic.{pointwise}
 use Rattle.std.specs.List.{list_any, slice_split, starts_with, ends_with}
+use Rattle.std.specs.Str.{bytes_eq}
 use Rattle.plain_types.specs.StyleNames.{lower_case}
 use Rattle.plain_types.specs.declared.selector_parts.AttrTest.{AttrTest}
 use Rattle.plain_types.specs.declared.selector_parts.AttrTest.TheVariants.{Present, Equal, Word, Dash, Start, End, Inside}
-
-abbrev pub is_same : List ℕ → List ℕ → Bool
-is_same first second = pointwise nat_eq first second
 
 -- Infra, 4.6: what stands between ASCII whitespace, which is tab, LF, FF, CR and space
 abbrev pub words : List ℕ → List (List ℕ)
@@ -16,7 +13,7 @@ words text = slice_split is_ascii_whitespace text
 
 -- one of the words is this one, which has characters and is a word
 abbrev pub has_word : List ℕ → List ℕ → Bool
-has_word text word = not (length word == 0) && list_any (is_same word) (words text)
+has_word text word = not (length word == 0) && list_any (bytes_eq word) (words text)
 
 -- the value stands in the text, from some character on
 abbrev pub contains : List ℕ → List ℕ → Bool
@@ -26,9 +23,9 @@ contains (first ∷ rest) value = starts_with nat_eq (first ∷ rest) value || c
 -- Selectors 4, 6.1 and 6.2: `=`, `~=`, `|=`, `^=`, `$=`, `*=`. An empty value begins, ends and stands in no text.
 abbrev pub passes : AttrTest → List ℕ → List ℕ → Bool
 passes Present text value = true
-passes Equal text value = is_same text value
+passes Equal text value = bytes_eq text value
 passes Word text value = has_word text value
-passes Dash text value = is_same text value || starts_with nat_eq text (value ++ codes "-")
+passes Dash text value = bytes_eq text value || starts_with nat_eq text (value ++ codes "-")
 passes Start text value = not (length value == 0) && starts_with nat_eq text value
 passes End text value = not (length value == 0) && ends_with nat_eq text value
 passes Inside text value = not (length value == 0) && contains text value

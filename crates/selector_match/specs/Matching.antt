@@ -2,6 +2,7 @@
 use Rattle.std.specs.Prelude.{ℕ, Bool, true, false, not, ◌&&◌, ◌∷◌, [], List, take, reverse, codes}
 use Rattle.std.specs.List.{list_any, list_all}
 use Rattle.std.specs.Option.{option_map_or}
+use Rattle.std.specs.Str.{bytes_eq}
 use Rattle.forest.specs.Forest.{Forest}
 use Rattle.forest.specs.Keys.{Keyed}
 use Rattle.plain_types.specs.declared.node.Node.{Node}
@@ -13,7 +14,7 @@ use Rattle.plain_types.specs.declared.selector.Simple.TheOpen.{Simple-F, Compoun
 use Rattle.plain_types.specs.declared.selector_parts.Join.{Join}
 use Rattle.plain_types.specs.declared.selector_parts.Join.TheVariants.{Descendant, Child, Next, Later}
 use Rattle.node_arena.specs.Nodes.{value_of}
-use Rattle.selector_match.specs.Attributes.{is_same, has_word, passes_in_case}
+use Rattle.selector_match.specs.Attributes.{has_word, passes_in_case}
 use Rattle.selector_match.specs.Elements.{Element, Standing, ancestors, earlier_siblings, is_root, standing_of}
 use Rattle.selector_match.specs.Positions.{is_nth, is_only, position_of}
 
@@ -34,9 +35,9 @@ has_attr element name test = option_map_or test (value_of name element.attrs) fa
 abbrev pub simple_holds : Standing → Simple-F Bool Bool → Bool
 -- Selectors 4, 5.1 and 5.2: type selectors and `*`; names are compared as written
 simple_holds standing Simple-F.Any = true
-simple_holds standing (Simple-F.Element name) = is_same standing.level.element.name name
+simple_holds standing (Simple-F.Element name) = bytes_eq standing.level.element.name name
 -- Selectors 4, 6.6 and 6.7: `.class` and `#id`
-simple_holds standing (Simple-F.Id name) = has_attr standing.level.element (codes "id") (λ value. is_same value name)
+simple_holds standing (Simple-F.Id name) = has_attr standing.level.element (codes "id") (λ value. bytes_eq value name)
 simple_holds standing (Simple-F.Class name) = has_attr standing.level.element (codes "class") (λ value. has_word value name)
 -- Selectors 4, 13.1 and 13.2: `:root` and `:empty`
 simple_holds standing Simple-F.Root = is_root standing
