@@ -1,4 +1,4 @@
-//! Which elements a selector matches.
+//! Which elements a selector matches (Selectors 4).
 #![tactic(auto)]
 
-pub fn nothing() {}
+mod neighbours;
