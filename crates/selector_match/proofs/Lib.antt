@@ -1,2 +1,4 @@
+mod TextLaws
 mod SeatLaws
 mod StandingLaws
+mod EmptyLaws

@@ -281,7 +281,7 @@ abbrev pub left_beside : Forest (Keyed Node) → Bool → ℕ → ℕ
 left_beside f true q = size (after_of f q)
 left_beside f false q = index_of f q
 
-elements-own : (k : ℕ) (l : Node) (c r : Forest (Keyed Node)) → elements (without_keys (Tree (keyed k l) c r)) ≡ own l c ++ elements (without_keys r)
+pub elements-own : (k : ℕ) (l : Node) (c r : Forest (Keyed Node)) → elements (without_keys (Tree (keyed k l) c r)) ≡ own l c ++ elements (without_keys r)
 elements-own k (node.Element name attrs) c r = refl
 elements-own k (node.Text characters) c r = refl
 
