@@ -1,10 +1,9 @@
 -- Children that are nothing.
-use Rattle.std.proofs.Common.{◌≡◌, ◌==◌, ◌<◌, ◌+◌, ℕ, Bool, true, false, List, length, Option, Some, None, option_and_then, refl, sym, ap, ◌∙◌, arith}
+use Rattle.std.proofs.Common.{◌≡◌, ◌==◌, ◌<◌, ◌+◌, ℕ, Bool, true, false, List, length, Option, Some, option_and_then, refl, sym, ap, ◌∙◌, arith}
 use Rattle.std.specs.Option.{option_map_or}
-use Rattle.std.proofs.lemmas.Option.{same_Some}
-use Rattle.forest.specs.Forest.{Forest, Empty, Tree, size}
+use Rattle.forest.specs.Forest.{Forest, Tree, size}
 use Rattle.forest.specs.Keys.{Keyed, HasDistinctKeys, without_keys}
-use Rattle.forest.specs.Spots.{keyed, IsLive, IsLink, on_link, label_of, children_of, after_of, next_sibling_of}
+use Rattle.forest.specs.Spots.{keyed, IsLive, on_link, label_of, children_of, after_of, next_sibling_of}
 use Rattle.forest.proofs.SpotLaws.{live-spot, on_next, on_key}
 use Rattle.plain_types.specs.declared.node.Node.{Node}
 use Rattle.plain_types.specs.declared.node.Node.TheVariants as node

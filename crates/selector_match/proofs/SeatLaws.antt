@@ -1,5 +1,5 @@
 -- Where each node of a document stands among elements, texts too.
-use Rattle.std.proofs.Common.{◌≡◌, ◌==◌, ◌<◌, ◌≤◌, ◌+◌, ◌-◌, ℕ, zero, suc, Bool, true, false, cond, List, [], ◌∷◌, ◌++◌, Option, Some, None, IsSome, refl, sym, ap, subst, length, length-append, not, map, slice_get, option_map, ◌∙◌, ◌⊎◌, inl, inr, arith, eqb-true, eq-eqb}
+use Rattle.std.proofs.Common.{◌≡◌, ◌==◌, ◌<◌, ◌+◌, ◌-◌, ℕ, Bool, true, false, cond, List, [], ◌∷◌, ◌++◌, Option, Some, None, IsSome, refl, sym, ap, subst, length, length-append, not, map, slice_get, option_map, ◌∙◌, inl, inr, arith, eqb-true}
 use Rattle.std.specs.Option.{option_or}
 use Rattle.std.proofs.lemmas.Bool.{cases_lt}
 use Rattle.std.proofs.lemmas.Option.{none-some, same_Some}
@@ -224,9 +224,10 @@ module _ (f : Forest (Keyed Node)) (d : HasDistinctKeys f) where
         | under y u ↦
             let same : y ≡ x = same_Some y x (sym u.parent ∙ its) in
             let there = same_Some _ _ (sym (subst (λ k. spot None [] (seated [] [] f) k ≡ Some u.above) same u.spot) ∙ t.1.is) in
-            let row = roots-seated t.0.children (own_levels (the_seat t.0.label t.0.children t.0.after t.1.above t.1.earlier) ++ t.1.above) [] _ _ _ (sym (ap (λ (w : Spot Seat). roots w.children) there) ∙ u.siblings) in
-            (sym (ap (λ (w : Seat). w.above) s.3) ∙ row.0 ∙ ap (λ (w : Seat). own_levels w ++ w.above) t.3,
-             λ first. sym (ap (λ (w : Seat). w.earlier) s.3) ∙ row.1 (no-earlier q s.0 s.1 s.2 first))
+            let row = roots-seated t.0.children (own_levels (the_seat t.0.label t.0.children t.0.after t.1.above t.1.earlier) ++ t.1.above) [] _ _ _ (sym (ap (λ (w : Spot Seat). roots w.children) there) ∙ u.siblings) in (
+              sym (ap (λ (w : Seat). w.above) s.3) ∙ row.0 ∙ ap (λ (w : Seat). own_levels w ++ w.above) t.3,
+              λ first. sym (ap (λ (w : Seat). w.earlier) s.3) ∙ row.1 (no-earlier q s.0 s.1 s.2 first),
+            )
       ]
 
   -- a root has none
@@ -257,11 +258,15 @@ module _ (f : Forest (Keyed Node)) (d : HasDistinctKeys f) where
       let s = spot-seat q seat live is in
       let first = first-tree (after_of f q) k next in
       let after : s.0.after ≡ Tree first.0 first.1 first.2 = sym (rw s.2 refl) ∙ first.3 in
-      let row = spot-next (seated [] [] f) None [] q _ _ _ _ (distinct-seated f [] [] d) s.1.is (ap (seated s.1.above (own s.0.label s.0.children ++ s.1.earlier)) after) in
-      (first.0, first.1, first.2, sym (ap (λ (w : Seat). w.after) s.3) ∙ after,
-       ap (seat_of f) (sym first.4)
-       ∙ ap (option_map (λ (w : Spot Seat). w.label)) row
-       ∙ ap (λ (w : Seat). Some (the_seat first.0.label first.1 first.2 w.above (own w.node w.children ++ w.earlier))) s.3)
+      let row = spot-next (seated [] [] f) None [] q _ _ _ _ (distinct-seated f [] [] d) s.1.is (ap (seated s.1.above (own s.0.label s.0.children ++ s.1.earlier)) after) in (
+        first.0,
+        first.1,
+        first.2,
+        sym (ap (λ (w : Seat). w.after) s.3) ∙ after,
+        ap (seat_of f) (sym first.4)
+            ∙ ap (option_map (λ (w : Spot Seat). w.label)) row
+            ∙ ap (λ (w : Seat). Some (the_seat first.0.label first.1 first.2 w.above (own w.node w.children ++ w.earlier))) s.3,
+      )
 
 -- The seats of siblings, in either direction.
 

@@ -1,13 +1,13 @@
 -- What the links of a document say of where its elements stand.
-use Rattle.std.proofs.Common.{◌≡◌, ◌==◌, ◌<◌, ◌≤◌, ◌+◌, ℕ, zero, suc, Bool, true, false, not, List, [], ◌∷◌, ◌++◌, length, Option, Some, None, IsSome, option_and_then, option_map, map, refl, sym, ap, subst, ◌∙◌, inl, inr, arith, length-append}
+use Rattle.std.proofs.Common.{◌≡◌, ◌==◌, ◌<◌, ◌≤◌, ◌+◌, ℕ, Bool, true, false, not, List, [], ◌∷◌, ◌++◌, length, Option, Some, None, IsSome, option_and_then, option_map, map, refl, sym, ap, subst, ◌∙◌, inl, inr, arith, length-append}
 use Rattle.std.specs.Borrow.{Bor}
 use Rattle.std.specs.Prelude.{unwrap_or, is_some, option_copied}
 use Rattle.std.specs.Str.{chars}
-use Rattle.std.proofs.lemmas.Bool.{cases_lt}
+use Rattle.std.proofs.lemmas.Bool.Decides.{nat_tests}
 use Rattle.std.proofs.lemmas.Option.{none-some, same_Some}
 use Rattle.forest.specs.Forest.{Forest, Empty, Tree, size}
-use Rattle.forest.specs.Keys.{Keyed, times, HasDistinctKeys, without_keys}
-use Rattle.forest.specs.Spots.{Spot, keyed, spot, spot_of, root_keys, IsLive, label_of, parent_of, children_of, after_of, earlier_of}
+use Rattle.forest.specs.Keys.{Keyed, times, without_keys}
+use Rattle.forest.specs.Spots.{Spot, keyed, spot, spot_of, root_keys, IsLive, parent_of, children_of}
 use Rattle.forest.proofs.SpotLaws.{chosen, first_found, the_some, live-spot, live-counted, spot-some, weigh-spot}
 use Rattle.forest.proofs.PathLaws.{parent-live}
 use Rattle.forest.proofs.SiblingLaws.{keys-children}
@@ -17,10 +17,10 @@ use Rattle.plain_types.specs.declared.node.Node.TheVariants as node
 use Rattle.node_arena.specs.Document.{IsKeyedDocument}
 use Rattle.node_arena.specs.Nodes.{node_name, node_attrs, name_of, attrs_of}
 use Rattle.node_arena.proofs.EntryLaws.{one-tree}
-use Rattle.selector_match.specs.Elements.{Element, Level, Standing, element, elements, are_nothing, level_of, standing_of, ancestors, ancestors_in}
+use Rattle.selector_match.specs.Elements.{Element, Level, Standing, element, elements, are_nothing, level_of, standing_of, ancestors, ancestors_in, is_root}
 use Rattle.selector_match.specs.Positions.{siblings}
 use Rattle.selector_match.specs.Lookups.{IsElement, nowhere, standing_at, beside_of, IsBeside, IsElementBeside}
-use Rattle.selector_match.proofs.SeatLaws.{Seat, the_seat, seated, times-seated, elements-own, HasSeat, seat_of, seat-live, seat-stands, seat-child, seat-root, stand, stand_as, own, own_levels, onward, left_beside, IsSeatBeside, seat-beside, seat-alone, leaf-texts}
+use Rattle.selector_match.proofs.SeatLaws.{Seat, the_seat, seated, times-seated, elements-own, HasSeat, seat-live, seat-stands, seat-child, seat-root, stand, stand_as, own, own_levels, onward, left_beside, IsSeatBeside, seat-beside, seat-alone, leaf-texts}
 
 -- what was looked up has a name, or none
 pub is-named : (r : Option (Bor (List ℕ))) (named : Option (List ℕ)) → option_map chars (option_copied r) ≡ named → is_some r ≡ true → (name : List ℕ) × (named ≡ Some name)
@@ -264,3 +264,20 @@ module _ (f : Forest (Keyed Node)) (doc : IsKeyedDocument f) where
   siblings-few after q live some =
       let e = element-seat q live some in
       omega (arith, onward-few after q e.seat live e.has, ap length (siblings-at after q e))
+
+  some-ancestor : (above : List Level) (first : Standing) (rest : List Standing) → ancestors_in above ≡ first ∷ rest → (length above == 0) ≡ false
+  some-ancestor [] first rest is = absurd (cc)
+  some-ancestor (level ∷ above) first rest is = grind (arith, nat_tests)
+
+  -- an element is a root where it has no parent
+  pub root-test : (q : ℕ) (up : Option ℕ) (b : Bool) → IsLive f q → IsElement f q → up ≡ parent_of f q → is_some up ≡ not b → b ≡ is_root (standing_at f q)
+  root-test q None b live some is test = not-false b (sym test) ∙ sym (ap (λ (above : List Level). length above == 0) (root-alone q live some (sym is)))
+    where
+      not-false : (b : Bool) → not b ≡ false → b ≡ true
+      not-false true h = refl
+      not-false false h = absurd (cc)
+  root-test q (Some x) b live some is test = not-true b (sym test) ∙ sym (some-ancestor (standing_at f q).above _ _ (parent-ancestors q x live some (sym is)))
+    where
+      not-true : (b : Bool) → not b ≡ true → b ≡ false
+      not-true false h = refl
+      not-true true h = absurd (cc)

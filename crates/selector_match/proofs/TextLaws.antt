@@ -1,9 +1,9 @@
 -- Texts as bytes and as characters.
-use Rattle.std.proofs.Common.{◌≡◌, ◌==◌, ℕ, Bool, true, false, List, [], ◌∷◌, length, Option, Some, None, option_map, refl, sym, ap, ◌∙◌, arith}
+use Rattle.std.proofs.Common.{◌≡◌, ◌==◌, ℕ, false, List, [], ◌∷◌, length, Option, Some, None, option_map, refl, sym, ap, ◌∙◌, arith}
 use Rattle.std.proofs.lemmas.Bool.Decides.{nat_tests}
 use Rattle.std.specs.Borrow.{Bor}
 use Rattle.std.specs.Option.{option_eq, option_map_or}
-use Rattle.std.specs.Prelude.{option_copied, encode_utf8_all}
+use Rattle.std.specs.Prelude.{option_copied, encode_utf8_all, codes}
 use Rattle.std.specs.Str.{chars, bytes_eq}
 use Rattle.std.proofs.lemmas.Option.{none-some, same_Some}
 use Rattle.std.proofs.lemmas.Str.{chars-nil}
@@ -24,7 +24,7 @@ same-names (Some m) (Some n) x y a b read_x written_x is_x read_y written_y is_y
 not-none : (x : ℕ) (xs : List ℕ) → (length (x ∷ xs) == 0) ≡ false
 not-none x xs = grind (arith, nat_tests)
 
-no-bytes : (bytes characters : List ℕ) → chars bytes ≡ characters → bytes ≡ encode_utf8_all characters → (length bytes == 0) ≡ (length characters == 0)
+pub no-bytes : (bytes characters : List ℕ) → chars bytes ≡ characters → bytes ≡ encode_utf8_all characters → (length bytes == 0) ≡ (length characters == 0)
 no-bytes [] characters read written = ap (λ cs. length cs == 0) (sym chars-nil ∙ read)
 no-bytes (byte ∷ bytes) [] read written = absurd (cc)
 no-bytes (byte ∷ bytes) (c ∷ cs) read written = not-none byte bytes ∙ sym (not-none c cs)
@@ -33,3 +33,11 @@ no-bytes (byte ∷ bytes) (c ∷ cs) read written = not-none byte bytes ∙ sym 
 pub no-characters : (bytes : List ℕ) (o : Option (List ℕ)) → Some (chars bytes) ≡ o → Some bytes ≡ option_map encode_utf8_all o → (length bytes == 0) ≡ option_map_or (λ cs. length cs == 0) o false
 no-characters bytes None read written = absurd (none-some (chars bytes) (sym read))
 no-characters bytes (Some characters) read written = no-bytes bytes characters (same_Some _ _ read) (same_Some _ _ written)
+
+pub id-characters : chars (105 ∷ 100 ∷ []) ≡ codes "id"
+unfolding chars
+id-characters = refl
+
+pub class-characters : chars (99 ∷ 108 ∷ 97 ∷ 115 ∷ 115 ∷ []) ≡ codes "class"
+unfolding chars
+class-characters = refl

@@ -3,3 +3,4 @@ pub mod Attributes
 pub mod Positions
 pub mod Matching
 pub mod Lookups
+pub mod Runs

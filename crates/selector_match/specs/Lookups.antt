@@ -1,10 +1,10 @@
 -- Where the element of a key stands. Of a key that no element has this says nothing.
-use Rattle.std.specs.Prelude.{◌≡◌, ℕ, Bool, true, false, not, Option, List, [], ◌∷◌, IsSome, unwrap_or}
+use Rattle.std.specs.Prelude.{◌≡◌, ℕ, Bool, true, false, not, Option, [], ◌∷◌, IsSome, unwrap_or}
 use Rattle.forest.specs.Forest.{Forest}
 use Rattle.forest.specs.Keys.{Keyed}
 use Rattle.forest.specs.Spots.{IsLive, next_sibling_of, previous_sibling_of}
 use Rattle.plain_types.specs.declared.node.Node.{Node}
-use Rattle.selector_match.specs.Elements.{Element, Standing, standing_of}
+use Rattle.selector_match.specs.Elements.{Standing, standing_of}
 use Rattle.selector_match.specs.Positions.{siblings}
 
 -- an element of the document has this key

@@ -9,7 +9,8 @@ use Rattle.selector_match.specs.Elements.{Element, Level}
 abbrev pub nth_position : ℤ → ℤ → ℕ → ℤ
 nth_position a b n = (a *ℤ pos n) +ℤ b
 
--- `an+b` gives this position for some n; past the position and the size of b none can
+-- `an+b` gives this position for some n; no n beyond the sum of the position and the size of b gives it
+-- where none up to there does
 abbrev pub is_nth : ℤ → ℤ → ℕ → Bool
 is_nth a b position = list_any (λ n. int_eq (nth_position a b n) (pos position)) (range_with_len 0 (position + unsigned_abs b + 1))
 

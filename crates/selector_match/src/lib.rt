@@ -1,4 +1,8 @@
 //! Which elements a selector matches (Selectors 4).
 #![tactic(auto)]
 
+mod attributes;
+mod compounds;
+pub mod matching;
 mod neighbours;
+mod positions;

@@ -1,4 +1,4 @@
-use Rattle.std.proofs.Common.{sym, ap, subst, ◌∙◌, ◌≡◌, arith}
+use Rattle.std.proofs.Common.{sym, ap, subst, ◌∙◌, arith}
 use Rattle.forest.specs.Forest.{size}
 use Rattle.forest.specs.Keys.{without_keys}
 use Rattle.forest.specs.Spots.{IsLive, IsLink, on_link}
@@ -11,8 +11,8 @@ pub children-init : goal.children-init
 children-init c = record {
   link = c.first_child-child.ensures.live;
   nothing =
-    ap (λ link. are_nothing (without_keys (on_link c.args.arena.now.tree link))) c.first_child-child.ensures.link
-    ∙ ap (λ g. are_nothing (without_keys g)) (on_first c.args.arena.now.tree c.args.key c.root-root.ensures.document.distinct c.requires).0;
+      ap (λ link. are_nothing (without_keys (on_link c.args.arena.now.tree link))) c.first_child-child.ensures.link
+      ∙ ap (λ g. are_nothing (without_keys g)) (on_first c.args.arena.now.tree c.args.key c.root-root.ensures.document.distinct c.requires).0;
 }
 
 pub children-smaller : goal.children-smaller
@@ -31,10 +31,10 @@ children-preserved c =
     record {
       link = c.next_sibling-child.ensures.live;
       nothing =
-        ap (λ link. are_nothing (without_keys (on_link tree link))) c.next_sibling-child.ensures.link
-        ∙ nothing tree c.in-Some.at live c.root-root.ensures.document.distinct (sym c.is_nothing.ensures ∙ c.if-not-is_nothing.false)
-        ∙ sym (ap (λ link. are_nothing (without_keys (on_link tree link))) c.in-Some.is)
-        ∙ c.children.invariant.nothing;
+          ap (λ link. are_nothing (without_keys (on_link tree link))) c.next_sibling-child.ensures.link
+          ∙ nothing tree c.in-Some.at live c.root-root.ensures.document.distinct (sym c.is_nothing.ensures ∙ c.if-not-is_nothing.false)
+          ∙ sym (ap (λ link. are_nothing (without_keys (on_link tree link))) c.in-Some.is)
+          ∙ c.children.invariant.nothing;
     }
 
 pub returns-then-not-is_nothing : goal.returns-then-not-is_nothing
