@@ -1,0 +1,6 @@
+pub mod Elements
+pub mod Attributes
+pub mod Positions
+pub mod Matching
+pub mod Lookups
+pub mod Runs
