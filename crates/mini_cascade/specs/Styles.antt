@@ -17,11 +17,13 @@ use Rattle.mini_cascade.specs.Properties.{Definition, display, content, counter_
 use Rattle.mini_cascade.specs.Ranks.{is_below}
 use Rattle.mini_cascade.specs.declared.specificity.Specificity.{Specificity}
 
+abbrev pub is_weaker : Applied → Applied → Bool
+is_weaker a b = is_below a.rank b.rank
+
 module _ (all : List Applied) where
   -- 4.2: the cascaded value of a property is what the greatest of its declarations says
   abbrev pub cascaded : {Value : Type 0} → Definition Value → Option (Said Value)
-  cascaded property =
-      greatest (λ (a b : Applied). is_below a.rank b.rank) (filter (λ (a : Applied). is_some (property.said_by a.what)) all) then λ winner. property.said_by winner.what
+  cascaded property = greatest is_weaker (filter (λ (a : Applied). is_some (property.said_by a.what)) all) then λ winner. property.said_by winner.what
 
   -- 4.3: the specified value, where the parent has this style
   abbrev pub specified : {Value : Type 0} → Style → Definition Value → Value

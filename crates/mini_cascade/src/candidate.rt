@@ -1,10 +1,10 @@
 //! Declarations that apply, and the greatest of them.
 
-ghost use Rattle.std.specs.Prelude.{◌≡◌, Bool, map, filter, option_map, option_copied, is_some};
-ghost use Rattle.mini_cascade.specs.Candidates.{applied_of, is_below_applied, applied_in};
-ghost use Rattle.mini_cascade.specs.Greatest.{greatest};
+ghost use Rattle.std.specs.Prelude.{◌≡◌, Bool, map, filter, option_map, option_copied, is_some, Some};
+ghost use Rattle.mini_cascade.specs.Candidates.{applied_of, applied_in};
+ghost use Rattle.mini_cascade.specs.Greatest.{greater, greatest};
 ghost use Rattle.mini_cascade.specs.Declarations.{Applied};
-ghost use Rattle.mini_cascade.specs.Styles.{cascaded};
+ghost use Rattle.mini_cascade.specs.Styles.{is_weaker, cascaded};
 
 use crate::property::Property;
 use crate::rank::{Rank, is_below};
@@ -17,23 +17,30 @@ pub(crate) struct Candidate<'a> {
     pub(crate) what: &'a Declaration,
 }
 
-/// The declaration that holds for a property: the greatest of its declarations, of equals the last.
+/// The greater of a declaration that may be missing and of one after it.
+fn greater<'a>(held: Option<Candidate<'a>>, later: Candidate<'a>) -> Candidate<'a>
+    ensures { Some (applied_of result) ≡ greater is_weaker (option_map applied_of held.entry) (Some (applied_of later.entry)) }
+{
+    match held {
+        Some(held) if is_below(&later.rank, &held.rank) => held,
+        _ => later,
+    }
+}
+
+/// The greatest declaration of a property.
 pub(crate) fn winner<'a, V, P: Property<V>>(candidates: &[Candidate<'a>]) -> Option<Candidate<'a>>
-    ensures { option_map applied_of result ≡ greatest is_below_applied (filter (λ (a : Applied). is_some (P.definition.said_by a.what)) (applied_in candidates.now)) }
+    ensures { option_map applied_of result ≡ greatest is_weaker (filter (λ (a : Applied). is_some (P.definition.said_by a.what)) (applied_in candidates.now)) }
 {
     let mut best: Option<Candidate<'a>> = None;
     for candidate in candidates {
         if P::said(candidate.what).is_some() {
-            best = match best {
-                Some(held) if is_below(&candidate.rank, &held.rank) => Some(held),
-                _ => Some(*candidate),
-            };
+            best = Some(greater(best, *candidate));
         }
     }
     best
 }
 
-/// What the winner says of a property.
+/// What the greatest declaration of a property says.
 pub(crate) fn cascaded<'a, V, P: Property<V>>(candidates: &[Candidate<'a>]) -> Option<&'a Said<V>>
     ensures { option_copied result ≡ cascaded (applied_in candidates.now) P.definition }
 {

@@ -1,0 +1,3 @@
+pub mod GreatestLaws
+pub mod Ordering
+pub mod Winning
