@@ -1,3 +1,4 @@
+pub mod Ascii
 pub mod GreatestLaws
 pub mod Ordering
 pub mod Winning

@@ -22,43 +22,41 @@ use Rattle.definitions.specs.Words.{is_word}
 use Rattle.css_tokens.specs.Numbers.{sign_at, digits_at, saturated}
 use Rattle.node_arena.specs.Nodes.{value_of, name_of, attrs_of}
 
--- HTML, 2.3.4.1, the rules for parsing integers: ASCII whitespace is passed over, then an optional sign
+-- HTML, 2.3.4.1, the rules for parsing integers: ASCII whitespace is passed over, then stand an optional sign
 -- and one digit or more; what follows does not count. Our own: the integer is the nearest count.
+abbrev pub past_whitespace : List ℕ → List ℕ
+past_whitespace text = (span is_ascii_whitespace text).1
+
 abbrev pub digits_after : Bool × List ℕ → Option ℤ
 digits_after sign = digits_at sign.1 then λ digits. Some (saturated sign.0 (digits_value 10 digits.0))
 
-unfoldable pub integer_in : List ℕ → Option ℤ
-integer_in text = digits_after (sign_at (span is_ascii_whitespace text).1)
+abbrev pub integer_in : List ℕ → Option ℤ
+integer_in text = digits_after (sign_at (past_whitespace text))
 
-module _ (attrs : List Attr) where
-  abbrev pub has_attr : List ℕ → Bool
-  has_attr name = is_some (value_of name attrs)
+-- the integer that an attribute has
+abbrev pub integer_attr : List ℕ → List Attr → Option ℤ
+integer_attr name attrs = value_of name attrs then integer_in
 
-  -- the integer that an attribute has
-  abbrev pub integer_attr : List ℕ → Option ℤ
-  integer_attr name = value_of name attrs then integer_in
-
--- CSS Lists 3, Appendix A: `ol[start]`, `ol[reversed]` and `ol[reversed][start]`; the start is told by its
--- number. The number is that of the first item, so the counter begins one step before it.
+-- CSS Lists 3, Appendix A: `ol[start]`, `ol[reversed]` and `ol[reversed][start]`. The start is the number of
+-- the first item, so the counter begins one step before it. Our own: a start that is no integer is none.
 abbrev pub list_reset : Bool → Option ℤ → ResetOp
 list_reset reversed value = record { name = codes "list-item"; reversed = reversed; value = value }
 
-abbrev pub start_reset : (reversed : Bool) (start : Option ℤ) → Option ResetOp
+abbrev pub start_reset : Bool → Option ℤ → Option ResetOp
 start_reset false None = None
 start_reset false (Some start) = Some (list_reset false (Some (count_sum start (neg_ℤ (pos 1)))))
 start_reset true None = Some (list_reset true None)
 start_reset true (Some start) = Some (list_reset true (Some (count_sum start (pos 1))))
 
-abbrev pub start_hints : List Attr → List Declaration
-start_hints attrs =
-    option_to_list (start_reset (has_attr attrs (codes "reversed")) (integer_attr attrs (codes "start")) then λ reset. Some (declaration.Resets (Value (reset ∷ []))))
+abbrev pub start_hint : List Attr → Option Declaration
+start_hint attrs = start_reset (is_some (value_of (codes "reversed") attrs)) (integer_attr (codes "start") attrs) then λ reset. Some (declaration.Resets (Value (reset ∷ [])))
 
 -- CSS Lists 3, Appendix A: `li[value]`
-abbrev pub list_item_set : ℤ → CounterOp
-list_item_set value = record { name = codes "list-item"; value = value }
+abbrev pub item_value : ℤ → CounterOp
+item_value value = record { name = codes "list-item"; value = value }
 
-abbrev pub value_hints : List Attr → List Declaration
-value_hints attrs = option_to_list (integer_attr attrs (codes "value") then λ value. Some (declaration.Assigns (Value (list_item_set value ∷ []))))
+abbrev pub value_hint : List Attr → Option Declaration
+value_hint attrs = integer_attr (codes "value") attrs then λ value. Some (declaration.Assigns (Value (item_value value ∷ [])))
 
 -- HTML, 15.3.7: the types of numbered lists, compared as written
 abbrev pub numbering : List ℕ → Option StyleRef
@@ -77,20 +75,20 @@ bullet type =
     else (if is_word type (codes "circle") then Some (style_ref.Name (codes "circle"))
     else (if is_word type (codes "square") then Some (style_ref.Name (codes "square")) else None)))
 
-abbrev pub numbering_or_bullet : List ℕ → Option StyleRef
-numbering_or_bullet type = numbering type otherwise bullet type
+-- the style of a type, where those of numbered lists count, or those of others
+abbrev pub type_style : Bool → Bool → List ℕ → Option StyleRef
+type_style numbered bulleted type = (if numbered then numbering type else None) otherwise (if bulleted then bullet type else None)
 
--- the type of a list or an item, where these are the types that count for it
-abbrev pub type_hints : (List ℕ → Option StyleRef) → List Attr → List Declaration
-type_hints style_of attrs =
-    option_to_list (value_of (codes "type") attrs then λ type. style_of type then λ style. Some (declaration.ListStyle (Value (list_type.Style style))))
+abbrev pub type_hint : Bool → Bool → List Attr → Option Declaration
+type_hint numbered bulleted attrs =
+    value_of (codes "type") attrs then λ type. type_style numbered bulleted type then λ style. Some (declaration.ListStyle (Value (list_type.Style style)))
 
--- the hints of an element of this name with these attributes
+-- the hints of an element of this name with these attributes; there is at most one for a property
 abbrev pub hints : List ℕ → List Attr → List Declaration
 hints name attrs =
-    if bytes_eq name (codes "ol") then start_hints attrs ++ type_hints numbering attrs
-    else (if bytes_eq name (codes "ul") then type_hints bullet attrs
-    else (if bytes_eq name (codes "li") then value_hints attrs ++ type_hints numbering_or_bullet attrs
+    if bytes_eq name (codes "ol") then option_to_list (start_hint attrs) ++ option_to_list (type_hint true false attrs)
+    else (if bytes_eq name (codes "ul") then option_to_list (type_hint false true attrs)
+    else (if bytes_eq name (codes "li") then option_to_list (value_hint attrs) ++ option_to_list (type_hint true true attrs)
     else []))
 
 -- the hints of a node; a text has none

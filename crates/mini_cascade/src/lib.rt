@@ -2,6 +2,9 @@
 #![tactic(auto)]
 
 mod candidate;
-pub mod property;
-pub mod rank;
-pub mod specificity;
+mod defaulting;
+pub mod hints;
+mod property;
+mod rank;
+mod specificity;
+mod texts;

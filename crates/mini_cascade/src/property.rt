@@ -1,8 +1,8 @@
 //! The properties that make generated texts.
 
-ghost use Rattle.std.specs.Prelude.{◌≡◌, option_copied};
+ghost use Rattle.std.specs.Prelude.{◌≡◌, option_copied, refl};
 ghost use Rattle.mini_cascade.specs.Properties as properties;
-ghost use Rattle.mini_cascade.specs.Properties.{Definition};
+ghost use Rattle.mini_cascade.specs.Properties.{Definition, initial_style};
 
 use plain_types::content::Content;
 use plain_types::declaration::{Declaration, Said};
@@ -24,6 +24,8 @@ pub(crate) trait Property<V> {
     /// Whether a value is inherited where none is declared.
     fn is_inherited() -> bool
         ensures { result ≡ definition.is_inherited };
+
+    ghost is_initial: { definition.initial ≡ definition.value_in initial_style };
 }
 
 /// `display`.
@@ -31,6 +33,8 @@ pub(crate) struct DisplayProperty;
 
 impl Property<Display> for DisplayProperty {
     ghost definition = { properties.display };
+
+    ghost is_initial = { refl };
 
     fn said(what: &Declaration) -> Option<&Said<Display>> {
         match what {
@@ -54,6 +58,8 @@ pub(crate) struct ContentProperty;
 impl Property<Content> for ContentProperty {
     ghost definition = { properties.content };
 
+    ghost is_initial = { refl };
+
     fn said(what: &Declaration) -> Option<&Said<Content>> {
         match what {
             Declaration::Content(said) => Some(said),
@@ -75,6 +81,8 @@ pub(crate) struct CounterReset;
 
 impl Property<List<ResetOp>> for CounterReset {
     ghost definition = { properties.counter_reset };
+
+    ghost is_initial = { refl };
 
     fn said(what: &Declaration) -> Option<&Said<List<ResetOp>>> {
         match what {
@@ -98,6 +106,8 @@ pub(crate) struct CounterIncrement;
 impl Property<List<CounterOp>> for CounterIncrement {
     ghost definition = { properties.counter_increment };
 
+    ghost is_initial = { refl };
+
     fn said(what: &Declaration) -> Option<&Said<List<CounterOp>>> {
         match what {
             Declaration::Increments(said) => Some(said),
@@ -119,6 +129,8 @@ pub(crate) struct CounterSet;
 
 impl Property<List<CounterOp>> for CounterSet {
     ghost definition = { properties.counter_set };
+
+    ghost is_initial = { refl };
 
     fn said(what: &Declaration) -> Option<&Said<List<CounterOp>>> {
         match what {
@@ -142,6 +154,8 @@ pub(crate) struct ListStyleType;
 impl Property<ListType> for ListStyleType {
     ghost definition = { properties.list_style_type };
 
+    ghost is_initial = { refl };
+
     fn said(what: &Declaration) -> Option<&Said<ListType>> {
         match what {
             Declaration::ListStyle(said) => Some(said),
@@ -163,6 +177,8 @@ pub(crate) struct QuotesProperty;
 
 impl Property<Quotes> for QuotesProperty {
     ghost definition = { properties.quotes };
+
+    ghost is_initial = { refl };
 
     fn said(what: &Declaration) -> Option<&Said<Quotes>> {
         match what {

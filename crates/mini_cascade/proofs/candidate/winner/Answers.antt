@@ -21,11 +21,11 @@ loop-candidate-preserved g c =
     let tested : test c.candidate-item.result ≡ c.is_some.result = ap is_some (sym c.said.ensures) ∙ is_some-copied c.said.result ∙ sym c.is_some.ensures in
     elim c.if-is_some.branch [
       | then-is_some w ↦
-        rw w.best-is (picked is_weaker declaration_order test applied_of chosen (λ first rest. refl)
-        c.args.candidates.now c.loop-candidate.candidate-index c.candidate-item.result _ _ c.loop-candidate-test.true c.candidate-item.is
-        (tested ∙ w.if-is_some.true) w.greater.ensures c.loop-candidate.invariant)
+          rw w.best-is (picked is_weaker declaration_order test applied_of chosen (λ first rest. refl)
+          c.args.candidates.now c.loop-candidate.candidate-index c.candidate-item.result _ _ c.loop-candidate-test.true c.candidate-item.is
+          (tested ∙ w.if-is_some.true) w.greater.ensures c.loop-candidate.invariant)
       | else-is_some w ↦
-        rw w.best-is (passed is_weaker declaration_order test applied_of chosen (λ first rest. refl)
-        c.args.candidates.now c.loop-candidate.candidate-index c.candidate-item.result _ c.loop-candidate-test.true c.candidate-item.is
-        (tested ∙ w.if-is_some.false) c.loop-candidate.invariant)
+          rw w.best-is (passed is_weaker declaration_order test applied_of chosen (λ first rest. refl)
+          c.args.candidates.now c.loop-candidate.candidate-index c.candidate-item.result _ c.loop-candidate-test.true c.candidate-item.is
+          (tested ∙ w.if-is_some.false) c.loop-candidate.invariant)
     ]
