@@ -1,3 +1,4 @@
+pub mod Appending
 pub mod Ascii
 pub mod GreatestLaws
 pub mod Ordering

@@ -2,19 +2,20 @@
 use Rattle.std.proofs.Common.{◌≡◌, ℕ, Bool, true, false, ◌&&◌, ◌||◌, ◌==◌, nat_lt, arith}
 use Rattle.std.proofs.lemmas.Bool.Decides.{nat_tests}
 use Rattle.mini_cascade.specs.Declarations.{Applied}
-use Rattle.mini_cascade.specs.Ranks.{is_less_specific, place_of, is_below}
+use Rattle.mini_cascade.specs.Ranks.{place_of, is_below}
+use Rattle.mini_cascade.specs.Specificity.{is_less}
 use Rattle.mini_cascade.specs.Styles.{is_weaker}
 use Rattle.mini_cascade.specs.declared.rank.Rank.{Rank}
 use Rattle.mini_cascade.specs.declared.specificity.Specificity.{Specificity}
 use Rattle.mini_cascade.proofs.GreatestLaws.{IsOrder}
 
-less_specific : (a b c : Specificity) → is_less_specific a b ≡ true → is_less_specific b c ≡ true → is_less_specific a c ≡ true
+less_specific : (a b c : Specificity) → is_less a b ≡ true → is_less b c ≡ true → is_less a c ≡ true
 less_specific a b c h k = grind (arith, nat_tests)
 
-not_less_specific : (a b c : Specificity) → is_less_specific a b ≡ false → is_less_specific b c ≡ false → is_less_specific a c ≡ false
+not_less_specific : (a b c : Specificity) → is_less a b ≡ false → is_less b c ≡ false → is_less a c ≡ false
 not_less_specific a b c h k = grind (arith, nat_tests)
 
-pub specificity_order : IsOrder is_less_specific
+pub specificity_order : IsOrder is_less
 specificity_order = record { less = less_specific; not_less = not_less_specific }
 
 -- first by numbers, and where they are equal by an answer
@@ -28,12 +29,12 @@ then_not_less p q r ab bc ac not_less h k = grind (arith, nat_tests)
 
 below : (a b c : Rank) → is_below a b ≡ true → is_below b c ≡ true → is_below a c ≡ true
 below a b c h k =
-    then_less (place_of a.level) (place_of b.level) (place_of c.level) _ _ (is_less_specific a.specificity c.specificity)
+    then_less (place_of a.level) (place_of b.level) (place_of c.level) _ _ (is_less a.specificity c.specificity)
     (less_specific a.specificity b.specificity c.specificity) h k
 
 not_below : (a b c : Rank) → is_below a b ≡ false → is_below b c ≡ false → is_below a c ≡ false
 not_below a b c h k =
-    then_not_less (place_of a.level) (place_of b.level) (place_of c.level) _ _ (is_less_specific a.specificity c.specificity)
+    then_not_less (place_of a.level) (place_of b.level) (place_of c.level) _ _ (is_less a.specificity c.specificity)
     (not_less_specific a.specificity b.specificity c.specificity) h k
 
 pub declaration_order : IsOrder is_weaker

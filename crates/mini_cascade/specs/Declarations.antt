@@ -16,7 +16,8 @@ use Rattle.plain_types.specs.declared.sheet.StyleRule.{StyleRule}
 use Rattle.selector_match.specs.Matching.{matches}
 use Rattle.mini_cascade.specs.Greatest.{greatest}
 use Rattle.mini_cascade.specs.Hints.{hints_of}
-use Rattle.mini_cascade.specs.Ranks.{is_less_specific, level_of}
+use Rattle.mini_cascade.specs.Specificity.{is_less, specificity}
+use Rattle.mini_cascade.specs.Ranks.{level_of}
 use Rattle.mini_cascade.specs.declared.rank.Level.TheVariants as level
 use Rattle.mini_cascade.specs.declared.rank.Origin.{Origin}
 use Rattle.mini_cascade.specs.declared.rank.Origin.TheVariants as origin
@@ -60,21 +61,19 @@ abbrev pub hinted : PseudoElement → List Declaration → List Applied
 hinted Own hints = map (ranked hint_rank) hints
 hinted _ hints = []
 
--- what the specificities of selectors are
-module _ (specificity : Selector → Specificity) where
-  module _ (tree : Forest (Keyed Node)) (key : ℕ) (pseudo : PseudoElement) where
-    -- CSS Cascade 5, 5: the selector selects the element, or its pseudo-element
-    abbrev pub selects : Selector → Bool
-    selects selector = is_same selector.pseudo pseudo && matches tree key selector
+module _ (tree : Forest (Keyed Node)) (key : ℕ) (pseudo : PseudoElement) where
+  -- CSS Cascade 5, 5: the selector selects the element, or its pseudo-element
+  abbrev pub selects : Selector → Bool
+  selects selector = is_same selector.pseudo pseudo && matches tree key selector
 
-    -- Selectors 4, 15: of the selectors of a rule that match the most specific one counts
-    abbrev pub specificity_in : StyleRule → Option Specificity
-    specificity_in rule = greatest is_less_specific (map specificity (filter selects rule.selectors))
+  -- Selectors 4, 15: of the selectors of a rule that match the most specific one counts
+  abbrev pub specificity_in : StyleRule → Option Specificity
+  specificity_in rule = greatest is_less (map specificity (filter selects rule.selectors))
 
-    -- a rule without a selector that matches declares nothing
-    abbrev pub declared_in : Origin → StyleRule → List Applied
-    declared_in origin rule = unwrap_or (option_map (declared_with pseudo origin rule.declared) (specificity_in rule)) []
+  -- a rule without a selector that matches declares nothing
+  abbrev pub declared_in : Origin → StyleRule → List Applied
+  declared_in origin rule = unwrap_or (option_map (declared_with pseudo origin rule.declared) (specificity_in rule)) []
 
-    abbrev pub applied : Sheet → Sheet → List Applied
-    applied agent author =
-        flat_map (declared_in origin.UserAgent) agent.rules ++ (hinted pseudo (hints_of tree key) ++ flat_map (declared_in origin.Author) author.rules)
+  abbrev pub applied : Sheet → Sheet → List Applied
+  applied agent author =
+      flat_map (declared_in origin.UserAgent) agent.rules ++ (hinted pseudo (hints_of tree key) ++ flat_map (declared_in origin.Author) author.rules)

@@ -1,3 +1,4 @@
+pub mod Specificity
 pub mod Greatest
 pub mod Ranks
 pub mod Properties

@@ -5,12 +5,7 @@ use Rattle.mini_cascade.specs.declared.rank.Level.TheVariants as level
 use Rattle.mini_cascade.specs.declared.rank.Origin.{Origin}
 use Rattle.mini_cascade.specs.declared.rank.Origin.TheVariants as origin
 use Rattle.mini_cascade.specs.declared.rank.Rank.{Rank}
-use Rattle.mini_cascade.specs.declared.specificity.Specificity.{Specificity}
-
--- Selectors 4, 15: specificities are compared by their ids, then by their classes, then by their types
-abbrev pub is_less_specific : Specificity → Specificity → Bool
-is_less_specific a b =
-    nat_lt a.ids b.ids || (a.ids == b.ids && (nat_lt a.classes b.classes || (a.classes == b.classes && nat_lt a.types b.types)))
+use Rattle.mini_cascade.specs.Specificity.{is_less}
 
 -- CSS Cascade 5, 6.1 and 6.3: normal declarations of the user agent, then normal ones of the author, then
 -- important ones. Our own: nothing is important in the sheet of the user agent.
@@ -26,4 +21,4 @@ place_of level.Important = 2
 
 -- CSS Cascade 5, 6.1: by origin and importance, then by specificity
 abbrev pub is_below : Rank → Rank → Bool
-is_below a b = nat_lt (place_of a.level) (place_of b.level) || (place_of a.level == place_of b.level && is_less_specific a.specificity b.specificity)
+is_below a b = nat_lt (place_of a.level) (place_of b.level) || (place_of a.level == place_of b.level && is_less a.specificity b.specificity)

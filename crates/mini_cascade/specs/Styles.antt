@@ -4,7 +4,6 @@ use Rattle.forest.specs.Forest.{Forest}
 use Rattle.forest.specs.Keys.{Keyed}
 use Rattle.plain_types.specs.declared.declaration.Said.{Said}
 use Rattle.plain_types.specs.declared.node.Node.{Node}
-use Rattle.plain_types.specs.declared.selector.Selector.{Selector}
 use Rattle.plain_types.specs.declared.selector_parts.PseudoElement.{PseudoElement}
 use Rattle.plain_types.specs.declared.selector_parts.PseudoElement.TheVariants.{Own, Marker, Before, After}
 use Rattle.plain_types.specs.declared.sheet.Sheet.{Sheet}
@@ -15,7 +14,6 @@ use Rattle.mini_cascade.specs.Declarations.{Applied, applied}
 use Rattle.mini_cascade.specs.Greatest.{greatest}
 use Rattle.mini_cascade.specs.Properties.{Definition, display, content, counter_reset, counter_increment, counter_set, list_style_type, quotes, initial_style, specified_value}
 use Rattle.mini_cascade.specs.Ranks.{is_below}
-use Rattle.mini_cascade.specs.declared.specificity.Specificity.{Specificity}
 
 abbrev pub is_weaker : Applied → Applied → Bool
 is_weaker a b = is_below a.rank b.rank
@@ -40,11 +38,10 @@ module _ (all : List Applied) where
     quotes = specified parent quotes;
   }
 
-module _ (specificity : Selector → Specificity)
-    (tree : Forest (Keyed Node)) (agent author : Sheet) (key : ℕ) where
+module _ (tree : Forest (Keyed Node)) (agent author : Sheet) (key : ℕ) where
   -- the style of the element or of one of its pseudo-elements, where its parent has this style
   abbrev pub box_style : PseudoElement → Style → Style
-  box_style pseudo parent = style_under (applied specificity tree key pseudo agent author) parent
+  box_style pseudo parent = style_under (applied tree key pseudo agent author) parent
 
   -- the parent of a pseudo-element is its element
   abbrev pub with_pseudo_elements : Style → ElementStyle

@@ -1,7 +1,7 @@
 //! What decides between two declarations of a property.
 
 ghost use Rattle.std.specs.Prelude.{◌≡◌};
-ghost use Rattle.mini_cascade.specs.Ranks.{is_less_specific, level_of, is_below};
+ghost use Rattle.mini_cascade.specs.Ranks.{level_of, is_below};
 
 use crate::specificity::Specificity;
 
@@ -39,23 +39,10 @@ pub(crate) fn level_of(origin: Origin, important: bool) -> Level
     }
 }
 
-/// Whether the first specificity is less than the second.
-pub(crate) fn is_less_specific(first: &Specificity, second: &Specificity) -> bool
-    ensures { result ≡ is_less_specific first.now second.now }
-{
-    if first.ids != second.ids {
-        return first.ids < second.ids;
-    }
-    if first.classes != second.classes {
-        return first.classes < second.classes;
-    }
-    first.types < second.types
-}
-
 /// Whether the first rank is below the second.
 pub(crate) fn is_below(first: &Rank, second: &Rank) -> bool
     ensures { result ≡ is_below first.now second.now }
 {
     let (lower, higher) = (first.level as u8, second.level as u8);
-    lower < higher || (lower == higher && is_less_specific(&first.specificity, &second.specificity))
+    lower < higher || (lower == higher && first.specificity.is_less(second.specificity))
 }

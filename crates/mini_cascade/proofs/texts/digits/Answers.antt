@@ -15,9 +15,9 @@ digits-preserved c =
     let digit : is_digit c.in-Some.first ≡ true = sym c.is_ascii_digit.ensures.value ∙ c.if-not-is_ascii_digit.false in
     let value : c.from.result - c.from-in-Some.result ≡ digit_value c.in-Some.first = rw (c.from.ensures, c.from-in-Some.ensures) (value_of_digit c.in-Some.first digit) in
     let next =
-      c.saturating_add-number.ensures
-      ∙ ap (λ (more : ℕ). min (c.saturating_mul.result + more) (2 ^ 64 - 1)) value
-      ∙ ap (λ (ten : ℕ). min (ten + digit_value c.in-Some.first) (2 ^ 64 - 1)) c.saturating_mul.ensures in
+    c.saturating_add-number.ensures
+    ∙ ap (λ (more : ℕ). min (c.saturating_mul.result + more) (2 ^ 64 - 1)) value
+    ∙ ap (λ (ten : ℕ). min (ten + digit_value c.in-Some.first) (2 ^ 64 - 1)) c.saturating_mul.ensures in
     record {
       utf8 = c.in-Some.ensures.text;
       counts = decimal_more _ _ _ c.in-Some.first _ _ c.digits.invariant.counts c.in-Some.ensures.chars digit next;
