@@ -2,9 +2,10 @@
 
 ghost use Rattle.std.specs.Prelude.{◌≡◌, ◌+◌, IfOk, option_copied};
 ghost use Rattle.forest.specs.Spots.{IsLive};
+ghost use Rattle.mini_cascade.specs.Candidates.{styles_from};
 ghost use Rattle.mini_cascade.specs.Styles.{element_style};
 
-use crate::applicable::collect;
+use crate::applicable::{Applicable, collect};
 use crate::defaulting::{initial_style, style_under};
 use crate::hints::hints;
 use node_arena::arena::Arena;
@@ -14,6 +15,28 @@ use plain_types::style::{ElementStyle, Style};
 use std::alloc::Global;
 use std::sync::ledger::Ledger;
 use steps::Steps;
+
+/// The styles that the declarations in these lists give.
+fn styles_from<'a>(
+    alloc: Global,
+    lists: &Applicable<'a>,
+    parent: Option<&'a Style>,
+) -> Result<ElementStyle, Memory>
+    ensures { IfOk result (λ style. style ≡ styles_from lists.now (option_copied parent.entry)) }
+{
+    let initial = initial_style(alloc)?;
+    let above = parent.unwrap_or(&initial);
+    let own = style_under(alloc, lists.own.as_slice(), above, &initial)?;
+    let marker = style_under(alloc, lists.marker.as_slice(), &own, &initial)?;
+    let before = style_under(alloc, lists.before.as_slice(), &own, &initial)?;
+    let after = style_under(alloc, lists.after.as_slice(), &own, &initial)?;
+    Ok(ElementStyle {
+        own,
+        marker,
+        before,
+        after,
+    })
+}
 
 /// The styles of an element and of its pseudo-elements, by the rules of the user agent and of the author
 /// and by the element's hints. `parent` is the own style of the element's parent, and `None` for the
@@ -34,18 +57,7 @@ pub fn style_of<L: Ledger>(
     ensures step { steps.new ≡ steps.old + 1 }
 {
     steps.tick();
-    let initial = initial_style(alloc)?;
     let hints = hints(alloc, arena, key)?;
     let lists = collect(alloc, arena, key, agent, hints.as_slice(), author)?;
-    let parent = parent.unwrap_or(&initial);
-    let own = style_under(alloc, lists.own.as_slice(), parent, &initial)?;
-    let marker = style_under(alloc, lists.marker.as_slice(), &own, &initial)?;
-    let before = style_under(alloc, lists.before.as_slice(), &own, &initial)?;
-    let after = style_under(alloc, lists.after.as_slice(), &own, &initial)?;
-    Ok(ElementStyle {
-        own,
-        marker,
-        before,
-        after,
-    })
+    styles_from(alloc, &lists, parent)
 }

@@ -14,13 +14,13 @@ loop-declared-preserved c =
     let make : Declared → Applied = λ d. ranked (record { level = level_of c.args.origin d.important; specificity = c.args.specificity }) d.what in
     let item = c.declared-item.result in
     let met = λ (next : List Applied) (is : next ≡ applied_in c.loop-declared.list.items ++ passing test make item).
-      appended (passing test make) (λ block. declared_with c.args.pseudo c.args.origin block c.args.specificity) (map-filter test make)
-      c.args.block.now c.loop-declared.declared-index item _ next _ c.loop-declared-test.true c.declared-item.is is c.loop-declared.invariant in
+    appended (passing test make) (λ block. declared_with c.args.pseudo c.args.origin block c.args.specificity) (map-filter test make)
+    c.args.block.now c.loop-declared.declared-index item _ next _ c.loop-declared-test.true c.declared-item.is is c.loop-declared.invariant in
     elim c.if-counts_for.branch [
       | then-counts_for+in_ok-push w ↦
-        let passes : test item ≡ true = sym c.counts_for.ensures ∙ w.if-counts_for.true in
-        rw w.list-is (met _ (rw passes (rw w.level_of-level.ensures at w.in_ok-push.ensures.ok)))
+          let passes : test item ≡ true = sym c.counts_for.ensures ∙ w.if-counts_for.true in
+          rw w.list-is (met _ (rw passes (rw w.level_of-level.ensures at w.in_ok-push.ensures.ok)))
       | else-counts_for w ↦
-        let fails : test item ≡ false = sym c.counts_for.ensures ∙ w.if-counts_for.false in
-        rw w.list-is (met _ (rw fails (sym (append-nil (applied_in c.loop-declared.list.items)))))
+          let fails : test item ≡ false = sym c.counts_for.ensures ∙ w.if-counts_for.false in
+          rw w.list-is (met _ (rw fails (sym (append-nil (applied_in c.loop-declared.list.items)))))
     ]

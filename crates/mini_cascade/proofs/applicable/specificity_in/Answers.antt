@@ -17,13 +17,13 @@ loop-selector-preserved c =
     let chooses = λ (first : Selector) (rest : List Selector). map-cond test specificity (test first) first (filter test rest) in
     elim c.if-selects.branch [
       | then-selects w ↦
-        rw w.best-is (picked is_less specificity_order test specificity chosen chooses
-        c.as_slice-selector-items.result.now c.loop-selector.selector-index c.selector-item.result _ _ c.loop-selector-test.true c.selector-item.is
-        (sym c.selects.ensures ∙ w.if-selects.true)
-        (w.more_specific.ensures ∙ ap (λ (other : Specificity). greater is_less c.loop-selector.best (Some other)) w.specificity.ensures.counts)
-        c.loop-selector.invariant)
+          rw w.best-is (picked is_less specificity_order test specificity chosen chooses
+          c.as_slice-selector-items.result.now c.loop-selector.selector-index c.selector-item.result _ _ c.loop-selector-test.true c.selector-item.is
+          (sym c.selects.ensures ∙ w.if-selects.true)
+          (w.more_specific.ensures ∙ ap (λ (other : Specificity). greater is_less c.loop-selector.best (Some other)) w.specificity.ensures.counts)
+          c.loop-selector.invariant)
       | else-selects w ↦
-        rw w.best-is (passed is_less specificity_order test specificity chosen chooses
-        c.as_slice-selector-items.result.now c.loop-selector.selector-index c.selector-item.result _ c.loop-selector-test.true c.selector-item.is
-        (sym c.selects.ensures ∙ w.if-selects.false) c.loop-selector.invariant)
+          rw w.best-is (passed is_less specificity_order test specificity chosen chooses
+          c.as_slice-selector-items.result.now c.loop-selector.selector-index c.selector-item.result _ c.loop-selector-test.true c.selector-item.is
+          (sym c.selects.ensures ∙ w.if-selects.false) c.loop-selector.invariant)
     ]
