@@ -4,7 +4,7 @@ use Rattle.std.specs.Prelude.{List, map, Option, unwrap_or}
 use Rattle.plain_types.specs.declared.style.ElementStyle.{ElementStyle}
 use Rattle.plain_types.specs.declared.style.Style.{Style}
 use Rattle.mini_cascade.specs.Declarations.{Applied}
-use Rattle.mini_cascade.specs.Properties.{initial_style}
+use Rattle.mini_cascade.specs.Properties.{initial_values}
 use Rattle.mini_cascade.specs.Styles.{style_under}
 use Rattle.mini_cascade.specs.declared.applicable.Applicable.{Applicable}
 use Rattle.mini_cascade.specs.declared.candidate.Candidate.{Candidate}
@@ -25,4 +25,4 @@ with_pseudo_styles lists own = record {
 }
 
 abbrev pub styles_from : Applicable → Option Style → ElementStyle
-styles_from lists parent = with_pseudo_styles lists (style_under (applied_in lists.own.items) (unwrap_or parent initial_style))
+styles_from lists parent = with_pseudo_styles lists (style_under (applied_in lists.own.items) (unwrap_or parent initial_values))

@@ -1,6 +1,6 @@
 -- The declarations that apply to an element or to one of its pseudo-elements, in the order in which they
 -- appear: CSS Cascade 5, 5 and 6.
-use Rattle.std.specs.Prelude.{ℕ, Bool, true, false, ◌&&◌, List, [], ◌∷◌, ◌++◌, Option, map, filter, option_map, unwrap_or}
+use Rattle.std.specs.Prelude.{ℕ, Bool, true, false, ◌&&◌, List, [], ◌++◌, Option, map, filter, option_map, unwrap_or}
 use Rattle.std.specs.List.{flat_map}
 use Rattle.forest.specs.Forest.{Forest}
 use Rattle.forest.specs.Keys.{Keyed}
@@ -16,13 +16,13 @@ use Rattle.plain_types.specs.declared.sheet.StyleRule.{StyleRule}
 use Rattle.selector_match.specs.Matching.{matches}
 use Rattle.mini_cascade.specs.Greatest.{greatest}
 use Rattle.mini_cascade.specs.Hints.{hints_of}
-use Rattle.mini_cascade.specs.Specificity.{is_less, specificity}
-use Rattle.mini_cascade.specs.Ranks.{level_of}
+use Rattle.selectors.specs.Specificity.{nothing, is_less, specificity}
+use Rattle.mini_cascade.specs.Ranks.{cascade_level}
 use Rattle.mini_cascade.specs.declared.rank.Level.TheVariants as level
 use Rattle.mini_cascade.specs.declared.rank.Origin.{Origin}
 use Rattle.mini_cascade.specs.declared.rank.Origin.TheVariants as origin
 use Rattle.mini_cascade.specs.declared.rank.Rank.{Rank}
-use Rattle.mini_cascade.specs.declared.specificity.Specificity.{Specificity}
+use Rattle.selectors.specs.declared.specificity.Specificity.{Specificity}
 
 -- a declaration that applies, with its rank
 pub record Applied : Type 0 where
@@ -44,18 +44,18 @@ counts_for Marker (declaration.Content said) = true
 counts_for Marker _ = false
 counts_for _ _ = true
 
--- the declarations of a rule that matches with this specificity
 abbrev pub ranked : Rank → Declaration → Applied
 ranked rank what = record { rank = rank; what = what }
 
+-- the declarations of a rule that matches with this specificity
 abbrev pub declared_with : PseudoElement → Origin → List Declared → Specificity → List Applied
 declared_with pseudo origin declared specificity =
-    map (λ (d : Declared). ranked (record { level = level_of origin d.important; specificity = specificity }) d.what)
+    map (λ (d : Declared). ranked (record { level = cascade_level origin d.important; specificity = specificity }) d.what)
     (filter (λ (d : Declared). counts_for pseudo d.what) declared)
 
 -- CSS 2.2, 6.4.4: hints are normal declarations of the author with specificity 0, before all rules
 abbrev pub hint_rank : Rank
-hint_rank = record { level = level.Author; specificity = record { ids = 0; classes = 0; types = 0 } }
+hint_rank = record { level = level.Author; specificity = nothing }
 
 abbrev pub hinted : PseudoElement → List Declaration → List Applied
 hinted Own hints = map (ranked hint_rank) hints

@@ -1,4 +1,3 @@
-pub mod Specificity
 pub mod Greatest
 pub mod Ranks
 pub mod Properties

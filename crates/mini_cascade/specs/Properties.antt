@@ -84,8 +84,8 @@ abbrev pub quotes : Definition Quotes
 quotes = record { said_by = quotes_said; value_in = λ style. style.quotes; initial = Auto; is_inherited = true }
 
 -- CSS Cascade 5, 7.1: every property has its initial value
-abbrev pub initial_style : Style
-initial_style = record {
+abbrev pub initial_values : Style
+initial_values = record {
   display = display.initial;
   content = content.initial;
   resets = counter_reset.initial;

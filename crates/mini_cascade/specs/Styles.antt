@@ -1,5 +1,5 @@
 -- The styles of an element and of its pseudo-elements, given the style of its parent: CSS Cascade 5, 4.
-use Rattle.std.specs.Prelude.{ℕ, Bool, List, Option, Some, None, is_some, option_and_then, unwrap_or, filter}
+use Rattle.std.specs.Prelude.{ℕ, Bool, List, Option, is_some, unwrap_or, filter}
 use Rattle.forest.specs.Forest.{Forest}
 use Rattle.forest.specs.Keys.{Keyed}
 use Rattle.plain_types.specs.declared.declaration.Said.{Said}
@@ -12,16 +12,16 @@ use Rattle.plain_types.specs.declared.style.Style.{Style}
 use Rattle.definitions.specs.Reading.{◌then◌}
 use Rattle.mini_cascade.specs.Declarations.{Applied, applied}
 use Rattle.mini_cascade.specs.Greatest.{greatest}
-use Rattle.mini_cascade.specs.Properties.{Definition, display, content, counter_reset, counter_increment, counter_set, list_style_type, quotes, initial_style, specified_value}
-use Rattle.mini_cascade.specs.Ranks.{is_below}
+use Rattle.mini_cascade.specs.Properties.{Definition, display, content, counter_reset, counter_increment, counter_set, list_style_type, quotes, initial_values, specified_value}
+use Rattle.mini_cascade.specs.Ranks.{is_outranked}
 
-abbrev pub is_weaker : Applied → Applied → Bool
-is_weaker a b = is_below a.rank b.rank
+abbrev pub gives_way : Applied → Applied → Bool
+gives_way a b = is_outranked a.rank b.rank
 
 module _ (all : List Applied) where
   -- 4.2: the cascaded value of a property is what the greatest of its declarations says
   abbrev pub cascaded : {Value : Type 0} → Definition Value → Option (Said Value)
-  cascaded property = greatest is_weaker (filter (λ (a : Applied). is_some (property.said_by a.what)) all) then λ winner. property.said_by winner.what
+  cascaded property = greatest gives_way (filter (λ (a : Applied). is_some (property.said_by a.what)) all) then λ winner. property.said_by winner.what
 
   -- 4.3: the specified value, where the parent has this style
   abbrev pub specified : {Value : Type 0} → Style → Definition Value → Value
@@ -49,4 +49,4 @@ module _ (tree : Forest (Keyed Node)) (agent author : Sheet) (key : ℕ) where
 
   -- CSS Cascade 5, 7.2: the root has no parent and inherits initial values
   abbrev pub element_style : Option Style → ElementStyle
-  element_style parent = with_pseudo_elements (box_style Own (unwrap_or parent initial_style))
+  element_style parent = with_pseudo_elements (box_style Own (unwrap_or parent initial_values))

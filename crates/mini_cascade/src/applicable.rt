@@ -7,18 +7,19 @@ ghost use Rattle.mini_cascade.specs.Candidates.{applied_in};
 ghost use Rattle.mini_cascade.specs.Declarations.{is_same, counts_for, declared_with, hinted, ranked, selects, specificity_in, declared_in, applied};
 ghost use Rattle.mini_cascade.specs.Greatest.{greater};
 ghost use Rattle.mini_cascade.specs.Hints.{hints_of};
-ghost use Rattle.mini_cascade.specs.Specificity.{is_less};
+ghost use Rattle.selectors.specs.Specificity.{is_less};
 
 use crate::candidate::Candidate;
-use crate::rank::{Level, Origin, Rank, level_of};
-use crate::specificity::Specificity;
-use crate::stubs::{matches, specificity};
+use crate::rank::{Level, Origin, Rank, cascade_level};
+use crate::stubs::matches;
 use node_arena::arena::Arena;
 use plain_types::declaration::{Declaration, Declared};
 use plain_types::memory::Memory;
 use plain_types::selector::Selector;
 use plain_types::selector_parts::PseudoElement;
 use plain_types::sheet::{Sheet, StyleRule};
+use selectors::counting::specificity;
+use selectors::specificity::Specificity;
 use std::alloc::Global;
 
 /// The declarations that apply to an element and to its pseudo-elements, in the order in which they appear.
@@ -103,7 +104,7 @@ fn add_declared<'a>(
 {
     for declared in block {
         if counts_for(pseudo, &declared.what) {
-            let level = level_of(origin, declared.important);
+            let level = cascade_level(origin, declared.important);
             push(list, Rank { level, specificity }, &declared.what)?;
         }
     }

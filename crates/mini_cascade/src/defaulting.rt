@@ -2,7 +2,7 @@
 
 ghost use Rattle.std.specs.Prelude.{◌≡◌, IfOk};
 ghost use Rattle.mini_cascade.specs.Candidates.{applied_in};
-ghost use Rattle.mini_cascade.specs.Properties.{initial_style};
+ghost use Rattle.mini_cascade.specs.Properties.{initial_values};
 ghost use Rattle.mini_cascade.specs.Styles.{specified, style_under};
 
 use crate::candidate::{Candidate, cascaded};
@@ -21,8 +21,8 @@ use plain_types::text::Text;
 use std::alloc::Global;
 
 /// The style in which every property has its initial value.
-pub(crate) fn initial_style(alloc: Global) -> Result<Style, Memory>
-    ensures { IfOk result (λ style. style ≡ initial_style) }
+pub(crate) fn initial_values(alloc: Global) -> Result<Style, Memory>
+    ensures { IfOk result (λ style. style ≡ initial_values) }
 {
     Ok(Style {
         display: Display::Plain,
@@ -41,7 +41,7 @@ fn specified<'a, V, P: Property<V>>(
     parent: &'a Style,
     initial: &'a Style,
 ) -> &'a V
-    requires { initial.now ≡ initial_style }
+    requires { initial.now ≡ initial_values }
     ensures { result.now ≡ specified (applied_in candidates.now) parent.now P.definition }
 {
     match cascaded::<V, P>(candidates) {
@@ -65,7 +65,7 @@ pub(crate) fn style_under<'a>(
     parent: &'a Style,
     initial: &'a Style,
 ) -> Result<Style, Memory>
-    requires { initial.now ≡ initial_style }
+    requires { initial.now ≡ initial_values }
     ensures { IfOk result (λ style. style ≡ style_under (applied_in candidates.now) parent.now) }
 {
     let display = specified::<Display, DisplayProperty>(candidates, parent, initial);

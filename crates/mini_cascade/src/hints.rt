@@ -33,7 +33,7 @@ fn list_reset(alloc: Global, reversed: bool, value: Option<Count>) -> Result<Res
 }
 
 /// The reset of a numbered list that is reversed or not, and has this start.
-fn start_reset(
+pub(crate) fn start_reset(
     alloc: Global,
     reversed: bool,
     start: Option<Count>,

@@ -2,7 +2,7 @@
 
 ghost use Rattle.std.specs.Prelude.{◌≡◌, option_copied, refl};
 ghost use Rattle.mini_cascade.specs.Properties as properties;
-ghost use Rattle.mini_cascade.specs.Properties.{Definition, initial_style};
+ghost use Rattle.mini_cascade.specs.Properties.{Definition, initial_values};
 
 use plain_types::content::Content;
 use plain_types::declaration::{Declaration, Said};
@@ -25,7 +25,7 @@ pub(crate) trait Property<V> {
     fn is_inherited() -> bool
         ensures { result ≡ definition.is_inherited };
 
-    ghost is_initial: { definition.initial ≡ definition.value_in initial_style };
+    ghost is_initial: { definition.initial ≡ definition.value_in initial_values };
 }
 
 /// `display`.

@@ -1,9 +1,9 @@
 //! What decides between two declarations of a property.
 
 ghost use Rattle.std.specs.Prelude.{◌≡◌};
-ghost use Rattle.mini_cascade.specs.Ranks.{level_of, is_below};
+ghost use Rattle.mini_cascade.specs.Ranks.{cascade_level, is_outranked};
 
-use crate::specificity::Specificity;
+use selectors::specificity::Specificity;
 
 /// Whose style sheet a rule is of (CSS Cascade 5, 6.2).
 #[derive(Clone, Copy, Debug, PartialEq, Eq)]
@@ -29,8 +29,8 @@ pub struct Rank {
 }
 
 /// The level of a declaration in a sheet of this origin.
-pub(crate) fn level_of(origin: Origin, important: bool) -> Level
-    ensures { result ≡ level_of origin important }
+pub(crate) fn cascade_level(origin: Origin, important: bool) -> Level
+    ensures { result ≡ cascade_level origin important }
 {
     match origin {
         Origin::UserAgent => Level::UserAgent,
@@ -40,8 +40,8 @@ pub(crate) fn level_of(origin: Origin, important: bool) -> Level
 }
 
 /// Whether the first rank is below the second.
-pub(crate) fn is_below(first: &Rank, second: &Rank) -> bool
-    ensures { result ≡ is_below first.now second.now }
+pub(crate) fn is_outranked(first: &Rank, second: &Rank) -> bool
+    ensures { result ≡ is_outranked first.now second.now }
 {
     let (lower, higher) = (first.level as u8, second.level as u8);
     lower < higher || (lower == higher && first.specificity.is_less(second.specificity))

@@ -6,7 +6,7 @@ ghost use Rattle.mini_cascade.specs.Candidates.{styles_from};
 ghost use Rattle.mini_cascade.specs.Styles.{element_style};
 
 use crate::applicable::{Applicable, collect};
-use crate::defaulting::{initial_style, style_under};
+use crate::defaulting::{initial_values, style_under};
 use crate::hints::hints;
 use node_arena::arena::Arena;
 use plain_types::memory::Memory;
@@ -24,7 +24,7 @@ fn styles_from<'a>(
 ) -> Result<ElementStyle, Memory>
     ensures { IfOk result (λ style. style ≡ styles_from lists.now (option_copied parent.entry)) }
 {
-    let initial = initial_style(alloc)?;
+    let initial = initial_values(alloc)?;
     let above = parent.unwrap_or(&initial);
     let own = style_under(alloc, lists.own.as_slice(), above, &initial)?;
     let marker = style_under(alloc, lists.marker.as_slice(), &own, &initial)?;

@@ -2,8 +2,8 @@ use Rattle.std.proofs.Common.{Bool, List, Some, map, filter, ap, sym, ◌∙◌}
 use Rattle.plain_types.specs.declared.selector.Selector.{Selector}
 use Rattle.mini_cascade.specs.Declarations.{selects}
 use Rattle.mini_cascade.specs.Greatest.{greater}
-use Rattle.mini_cascade.specs.Specificity.{is_less, specificity}
-use Rattle.mini_cascade.specs.declared.specificity.Specificity.{Specificity}
+use Rattle.selectors.specs.Specificity.{is_less, specificity}
+use Rattle.selectors.specs.declared.specificity.Specificity.{Specificity}
 use Rattle.mini_cascade.proofs.Appending.{map-cond}
 use Rattle.mini_cascade.proofs.Ordering.{specificity_order}
 use Rattle.mini_cascade.proofs.Winning.{picked, passed}

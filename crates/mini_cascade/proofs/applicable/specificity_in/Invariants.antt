@@ -1,7 +1,7 @@
 use Rattle.std.proofs.Common.{◌≡◌, map, filter, drop}
 use Rattle.mini_cascade.specs.Declarations.{selects, specificity_in}
 use Rattle.mini_cascade.specs.Greatest.{greater, greatest}
-use Rattle.mini_cascade.specs.Specificity.{is_less, specificity}
+use Rattle.selectors.specs.Specificity.{is_less, specificity}
 use Rattle.mini_cascade.proofs.applicable.specificity_in.Given as goal
 
 abbrev pub invariant-loop-selector : goal.invariant-loop-selector

@@ -2,7 +2,7 @@ use Rattle.std.proofs.Common.{◌≡◌, true, Option, Some, None, is_some, opti
 use Rattle.std.specs.Borrow.{Bor}
 use Rattle.mini_cascade.specs.Candidates.{applied_of, applied_in}
 use Rattle.mini_cascade.specs.Declarations.{Applied}
-use Rattle.mini_cascade.specs.Styles.{is_weaker}
+use Rattle.mini_cascade.specs.Styles.{gives_way}
 use Rattle.mini_cascade.specs.declared.candidate.Candidate.{Candidate}
 use Rattle.mini_cascade.proofs.Ordering.{declaration_order}
 use Rattle.mini_cascade.proofs.Winning.{picked, passed}
@@ -21,11 +21,11 @@ loop-candidate-preserved g c =
     let tested : test c.candidate-item.result ≡ c.is_some.result = ap is_some (sym c.said.ensures) ∙ is_some-copied c.said.result ∙ sym c.is_some.ensures in
     elim c.if-is_some.branch [
       | then-is_some w ↦
-          rw w.best-is (picked is_weaker declaration_order test applied_of chosen (λ first rest. refl)
+          rw w.best-is (picked gives_way declaration_order test applied_of chosen (λ first rest. refl)
           c.args.candidates.now c.loop-candidate.candidate-index c.candidate-item.result _ _ c.loop-candidate-test.true c.candidate-item.is
           (tested ∙ w.if-is_some.true) w.greater.ensures c.loop-candidate.invariant)
       | else-is_some w ↦
-          rw w.best-is (passed is_weaker declaration_order test applied_of chosen (λ first rest. refl)
+          rw w.best-is (passed gives_way declaration_order test applied_of chosen (λ first rest. refl)
           c.args.candidates.now c.loop-candidate.candidate-index c.candidate-item.result _ c.loop-candidate-test.true c.candidate-item.is
           (tested ∙ w.if-is_some.false) c.loop-candidate.invariant)
     ]

@@ -3,7 +3,7 @@ use Rattle.std.specs.Borrow.{Bor}
 use Rattle.plain_types.specs.declared.style.ElementStyle.{ElementStyle}
 use Rattle.plain_types.specs.declared.style.Style.{Style}
 use Rattle.mini_cascade.specs.Candidates.{applied_in, styles_from, with_pseudo_styles}
-use Rattle.mini_cascade.specs.Properties.{initial_style}
+use Rattle.mini_cascade.specs.Properties.{initial_values}
 use Rattle.mini_cascade.specs.Styles.{style_under}
 use Rattle.mini_cascade.specs.declared.applicable.Applicable.{Applicable}
 use Rattle.mini_cascade.specs.declared.candidate.Candidate.{Candidate}
@@ -24,10 +24,10 @@ assembled lists own marker before after m b a = rw (m, b, a) refl
 pub returns : goal.returns
 returns c =
     let lists = c.args.lists.now in
-    let above : c.unwrap_or-above.result.now ≡ unwrap_or (option_copied c.args.parent) initial_style =
-      ap (λ (shown : Bor Style). shown.now) c.unwrap_or-above.ensures
-      ∙ now-unwrap_or c.args.parent _
-      ∙ ap (λ (initial : Style). unwrap_or (option_copied c.args.parent) initial) c.in_ok-initial.ensures in
+    let above : c.unwrap_or-above.result.now ≡ unwrap_or (option_copied c.args.parent) initial_values =
+    ap (λ (shown : Bor Style). shown.now) c.unwrap_or-above.ensures
+    ∙ now-unwrap_or c.args.parent _
+    ∙ ap (λ (initial : Style). unwrap_or (option_copied c.args.parent) initial) c.in_ok-initial.ensures in
     let own = same_list _ _ _ _ c.in_ok-own.ensures c.as_slice.ensures.value ∙ ap (λ (parent : Style). style_under (applied_in lists.own.items) parent) above in
     assembled lists _ _ _ _
     (same_list _ _ _ _ c.in_ok-marker.ensures c.as_slice-2.ensures.value)

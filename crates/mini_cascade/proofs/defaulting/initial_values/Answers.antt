@@ -1,6 +1,6 @@
 use Rattle.std.proofs.Common.{refl, ◌∙◌}
 use Rattle.std.specs.Str.{chars}
-use Rattle.mini_cascade.proofs.defaulting.initial_style.Goals as goal
+use Rattle.mini_cascade.proofs.defaulting.initial_values.Goals as goal
 
 pub returns : goal.returns
 unfolding chars
