@@ -1,0 +1,5 @@
+pub mod Appending
+pub mod Ascii
+pub mod GreatestLaws
+pub mod Ordering
+pub mod Winning

@@ -1,0 +1,236 @@
+//! Which declarations apply to an element and to its pseudo-elements.
+
+ghost use Rattle.std.specs.Prelude.{◌≡◌, ◌++◌, ◌∷◌, [], IfOk, OnOk, Some, flat_map};
+ghost use Rattle.forest.specs.Spots.{IsLive};
+ghost use Rattle.plain_types.specs.declared.selector_parts.PseudoElement.TheVariants as pseudo;
+ghost use Rattle.mini_cascade.specs.Candidates.{applied_in};
+ghost use Rattle.mini_cascade.specs.Declarations.{is_same, counts_for, declared_with, hinted, ranked, selects, specificity_in, declared_in, applied};
+ghost use Rattle.mini_cascade.specs.Greatest.{greater};
+ghost use Rattle.mini_cascade.specs.Hints.{hints_of};
+ghost use Rattle.selectors.specs.Specificity.{is_less};
+
+use crate::candidate::Candidate;
+use crate::rank::{Level, Origin, Rank, cascade_level};
+use crate::stubs::matches;
+use node_arena::arena::Arena;
+use plain_types::declaration::{Declaration, Declared};
+use plain_types::memory::Memory;
+use plain_types::selector::Selector;
+use plain_types::selector_parts::PseudoElement;
+use plain_types::sheet::{Sheet, StyleRule};
+use selectors::counting::specificity;
+use selectors::specificity::Specificity;
+use std::alloc::Global;
+
+/// The declarations that apply to an element and to its pseudo-elements, in the order in which they appear.
+#[derive(Drop)]
+pub(crate) struct Applicable<'a> {
+    pub(crate) own: Vec<Candidate<'a>>,
+    pub(crate) marker: Vec<Candidate<'a>>,
+    pub(crate) before: Vec<Candidate<'a>>,
+    pub(crate) after: Vec<Candidate<'a>>,
+}
+
+fn is_same(first: PseudoElement, second: PseudoElement) -> bool
+    ensures { result ≡ is_same first second }
+{
+    first == second
+}
+
+/// Whether a declaration counts where a rule has this pseudo-element.
+fn counts_for(pseudo: PseudoElement, what: &Declaration) -> bool
+    ensures { result ≡ counts_for pseudo what.now }
+{
+    match pseudo {
+        PseudoElement::Marker => matches!(what, Declaration::Content(_)),
+        _ => true,
+    }
+}
+
+/// Whether a selector selects the element, or this pseudo-element of it.
+fn selects(arena: &Arena, key: usize, pseudo: PseudoElement, selector: &Selector) -> bool
+    requires { IsLive arena.now.tree key }
+    ensures { result ≡ selects arena.now.tree key pseudo selector.now }
+{
+    is_same(selector.pseudo, pseudo) && matches(arena, key, selector)
+}
+
+/// The greater of a specificity that may be missing and of another.
+fn more_specific(held: Option<Specificity>, other: Specificity) -> Specificity
+    ensures { Some result ≡ greater is_less held (Some other) }
+{
+    match held {
+        Some(held) if other.is_less(held) => held,
+        _ => other,
+    }
+}
+
+/// The greatest specificity of a rule's selectors that select the element or this pseudo-element of it.
+fn specificity_in(
+    arena: &Arena,
+    key: usize,
+    pseudo: PseudoElement,
+    rule: &StyleRule,
+) -> Option<Specificity>
+    requires { IsLive arena.now.tree key }
+    ensures { result ≡ specificity_in arena.now.tree key pseudo rule.now }
+{
+    let mut best: Option<Specificity> = None;
+    for selector in rule.selectors.as_slice() {
+        if selects(arena, key, pseudo, selector) {
+            best = Some(more_specific(best, specificity(selector)));
+        }
+    }
+    best
+}
+
+/// Appends a declaration.
+fn push<'a>(list: &mut Vec<Candidate<'a>>, rank: Rank, what: &'a Declaration) -> Result<(), Memory>
+    ensures ok { OnOk result (applied_in list.new.items ≡ applied_in list.old.items ++ ranked rank what.now ∷ []) }
+{
+    list.push(Candidate { rank, what })?;
+    Ok(())
+}
+
+/// Appends the declarations of a rule that matches with this specificity.
+fn add_declared<'a>(
+    list: &mut Vec<Candidate<'a>>,
+    pseudo: PseudoElement,
+    origin: Origin,
+    block: &'a [Declared],
+    specificity: Specificity,
+) -> Result<(), Memory>
+    ensures ok { OnOk result (applied_in list.new.items ≡ applied_in list.old.items ++ declared_with pseudo origin block.now specificity) }
+{
+    for declared in block {
+        if counts_for(pseudo, &declared.what) {
+            let level = cascade_level(origin, declared.important);
+            push(list, Rank { level, specificity }, &declared.what)?;
+        }
+    }
+    Ok(())
+}
+
+/// Appends what a rule declares for the element or for this pseudo-element of it.
+fn add_rule<'a>(
+    list: &mut Vec<Candidate<'a>>,
+    arena: &Arena,
+    key: usize,
+    pseudo: PseudoElement,
+    origin: Origin,
+    rule: &'a StyleRule,
+) -> Result<(), Memory>
+    requires { IsLive arena.now.tree key }
+    ensures ok { OnOk result (applied_in list.new.items ≡ applied_in list.old.items ++ declared_in arena.now.tree key pseudo origin rule.now) }
+{
+    match specificity_in(arena, key, pseudo, rule) {
+        Some(specificity) => add_declared(
+            list,
+            pseudo,
+            origin,
+            rule.declared.as_slice(),
+            specificity,
+        ),
+        None => Ok(()),
+    }
+}
+
+/// Appends hints.
+fn add_hints<'a>(list: &mut Vec<Candidate<'a>>, hints: &'a [Declaration]) -> Result<(), Memory>
+    ensures ok { OnOk result (applied_in list.new.items ≡ applied_in list.old.items ++ hinted pseudo.Own hints.now) }
+{
+    let specificity = Specificity {
+        ids: 0,
+        classes: 0,
+        types: 0,
+    };
+    let level = Level::Author;
+    for hint in hints {
+        push(list, Rank { level, specificity }, hint)?;
+    }
+    Ok(())
+}
+
+/// Appends what rules declare, each of whose selectors is matched once.
+fn add_rules<'a>(
+    lists: &mut Applicable<'a>,
+    arena: &Arena,
+    key: usize,
+    origin: Origin,
+    rules: &'a [StyleRule],
+) -> Result<(), Memory>
+    requires { IsLive arena.now.tree key }
+    ensures own { OnOk result (applied_in lists.new.own.items ≡ applied_in lists.old.own.items ++ flat_map (declared_in arena.now.tree key pseudo.Own origin) rules.now) }
+    ensures marker { OnOk result (applied_in lists.new.marker.items ≡ applied_in lists.old.marker.items ++ flat_map (declared_in arena.now.tree key pseudo.Marker origin) rules.now) }
+    ensures before { OnOk result (applied_in lists.new.before.items ≡ applied_in lists.old.before.items ++ flat_map (declared_in arena.now.tree key pseudo.Before origin) rules.now) }
+    ensures after { OnOk result (applied_in lists.new.after.items ≡ applied_in lists.old.after.items ++ flat_map (declared_in arena.now.tree key pseudo.After origin) rules.now) }
+{
+    for rule in rules {
+        add_rule(&mut lists.own, arena, key, PseudoElement::Own, origin, rule)?;
+        add_rule(
+            &mut lists.marker,
+            arena,
+            key,
+            PseudoElement::Marker,
+            origin,
+            rule,
+        )?;
+        add_rule(
+            &mut lists.before,
+            arena,
+            key,
+            PseudoElement::Before,
+            origin,
+            rule,
+        )?;
+        add_rule(
+            &mut lists.after,
+            arena,
+            key,
+            PseudoElement::After,
+            origin,
+            rule,
+        )?;
+    }
+    Ok(())
+}
+
+/// The declarations that apply, where these are the element's hints.
+pub(crate) fn collect<'a>(
+    alloc: Global,
+    arena: &Arena,
+    key: usize,
+    agent: &'a Sheet,
+    hints: &'a [Declaration],
+    author: &'a Sheet,
+) -> Result<Applicable<'a>, Memory>
+    requires live { IsLive arena.now.tree key }
+    requires hints { hints.now ≡ hints_of arena.now.tree key }
+    ensures own { IfOk result (λ lists. applied_in lists.own.items ≡ applied arena.now.tree key pseudo.Own agent.now author.now) }
+    ensures marker { IfOk result (λ lists. applied_in lists.marker.items ≡ applied arena.now.tree key pseudo.Marker agent.now author.now) }
+    ensures before { IfOk result (λ lists. applied_in lists.before.items ≡ applied arena.now.tree key pseudo.Before agent.now author.now) }
+    ensures after { IfOk result (λ lists. applied_in lists.after.items ≡ applied arena.now.tree key pseudo.After agent.now author.now) }
+{
+    let mut lists = Applicable {
+        own: Vec::new(alloc),
+        marker: Vec::new(alloc),
+        before: Vec::new(alloc),
+        after: Vec::new(alloc),
+    };
+    add_rules(
+        &mut lists,
+        arena,
+        key,
+        Origin::UserAgent,
+        agent.rules.as_slice(),
+    )?;
+    add_hints(&mut lists.own, hints)?;
+    add_rules(
+        &mut lists,
+        arena,
+        key,
+        Origin::Author,
+        author.rules.as_slice(),
+    )?;
+    Ok(lists)
+}

@@ -1,0 +1,35 @@
+//! The cascade: which style an element and its pseudo-elements have (CSS Cascade 5, 4 to 7).
+//!
+//! The floor above selectors and their matching: [`style_of::style_of`] takes a document, the sheets of the user
+//! agent and of the author, an element and the own style of its parent, and gives the styles of the element
+//! and of its `::marker`, `::before` and `::after`. [`agent_sheet::AGENT_SHEET`] is the text of the sheet that
+//! the user agent has, and [`hints::hints`] says what the attributes of HTML's lists mean as declarations.
+//!
+//! On the way there, the declarations that apply are put into lists, one for the element and one for each
+//! pseudo-element, in the order in which they appear (`applicable`); of those of a property the greatest
+//! holds (`candidate`, `rank`); and what it says, or that there is none, gives the value (`defaulting`,
+//! `property`). Nothing here recurses.
+//!
+//! The layer above knows it by the words `element_style tree agent author key parent` (`specs/Styles.antt`:
+//! cascaded and specified values, over the declarations that apply, `specs/Declarations.antt`) and `hints_of
+//! tree key` (`specs/Hints.antt`).
+//!
+//! ```text
+//! let style = style_of(alloc, &arena, &agent, &author, None, arena.root(), &mut steps)?;    // <ol start="3"/>
+//! style.own.resets       // `list-item 2`
+//! style.own.list_type    // `decimal`
+//! ```
+#![tactic(auto)]
+
+pub mod agent_sheet;
+mod applicable;
+mod candidate;
+mod defaulting;
+pub mod hints;
+mod property;
+mod rank;
+mod stubs;
+pub mod style_of;
+#[cfg(test)]
+mod tests;
+mod texts;

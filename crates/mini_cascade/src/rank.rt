@@ -1,0 +1,48 @@
+//! What decides between two declarations of a property.
+
+ghost use Rattle.std.specs.Prelude.{◌≡◌};
+ghost use Rattle.mini_cascade.specs.Ranks.{cascade_level, is_outranked};
+
+use selectors::specificity::Specificity;
+
+/// Whose style sheet a rule is of (CSS Cascade 5, 6.2).
+#[derive(Clone, Copy, Debug, PartialEq, Eq)]
+pub enum Origin {
+    UserAgent,
+    Author,
+}
+
+/// Origin and importance, from the weakest on (CSS Cascade 5, 6.1).
+#[derive(Clone, Copy, Debug, PartialEq, Eq)]
+pub enum Level {
+    UserAgent,
+    Author,
+    /// `!important` of the author.
+    Important,
+}
+
+/// What decides between two declarations of a property, before the order in which they appear.
+#[derive(Clone, Copy, Debug, PartialEq, Eq)]
+pub struct Rank {
+    pub level: Level,
+    pub specificity: Specificity,
+}
+
+/// The level of a declaration in a sheet of this origin.
+pub(crate) fn cascade_level(origin: Origin, important: bool) -> Level
+    ensures { result ≡ cascade_level origin important }
+{
+    match origin {
+        Origin::UserAgent => Level::UserAgent,
+        Origin::Author if important => Level::Important,
+        Origin::Author => Level::Author,
+    }
+}
+
+/// Whether the first rank is below the second.
+pub(crate) fn is_outranked(first: &Rank, second: &Rank) -> bool
+    ensures { result ≡ is_outranked first.now second.now }
+{
+    let (lower, higher) = (first.level as u8, second.level as u8);
+    lower < higher || (lower == higher && first.specificity.is_less(second.specificity))
+}

@@ -1,0 +1,63 @@
+//! The style of an element.
+
+ghost use Rattle.std.specs.Prelude.{◌≡◌, ◌+◌, IfOk, option_copied};
+ghost use Rattle.forest.specs.Spots.{IsLive};
+ghost use Rattle.mini_cascade.specs.Candidates.{styles_from};
+ghost use Rattle.mini_cascade.specs.Styles.{element_style};
+
+use crate::applicable::{Applicable, collect};
+use crate::defaulting::{initial_values, style_under};
+use crate::hints::hints;
+use node_arena::arena::Arena;
+use plain_types::memory::Memory;
+use plain_types::sheet::Sheet;
+use plain_types::style::{ElementStyle, Style};
+use std::alloc::Global;
+use std::sync::ledger::Ledger;
+use steps::Steps;
+
+/// The styles that the declarations in these lists give.
+fn styles_from<'a>(
+    alloc: Global,
+    lists: &Applicable<'a>,
+    parent: Option<&'a Style>,
+) -> Result<ElementStyle, Memory>
+    ensures { IfOk result (λ style. style ≡ styles_from lists.now (option_copied parent.entry)) }
+{
+    let initial = initial_values(alloc)?;
+    let above = parent.unwrap_or(&initial);
+    let own = style_under(alloc, lists.own.as_slice(), above, &initial)?;
+    let marker = style_under(alloc, lists.marker.as_slice(), &own, &initial)?;
+    let before = style_under(alloc, lists.before.as_slice(), &own, &initial)?;
+    let after = style_under(alloc, lists.after.as_slice(), &own, &initial)?;
+    Ok(ElementStyle {
+        own,
+        marker,
+        before,
+        after,
+    })
+}
+
+/// The styles of an element and of its pseudo-elements, by the rules of the user agent and of the author
+/// and by the element's hints. `parent` is the own style of the element's parent, and `None` for the
+/// root, which inherits initial values. One step is counted, also where the answer is `Memory`.
+///
+/// Each selector is matched once; declarations of rules that do not match are not looked at.
+pub fn style_of<L: Ledger>(
+    alloc: Global,
+    arena: &Arena,
+    agent: &Sheet,
+    author: &Sheet,
+    parent: Option<&Style>,
+    key: usize,
+    steps: &mut Steps<L>,
+) -> Result<ElementStyle, Memory>
+    requires { IsLive arena.now.tree key }
+    ensures style { IfOk result (λ style. style ≡ element_style arena.now.tree agent.now author.now key (option_copied parent.entry)) }
+    ensures step { steps.new ≡ steps.old + 1 }
+{
+    steps.tick();
+    let hints = hints(alloc, arena, key)?;
+    let lists = collect(alloc, arena, key, agent, hints.as_slice(), author)?;
+    styles_from(alloc, &lists, parent)
+}
