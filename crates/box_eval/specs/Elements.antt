@@ -1,0 +1,190 @@
+-- The evaluation of an element's boxes: CSS Lists 3, 3.2 and 4.4, and CSS Generated Content 3, 1 and 2.
+use Rattle.std.specs.Prelude.{ℕ, Bool, false, pos, List, [], ◌∷◌, Option, Some, None, cond, unwrap_or}
+use Rattle.std.specs.Option.{option_map_or}
+use Rattle.plain_types.specs.declared.attr.Attr.{Attr}
+use Rattle.plain_types.specs.declared.box_id.BoxId.{BoxId}
+use Rattle.plain_types.specs.declared.box_kind.BoxKind.{BoxKind}
+use Rattle.plain_types.specs.declared.box_kind.BoxKind.TheVariants as kind
+use Rattle.plain_types.specs.declared.content.Content.{Content}
+use Rattle.plain_types.specs.declared.content.Content.TheVariants as content
+use Rattle.plain_types.specs.declared.content.Item.{Item}
+use Rattle.plain_types.specs.declared.counter.Counter.{Counter}
+use Rattle.plain_types.specs.declared.counter_style.CounterStyle.{CounterStyle}
+use Rattle.plain_types.specs.declared.style.ElementStyle.{ElementStyle}
+use Rattle.plain_types.specs.declared.style.ListType.{ListType}
+use Rattle.plain_types.specs.declared.style.ListType.TheVariants as list_type
+use Rattle.plain_types.specs.declared.style.Style.{Style}
+use Rattle.definitions.specs.Representation.{marker_text}
+use Rattle.counter_sets.specs.Sets.{inherited, innermost, is_by_peer, is_missing_in}
+use Rattle.content_eval.specs.Contents.{generated}
+use Rattle.content_eval.specs.declared.generated.Generated.{Generated}
+use Rattle.content_eval.specs.declared.generated.Piece.TheVariants as piece
+use Rattle.box_eval.specs.declared.change.Change.{Change}
+use Rattle.box_eval.specs.declared.entry.Closing.{Closing}
+use Rattle.box_eval.specs.declared.entry.Entry.{Entry}
+use Rattle.box_eval.specs.declared.inputs.Inputs.{Inputs}
+use Rattle.box_eval.specs.declared.inputs.Start.{Start}
+use Rattle.box_eval.specs.declared.made.Made.{Made}
+use Rattle.box_eval.specs.Boxes.{box, has_marker, has_pseudo_box, is_list_item}
+use Rattle.box_eval.specs.Properties.{Counted, counted, list_item}
+
+-- What is handed from box to box.
+
+-- What a box is handed: the counters of its parent box, its sibling boxes before it (the nearest first),
+-- the counters of the nearest of them, those of the box before it in tree order, and the quote depth.
+pub record Handed : Type 0 where
+  pub parent : List Counter
+  pub earlier : List BoxId
+  pub sibling : Option (List Counter)
+  pub preceding : Option (List Counter)
+  pub depth : ℕ
+
+-- the root's box has no box around it or before it
+abbrev pub at_root : Handed
+at_root = record { parent = []; earlier = []; sibling = None; preceding = None; depth = 0 }
+
+-- what the first child box of a box with these counters is handed
+abbrev pub inside : List Counter → ℕ → Handed
+inside own depth = record { parent = own; earlier = []; sibling = None; preceding = Some own; depth = depth }
+
+-- what the next sibling box is handed after a box with these counters; the last box in it has the
+-- counters `exit`
+abbrev pub past : BoxId → List Counter → List Counter → ℕ → Handed → Handed
+past box own exit depth handed =
+    record { parent = handed.parent; earlier = box ∷ handed.earlier; sibling = Some own; preceding = Some exit; depth = depth }
+
+-- 4.4.1: the counters that a box inherits
+abbrev pub inherited_by : Handed → List Counter
+inherited_by handed = inherited handed.parent handed.sibling handed.preceding
+
+-- 4.4: which counters a new one of their name takes the place of, in a box with these peers (itself and its
+-- sibling boxes before it) whose parent box has these counters
+abbrev pub Replacing : Type 0
+Replacing = List BoxId → List Counter → Counter → Bool
+
+-- those that a peer created
+abbrev pub by_peers : Replacing
+by_peers peers parent = is_by_peer peers
+
+-- those that the parent box lacks; in every document these are the same
+abbrev pub by_parent : Replacing
+by_parent peers parent = is_missing_in parent
+
+-- An element as it is evaluated: its attributes, its styles, and the starts of its boxes' reversed counters.
+pub record Styled : Type 0 where
+  pub attrs : List Attr
+  pub style : ElementStyle
+  pub starts : List Start
+
+-- the items of a list, none where there is no list
+abbrev pub items_of : Content → List Item
+items_of content.Normal = []
+items_of content.Nothing = []
+items_of (content.Items items) = items
+
+-- a pseudo-element: its box, where it has one, and what is handed on behind it
+pub record Passed : Type 0 where
+  pub made : Option Made
+  pub handed : Handed
+
+-- a box was made of this content, and its properties did this to counters
+abbrev pub made_box : BoxId → List Change → Generated → Handed → Passed
+made_box box changes content handed = record {
+  made = Some (record { set = content.set; pieces = content.pieces; changes = changes });
+  handed = past box content.set content.set content.depth handed;
+}
+
+-- what has no box hands on what it was handed
+abbrev pub passed_over : Handed → Passed
+passed_over handed = record { made = None; handed = handed }
+
+module _ (table : List CounterStyle) (replacing : Replacing) (key : ℕ) (element : Styled) where
+  -- which counters a new one replaces in a box of the element
+  abbrev pub is_replaced_in : BoxKind → Handed → Counter → Bool
+  is_replaced_in kind handed = replacing (box key kind ∷ handed.earlier) handed.parent
+
+  -- the text of a box whose counters after its properties are these
+  abbrev pub content_of : BoxKind → Style → List Counter → Handed → Generated
+  content_of kind style set handed =
+      generated table (items_of style.content) element.attrs style.quotes (box key kind) (is_replaced_in kind handed) set handed.depth
+
+  -- The element's own box.
+
+  abbrev pub own_counted : Handed → Counted
+  own_counted handed =
+      counted (is_replaced_in kind.Element handed) (box key kind.Element) element.starts
+      (is_list_item element.style.own.display) element.style.own (inherited_by handed)
+
+  -- Its marker. It has no counter properties: CSS Lists 3, 3.1.1.
+
+  -- CSS Lists 3, 3.2: the text of a marker whose `content` is `normal`
+  abbrev pub default_text : ListType → List Counter → List ℕ
+  default_text (list_type.Chars text) set = text
+  default_text (list_type.Style style) set =
+      marker_text table style (option_map_or (λ (counter : Counter). counter.value) (innermost set list_item) (pos 0))
+
+  abbrev pub marker_content : Content → Handed → Generated
+  marker_content content.Normal handed = record {
+    pieces = piece.Chars (default_text element.style.own.list_type (inherited_by handed)) ∷ [];
+    set = inherited_by handed;
+    depth = handed.depth;
+  }
+  marker_content content.Nothing handed = content_of kind.Marker element.style.marker (inherited_by handed) handed
+  marker_content (content.Items items) handed = content_of kind.Marker element.style.marker (inherited_by handed) handed
+
+  abbrev pub marker_passed : Handed → Passed
+  marker_passed handed =
+      cond (has_marker element.style)
+      (made_box (box key kind.Marker) [] (marker_content element.style.marker.content handed) handed)
+      (passed_over handed)
+
+  -- Its before and after boxes. They are no list items (our own).
+
+  abbrev pub pseudo_counted : BoxKind → Style → Handed → Counted
+  pseudo_counted kind style handed = counted (is_replaced_in kind handed) (box key kind) element.starts false style (inherited_by handed)
+
+  abbrev pub pseudo_passed : BoxKind → Style → Handed → Passed
+  pseudo_passed kind style handed =
+      let after = pseudo_counted kind style handed in
+      cond (has_pseudo_box style)
+      (made_box (box key kind) after.changes (content_of kind style after.set handed) handed)
+      (passed_over handed)
+
+  -- The whole element, but for its children.
+
+  -- behind its marker, and behind its before box
+  abbrev pub behind_marker : Handed → Passed
+  behind_marker handed = marker_passed (inside (own_counted handed).set handed.depth)
+
+  abbrev pub behind_before : Handed → Passed
+  behind_before handed = pseudo_passed kind.Before element.style.before (behind_marker handed).handed
+
+  -- up to its children, where it is handed this
+  abbrev pub entry_of : Handed → Entry
+  entry_of handed = record {
+    own = (own_counted handed).set;
+    changes = (own_counted handed).changes;
+    marker = (behind_marker handed).made;
+    before = (behind_before handed).made;
+    depth = (behind_before handed).handed.depth;
+  }
+
+  -- what its children are handed
+  abbrev pub children_handed : Handed → Handed
+  children_handed handed = (behind_before handed).handed
+
+  -- from its children on, where this is handed on behind them
+  abbrev pub behind_after : Handed → Passed
+  behind_after handed = pseudo_passed kind.After element.style.after handed
+
+  abbrev pub closing_of : Handed → Closing
+  closing_of handed = record {
+    after = (behind_after handed).made;
+    exit = unwrap_or (behind_after handed).handed.preceding [];
+    depth = (behind_after handed).handed.depth;
+  }
+
+-- what the inputs of an element say is handed to it, where these are the sibling boxes before it
+abbrev pub handed_in : Inputs → List BoxId → Handed
+handed_in inputs earlier =
+    record { parent = inputs.parent; earlier = earlier; sibling = inputs.sibling; preceding = inputs.preceding; depth = inputs.depth }

@@ -1,0 +1,5 @@
+pub mod Boxes
+pub mod Properties
+pub mod Elements
+pub mod Evaluation
+pub mod Scopes

@@ -1,0 +1,130 @@
+-- What a box's `counter-reset`, `counter-increment` and `counter-set` make of the counters that it inherits:
+-- CSS Lists 3, 4.1, 4.2 and 4.6.
+use Rattle.std.specs.Prelude.{ℕ, ◌&&◌, Bool, not, ℤ, pos, negsuc, List, [], ◌∷◌, ◌++◌, Option, map, filter, cond, codes, unwrap_or}
+use Rattle.std.specs.List.{find, fold, list_any}
+use Rattle.std.specs.Option.{option_map, option_map_or}
+use Rattle.std.specs.Str.{bytes_eq}
+use Rattle.plain_types.specs.Counts.{count_sum}
+use Rattle.plain_types.specs.declared.box_id.BoxId.{BoxId}
+use Rattle.plain_types.specs.declared.counter.Counter.{Counter}
+use Rattle.plain_types.specs.declared.style.CounterOp.{CounterOp}
+use Rattle.plain_types.specs.declared.style.ResetOp.{ResetOp}
+use Rattle.plain_types.specs.declared.style.Style.{Style}
+use Rattle.definitions.specs.CounterStyles.{distinct}
+use Rattle.counter_sets.specs.Sets.{assigned, incremented, innermost, instantiated, is_same_box}
+use Rattle.box_eval.specs.declared.change.Change.{Change}
+use Rattle.box_eval.specs.declared.inputs.Start.{Start}
+
+-- Entries of one name.
+
+-- 4.1 and 4.2, `counter-reset` and `counter-set`: of each name only the last entry holds, where it stands
+module _ {Entry : Type 0} (name_of : Entry → List ℕ) where
+  abbrev pub last_of_each : List Entry → List Entry
+  last_of_each [] = []
+  last_of_each (entry ∷ later) =
+      cond (list_any (λ other. bytes_eq (name_of other) (name_of entry)) later) (last_of_each later) (entry ∷ last_of_each later)
+
+abbrev pub last_resets : List ResetOp → List ResetOp
+last_resets resets = last_of_each (λ (op : ResetOp). op.name) resets
+
+abbrev pub last_assigns : List CounterOp → List CounterOp
+last_assigns assigns = last_of_each (λ (op : CounterOp). op.name) assigns
+
+abbrev pub is_for : List ℕ → CounterOp → Bool
+is_for name op = bytes_eq op.name name
+
+abbrev pub names : List CounterOp → List (List ℕ)
+names ops = map (λ (op : CounterOp). op.name) ops
+
+-- the number that an entry of this name has
+abbrev pub number_for : List ℕ → List CounterOp → Option ℤ
+number_for name ops = option_map (λ (op : CounterOp). op.value) (find (is_for name) ops)
+
+-- 4.2, `counter-increment`: the entries of one name are added, from left to right
+abbrev pub sum_for : List ℕ → List CounterOp → ℤ
+sum_for name ops = fold (λ sum (op : CounterOp). count_sum sum op.value) (pos 0) (filter (is_for name) ops)
+
+-- each name once, where it comes first, with its sum (our own)
+abbrev pub merged : List CounterOp → List CounterOp
+merged increments = map (λ name. record { name = name; value = sum_for name increments }) (distinct (names increments))
+
+-- List items.
+
+abbrev pub list_item : List ℕ
+list_item = codes "list-item"
+
+-- 4.6: what a list item adds to its innermost counter `list-item`; -1 where that is reversed (our own)
+abbrev pub implicit_step : List Counter → ℤ
+implicit_step set = option_map_or (λ (counter : Counter). cond counter.reversed (negsuc 0) (pos 1)) (innermost set list_item) (pos 1)
+
+-- 4.6: what a box adds, where its counters after its resets are these: a list item that does not name
+-- `list-item` adds to that too, at the end
+abbrev pub increments_of : Bool → List CounterOp → List Counter → List CounterOp
+increments_of is_item increments set =
+    cond (is_item && not (list_any (is_for list_item) increments))
+    (merged increments ++ record { name = list_item; value = implicit_step set } ∷ [])
+    (merged increments)
+
+-- The counters of a box. `is_replaced` tells which counters a new one of their name takes the place of.
+
+-- the start of a box's reversed counter of a name; one that is not given is 0
+abbrev pub start_in : List Start → BoxId → List ℕ → ℤ
+start_in starts creator name =
+    option_map_or (λ (start : Start). start.value) (find (λ (start : Start). is_same_box start.creator creator && bytes_eq start.name name) starts) (pos 0)
+
+-- 4.1: the number given; else 0, or the start of a reversed counter
+abbrev pub first_value : List Start → BoxId → ResetOp → ℤ
+first_value starts creator reset = unwrap_or reset.value (cond reset.reversed (start_in starts creator reset.name) (pos 0))
+
+module _ (is_replaced : Counter → Bool) (box : BoxId) where
+  -- 4.1: the counters after one reset, and after all
+  abbrev pub reset_by : List Start → List Counter → ResetOp → List Counter
+  reset_by starts set reset =
+      instantiated is_replaced set (record { name = reset.name; creator = box; reversed = reset.reversed; value = first_value starts box reset })
+
+  abbrev pub after_resets : List Start → List ResetOp → List Counter → List Counter
+  after_resets starts resets set = fold (reset_by starts) set (last_resets resets)
+
+  -- 4.2: the counters after these increments, and after these are set
+  abbrev pub after_increments : List CounterOp → List Counter → List Counter
+  after_increments increments set = fold (λ before (op : CounterOp). incremented is_replaced box before op.name op.value) set increments
+
+  abbrev pub after_assigns : List CounterOp → List Counter → List Counter
+  after_assigns assigns set = fold (λ before (op : CounterOp). assigned is_replaced box before op.name op.value) set (last_assigns assigns)
+
+-- What a box does to counters. The starts of reversed counters are told by it.
+
+-- to the innermost counter of a name, where the box increments and sets these
+abbrev pub change_of : BoxId → List CounterOp → List CounterOp → List Counter → List ℕ → Change
+change_of box increments assigns set name = record {
+  creator = option_map_or (λ (counter : Counter). counter.creator) (innermost set name) box;
+  name = name;
+  event = record { by = unwrap_or (number_for name increments) (pos 0); assigned = number_for name assigns };
+}
+
+-- the names of the increments, and then those that are only set
+abbrev pub changed_names : List CounterOp → List CounterOp → List (List ℕ)
+changed_names increments assigns = names increments ++ filter (λ name. not (list_any (bytes_eq name) (names increments))) (names assigns)
+
+abbrev pub changes_of : BoxId → List CounterOp → List CounterOp → List Counter → List Change
+changes_of box increments assigns set = map (change_of box increments assigns set) (changed_names increments assigns)
+
+-- All together.
+
+-- the counters of a box after its properties, and what it did to counters
+pub record Counted : Type 0 where
+  pub set : List Counter
+  pub changes : List Change
+
+module _ (is_replaced : Counter → Bool) (box : BoxId) (starts : List Start) where
+  -- 4.2: increments come before what is set
+  abbrev pub counted_from : Style → List CounterOp → List Counter → Counted
+  counted_from style increments set =
+      let counters = after_assigns is_replaced box style.assigns (after_increments is_replaced box increments set) in
+      record { set = counters; changes = changes_of box increments (last_assigns style.assigns) counters }
+
+  -- 4.1: resets come before both. The box inherits these counters, and is a list item's own box or not.
+  abbrev pub counted : Bool → Style → List Counter → Counted
+  counted is_item style inherited =
+      let set = after_resets is_replaced box starts style.resets inherited in
+      counted_from style (increments_of is_item style.increments set) set
