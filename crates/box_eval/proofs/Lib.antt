@@ -1,0 +1,3 @@
+mod Agreement
+mod CountedLemmas
+mod OpLemmas

@@ -20,13 +20,15 @@ use Rattle.content_eval.specs.Contents.{generated}
 use Rattle.content_eval.specs.declared.generated.Generated.{Generated}
 use Rattle.content_eval.specs.declared.generated.Piece.TheVariants as piece
 use Rattle.box_eval.specs.declared.change.Change.{Change}
+use Rattle.box_eval.specs.declared.counting.Counted.{Counted}
 use Rattle.box_eval.specs.declared.entry.Closing.{Closing}
 use Rattle.box_eval.specs.declared.entry.Entry.{Entry}
+use Rattle.box_eval.specs.declared.formed.Formed.{Formed}
 use Rattle.box_eval.specs.declared.inputs.Inputs.{Inputs}
 use Rattle.box_eval.specs.declared.inputs.Start.{Start}
 use Rattle.box_eval.specs.declared.made.Made.{Made}
-use Rattle.box_eval.specs.Boxes.{box, has_marker, has_pseudo_box, is_list_item}
-use Rattle.box_eval.specs.Properties.{Counted, counted, list_item}
+use Rattle.box_eval.specs.Boxes.{box, has_items, has_marker, has_pseudo_box, is_list_item}
+use Rattle.box_eval.specs.Properties.{counted, list_item}
 
 -- What is handed from box to box.
 
@@ -82,21 +84,17 @@ items_of content.Normal = []
 items_of content.Nothing = []
 items_of (content.Items items) = items
 
--- a pseudo-element: its box, where it has one, and what is handed on behind it
-pub record Passed : Type 0 where
-  pub made : Option Made
-  pub handed : Handed
+-- what is formed of a pseudo-element: a box of this content, whose properties did this to counters, or none
+abbrev pub formed_box : List Change → Generated → Formed
+formed_box changes content =
+    record { made = Some (record { set = content.set; pieces = content.pieces; changes = changes }); depth = content.depth }
 
--- a box was made of this content, and its properties did this to counters
-abbrev pub made_box : BoxId → List Change → Generated → Handed → Passed
-made_box box changes content handed = record {
-  made = Some (record { set = content.set; pieces = content.pieces; changes = changes });
-  handed = past box content.set content.set content.depth handed;
-}
+abbrev pub no_box : ℕ → Formed
+no_box depth = record { made = None; depth = depth }
 
--- what has no box hands on what it was handed
-abbrev pub passed_over : Handed → Passed
-passed_over handed = record { made = None; handed = handed }
+-- what the next sibling box is handed behind it
+abbrev pub past_formed : BoxId → Formed → Handed → Handed
+past_formed box formed handed = option_map_or (λ (made : Made). past box made.set made.set formed.depth handed) formed.made handed
 
 module _ (table : List CounterStyle) (replacing : Replacing) (key : ℕ) (element : Styled) where
   -- which counters a new one replaces in a box of the element
@@ -117,71 +115,71 @@ module _ (table : List CounterStyle) (replacing : Replacing) (key : ℕ) (elemen
 
   -- Its marker. It has no counter properties: CSS Lists 3, 3.1.1.
 
-  -- CSS Lists 3, 3.2: the text of a marker whose `content` is `normal`
+  -- CSS Lists 3, 3.2: the text of a marker that has no items of its own
   abbrev pub default_text : ListType → List Counter → List ℕ
   default_text (list_type.Chars text) set = text
   default_text (list_type.Style style) set =
       marker_text table style (option_map_or (λ (counter : Counter). counter.value) (innermost set list_item) (pos 0))
 
-  abbrev pub marker_content : Content → Handed → Generated
-  marker_content content.Normal handed = record {
-    pieces = piece.Chars (default_text element.style.own.list_type (inherited_by handed)) ∷ [];
-    set = inherited_by handed;
-    depth = handed.depth;
-  }
-  marker_content content.Nothing handed = content_of kind.Marker element.style.marker (inherited_by handed) handed
-  marker_content (content.Items items) handed = content_of kind.Marker element.style.marker (inherited_by handed) handed
+  abbrev pub default_content : List Counter → ℕ → Generated
+  default_content set depth =
+      record { pieces = piece.Chars (default_text element.style.own.list_type set) ∷ []; set = set; depth = depth }
 
-  abbrev pub marker_passed : Handed → Passed
-  marker_passed handed =
-      cond (has_marker element.style)
-      (made_box (box key kind.Marker) [] (marker_content element.style.marker.content handed) handed)
-      (passed_over handed)
+  abbrev pub marker_content : Handed → Generated
+  marker_content handed =
+      cond (has_items element.style.marker.content)
+      (content_of kind.Marker element.style.marker (inherited_by handed) handed)
+      (default_content (inherited_by handed) handed.depth)
+
+  abbrev pub marker_formed : Handed → Formed
+  marker_formed handed = cond (has_marker element.style) (formed_box [] (marker_content handed)) (no_box handed.depth)
 
   -- Its before and after boxes. They are no list items (our own).
 
   abbrev pub pseudo_counted : BoxKind → Style → Handed → Counted
   pseudo_counted kind style handed = counted (is_replaced_in kind handed) (box key kind) element.starts false style (inherited_by handed)
 
-  abbrev pub pseudo_passed : BoxKind → Style → Handed → Passed
-  pseudo_passed kind style handed =
+  abbrev pub pseudo_formed : BoxKind → Style → Handed → Formed
+  pseudo_formed kind style handed =
       let after = pseudo_counted kind style handed in
-      cond (has_pseudo_box style)
-      (made_box (box key kind) after.changes (content_of kind style after.set handed) handed)
-      (passed_over handed)
+      cond (has_pseudo_box style) (formed_box after.changes (content_of kind style after.set handed)) (no_box handed.depth)
 
   -- The whole element, but for its children.
 
-  -- behind its marker, and behind its before box
-  abbrev pub behind_marker : Handed → Passed
-  behind_marker handed = marker_passed (inside (own_counted handed).set handed.depth)
+  -- its marker, where it is handed this, and what its before box is handed
+  abbrev pub marker_of : Handed → Formed
+  marker_of handed = marker_formed (inside (own_counted handed).set handed.depth)
 
-  abbrev pub behind_before : Handed → Passed
-  behind_before handed = pseudo_passed kind.Before element.style.before (behind_marker handed).handed
+  abbrev pub behind_marker : Handed → Handed
+  behind_marker handed = past_formed (box key kind.Marker) (marker_of handed) (inside (own_counted handed).set handed.depth)
 
-  -- up to its children, where it is handed this
+  -- its before box, and what its children are handed
+  abbrev pub before_of : Handed → Formed
+  before_of handed = pseudo_formed kind.Before element.style.before (behind_marker handed)
+
+  abbrev pub children_handed : Handed → Handed
+  children_handed handed = past_formed (box key kind.Before) (before_of handed) (behind_marker handed)
+
+  -- the element up to its children
   abbrev pub entry_of : Handed → Entry
   entry_of handed = record {
     own = (own_counted handed).set;
     changes = (own_counted handed).changes;
-    marker = (behind_marker handed).made;
-    before = (behind_before handed).made;
-    depth = (behind_before handed).handed.depth;
+    marker = (marker_of handed).made;
+    before = (before_of handed).made;
+    depth = (before_of handed).depth;
   }
 
-  -- what its children are handed
-  abbrev pub children_handed : Handed → Handed
-  children_handed handed = (behind_before handed).handed
+  -- its after box, where this is handed on behind its children
+  abbrev pub after_of : Handed → Formed
+  after_of handed = pseudo_formed kind.After element.style.after handed
 
-  -- from its children on, where this is handed on behind them
-  abbrev pub behind_after : Handed → Passed
-  behind_after handed = pseudo_passed kind.After element.style.after handed
-
+  -- the element from its children on; it is left with the counters of its last box
   abbrev pub closing_of : Handed → Closing
   closing_of handed = record {
-    after = (behind_after handed).made;
-    exit = unwrap_or (behind_after handed).handed.preceding [];
-    depth = (behind_after handed).handed.depth;
+    after = (after_of handed).made;
+    exit = unwrap_or (past_formed (box key kind.After) (after_of handed) handed).preceding [];
+    depth = (after_of handed).depth;
   }
 
 -- what the inputs of an element say is handed to it, where these are the sibling boxes before it

@@ -13,6 +13,7 @@ use Rattle.plain_types.specs.declared.style.Style.{Style}
 use Rattle.definitions.specs.CounterStyles.{distinct}
 use Rattle.counter_sets.specs.Sets.{assigned, incremented, innermost, instantiated, is_same_box}
 use Rattle.box_eval.specs.declared.change.Change.{Change}
+use Rattle.box_eval.specs.declared.counting.Counted.{Counted}
 use Rattle.box_eval.specs.declared.inputs.Start.{Start}
 
 -- Entries of one name.
@@ -104,20 +105,15 @@ change_of box increments assigns set name = record {
 
 -- the names of the increments, and then those that are only set
 abbrev pub changed_names : List CounterOp → List CounterOp → List (List ℕ)
-changed_names increments assigns = names increments ++ filter (λ name. not (list_any (bytes_eq name) (names increments))) (names assigns)
+changed_names increments assigns = names (increments ++ filter (λ (op : CounterOp). not (list_any (is_for op.name) increments)) assigns)
 
 abbrev pub changes_of : BoxId → List CounterOp → List CounterOp → List Counter → List Change
 changes_of box increments assigns set = map (change_of box increments assigns set) (changed_names increments assigns)
 
 -- All together.
 
--- the counters of a box after its properties, and what it did to counters
-pub record Counted : Type 0 where
-  pub set : List Counter
-  pub changes : List Change
-
 module _ (is_replaced : Counter → Bool) (box : BoxId) (starts : List Start) where
-  -- 4.2: increments come before what is set
+  -- 4.2: increments come before what is set; the counters after both, and what the box did to counters
   abbrev pub counted_from : Style → List CounterOp → List Counter → Counted
   counted_from style increments set =
       let counters = after_assigns is_replaced box style.assigns (after_increments is_replaced box increments set) in

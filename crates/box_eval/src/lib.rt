@@ -2,6 +2,9 @@
 #![tactic(auto)]
 
 pub mod change;
+mod counting;
 pub mod entry;
+mod formed;
 pub mod inputs;
 pub mod made;
+mod ops;
