@@ -1,3 +1,4 @@
 mod Agreement
 mod CountedLemmas
+mod ContentLemmas
 mod OpLemmas
