@@ -1,3 +1,6 @@
+mod ListLemmas
+mod BoxLemmas
+mod KeptLemmas
 mod Agreement
 mod CountedLemmas
 mod ContentLemmas

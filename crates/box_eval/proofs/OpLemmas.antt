@@ -1,12 +1,14 @@
 -- Entries of counter properties.
-use Rattle.std.proofs.Common.{◌≡◌, ◌++◌, ◌∷◌, ◌||◌, ℕ, List, [], Bool, true, false, cond, not, map, refl, sym, ap, ◌∙◌, inl, inr, append-nil}
+use Rattle.std.proofs.Common.{◌≡◌, ◌++◌, ◌∷◌, ◌||◌, ℕ, List, [], Bool, true, false, cond, not, map, refl, sym, ap, ◌∙◌, inl, inr, append-nil, Option, Some, None, ℤ, pos, negsuc}
 use Rattle.std.proofs.lemmas.List.{map-append}
 use Rattle.std.proofs.lemmas.List.Elements.{filter-append}
 use Rattle.std.proofs.lemmas.Bool.{cases_Bool, or_right}
 use Rattle.std.specs.Prelude.{filter}
 use Rattle.std.specs.List.{list_any}
+use Rattle.std.specs.Option.{option_map_or}
 use Rattle.std.specs.Str.{bytes_eq}
 use Rattle.definitions.specs.CounterStyles.{distinct}
+use Rattle.plain_types.specs.declared.counter.Counter.{Counter}
 use Rattle.plain_types.specs.declared.style.CounterOp.{CounterOp}
 use Rattle.box_eval.specs.Properties.{is_for, last_of_each, names}
 
@@ -18,9 +20,9 @@ pushed y front x false whole e =
     let test : List ℕ → Bool = λ other. not (bytes_eq y other) in
     let split = filter-append test front (x ∷ []) in
     elim (cases_Bool (bytes_eq y x)) [
-        inl f ↦ let all : whole ≡ true = sym e ∙ rw f refl in rw all (ap (λ xs. y ∷ xs) (split ∙ rw f (append-nil (filter test front))))
+      | inl f ↦ let all : whole ≡ true = sym e ∙ rw f refl in rw all (ap (λ xs. y ∷ xs) (split ∙ rw f (append-nil (filter test front))))
       | inr f ↦ let all : whole ≡ false = sym e ∙ rw f refl in rw all (ap (λ xs. y ∷ xs) (split ∙ rw f refl))
-      ]
+    ]
 
 -- one name more, which is there already or not
 distinct_push : (xs : List (List ℕ)) (x : List ℕ) (known : Bool) → list_any (λ y. bytes_eq y x) xs ≡ known → distinct (xs ++ x ∷ []) ≡ cond known (distinct xs) (distinct xs ++ x ∷ [])
@@ -62,3 +64,12 @@ module _ {Entry : Type 0} (name_of : Entry → List ℕ) where
 
   pub last_later : (entries later : List Entry) (entry : Entry) → entries ≡ entry ∷ later → list_any (λ other. bytes_eq (name_of other) (name_of entry)) later ≡ true → last_of_each name_of entries ≡ last_of_each name_of later
   last_later entries later entry s e = ap (last_of_each name_of) s ∙ ap (λ again. cond again (last_of_each name_of later) (entry ∷ last_of_each name_of later)) e
+
+-- The implicit step of a list item.
+
+pub implicit_found : (found : Option Counter) (counter : Counter) (reversed : Bool) → Some counter ≡ found → counter.reversed ≡ reversed → cond reversed (negsuc 0) (pos 1) ≡ option_map_or (λ (counter : Counter). cond counter.reversed (negsuc 0) (pos 1)) found (pos 1)
+implicit_found found counter reversed e r =
+    sym (ap (λ is. cond is (negsuc 0) (pos 1)) r) ∙ ap (λ found. option_map_or (λ (counter : Counter). cond counter.reversed (negsuc 0) (pos 1)) found (pos 1)) e
+
+pub implicit_missing : (found : Option Counter) → None ≡ found → pos 1 ≡ option_map_or (λ (counter : Counter). cond counter.reversed (negsuc 0) (pos 1)) found (pos 1)
+implicit_missing found e = ap (λ found. option_map_or (λ (counter : Counter). cond counter.reversed (negsuc 0) (pos 1)) found (pos 1)) e

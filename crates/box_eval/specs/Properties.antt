@@ -58,13 +58,17 @@ list_item = codes "list-item"
 abbrev pub implicit_step : List Counter → ℤ
 implicit_step set = option_map_or (λ (counter : Counter). cond counter.reversed (negsuc 0) (pos 1)) (innermost set list_item) (pos 1)
 
--- 4.6: what a box adds, where its counters after its resets are these: a list item that does not name
--- `list-item` adds to that too, at the end
+abbrev pub implicit_op : List Counter → CounterOp
+implicit_op set = record { name = list_item; value = implicit_step set }
+
+-- 4.6: a list item adds it where its `counter-increment` does not name `list-item`
+abbrev pub has_implicit_step : Bool → List CounterOp → Bool
+has_implicit_step is_item increments = is_item && not (list_any (is_for list_item) increments)
+
+-- what a box adds to its counters, where these are its counters after its resets; the implicit step is the last
 abbrev pub increments_of : Bool → List CounterOp → List Counter → List CounterOp
 increments_of is_item increments set =
-    cond (is_item && not (list_any (is_for list_item) increments))
-    (merged increments ++ record { name = list_item; value = implicit_step set } ∷ [])
-    (merged increments)
+    cond (has_implicit_step is_item increments) (merged increments ++ implicit_op set ∷ []) (merged increments)
 
 -- The counters of a box. `is_replaced` tells which counters a new one of their name takes the place of.
 
@@ -86,19 +90,23 @@ module _ (is_replaced : Counter → Bool) (box : BoxId) where
   abbrev pub after_resets : List Start → List ResetOp → List Counter → List Counter
   after_resets starts resets set = fold (reset_by starts) set (last_resets resets)
 
-  -- 4.2: the counters after these increments, and after these are set
-  abbrev pub after_increments : List CounterOp → List Counter → List Counter
-  after_increments increments set = fold (λ before (op : CounterOp). incremented is_replaced box before op.name op.value) set increments
+  -- 4.2: the counters after these increments, and after these numbers are set
+  abbrev pub incremented_all : List CounterOp → List Counter → List Counter
+  incremented_all increments set = fold (λ before (op : CounterOp). incremented is_replaced box before op.name op.value) set increments
 
-  abbrev pub after_assigns : List CounterOp → List Counter → List Counter
-  after_assigns assigns set = fold (λ before (op : CounterOp). assigned is_replaced box before op.name op.value) set (last_assigns assigns)
+  abbrev pub assigned_all : List CounterOp → List Counter → List Counter
+  assigned_all assigns set = fold (λ before (op : CounterOp). assigned is_replaced box before op.name op.value) set assigns
 
 -- What a box does to counters. The starts of reversed counters are told by it.
+
+-- the box that created the innermost counter of a name; there is one where a box increments or sets it
+abbrev pub creator_of : List Counter → List ℕ → BoxId → BoxId
+creator_of set name otherwise = option_map_or (λ (counter : Counter). counter.creator) (innermost set name) otherwise
 
 -- to the innermost counter of a name, where the box increments and sets these
 abbrev pub change_of : BoxId → List CounterOp → List CounterOp → List Counter → List ℕ → Change
 change_of box increments assigns set name = record {
-  creator = option_map_or (λ (counter : Counter). counter.creator) (innermost set name) box;
+  creator = creator_of set name box;
   name = name;
   event = record { by = unwrap_or (number_for name increments) (pos 0); assigned = number_for name assigns };
 }
@@ -114,13 +122,13 @@ changes_of box increments assigns set = map (change_of box increments assigns se
 
 module _ (is_replaced : Counter → Bool) (box : BoxId) (starts : List Start) where
   -- 4.2: increments come before what is set; the counters after both, and what the box did to counters
-  abbrev pub counted_from : Style → List CounterOp → List Counter → Counted
-  counted_from style increments set =
-      let counters = after_assigns is_replaced box style.assigns (after_increments is_replaced box increments set) in
-      record { set = counters; changes = changes_of box increments (last_assigns style.assigns) counters }
+  abbrev pub counted_from : List CounterOp → List CounterOp → List Counter → Counted
+  counted_from increments assigns set =
+      let counters = assigned_all is_replaced box assigns (incremented_all is_replaced box increments set) in
+      record { set = counters; changes = changes_of box increments assigns counters }
 
   -- 4.1: resets come before both. The box inherits these counters, and is a list item's own box or not.
   abbrev pub counted : Bool → Style → List Counter → Counted
   counted is_item style inherited =
       let set = after_resets is_replaced box starts style.resets inherited in
-      counted_from style (increments_of is_item style.increments set) set
+      counted_from (increments_of is_item style.increments set) (last_assigns style.assigns) set

@@ -16,7 +16,7 @@ use plain_types::text::Text;
 use std::alloc::Global;
 
 /// Whether the texts are equal.
-fn is_same(text: &Text, other: &str) -> bool
+pub fn is_same(text: &Text, other: &str) -> bool
     ensures test { result ≡ bytes_eq text.now (chars other.now) }
 {
     text.as_str() == other
@@ -78,11 +78,7 @@ fn sum_for(ops: &[CounterOp], name: &str) -> Count
 }
 
 /// The entry with the sum of all entries of its name.
-fn with_sum(
-    alloc: Global,
-    op: &CounterOp,
-    increments: &[CounterOp],
-) -> Result<CounterOp, Memory>
+fn with_sum(alloc: Global, op: &CounterOp, increments: &[CounterOp]) -> Result<CounterOp, Memory>
     ensures entry { IfOk result (λ entry. entry ≡ record { name = op.now.name; value = sum_for op.now.name increments.now }) }
 {
     Ok(CounterOp {

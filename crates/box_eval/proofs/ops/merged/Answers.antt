@@ -17,11 +17,11 @@ loop-place-preserved c =
     let more : through ≡ front ++ op ∷ [] = take_more increments c.loop-place.place op c.loop-place-test.true ∙ ap (λ item. front ++ item ∷ []) (sym c.index-increments-place.is) in
     let named = ap (λ name. list_any (is_for name) front) c.as_str.ensures.characters in
     elim c.if-not-is_named_in.branch [
-      then-not-is_named_in+in_ok-with_sum+in_ok-push w ↦
-        let new : list_any (is_for op.name) front ≡ false = sym named ∙ sym c.is_named_in.ensures.test ∙ w.if-not-is_named_in.true in
-        w.all-is ∙ w.in_ok-push.ensures.ok ∙ ap (λ entry. c.loop-place.all ++ entry ∷ []) w.in_ok-with_sum.ensures.entry
-        ∙ merged_more whole front through c.loop-place.all op more c.loop-place.invariant new
-    | else-not-is_named_in w ↦
-        let old : list_any (is_for op.name) front ≡ true = sym named ∙ sym c.is_named_in.ensures.test ∙ w.if-not-is_named_in.false in
-        w.all-is ∙ merged_kept whole front through c.loop-place.all op more c.loop-place.invariant old
+      | then-not-is_named_in+in_ok-with_sum+in_ok-push w ↦
+          let new : list_any (is_for op.name) front ≡ false = sym named ∙ sym c.is_named_in.ensures.test ∙ w.if-not-is_named_in.true in
+          w.all-is ∙ w.in_ok-push.ensures.ok ∙ ap (λ entry. c.loop-place.all ++ entry ∷ []) w.in_ok-with_sum.ensures.entry
+          ∙ merged_more whole front through c.loop-place.all op more c.loop-place.invariant new
+      | else-not-is_named_in w ↦
+          let old : list_any (is_for op.name) front ≡ true = sym named ∙ sym c.is_named_in.ensures.test ∙ w.if-not-is_named_in.false in
+          w.all-is ∙ merged_kept whole front through c.loop-place.all op more c.loop-place.invariant old
     ]
