@@ -5,3 +5,4 @@ mod Agreement
 mod CountedLemmas
 mod ContentLemmas
 mod OpLemmas
+mod ResetLemmas

@@ -1,8 +1,9 @@
 //! The counters of a box after its counter properties (CSS Lists 3, 4.1, 4.2 and 4.6).
 
-ghost use Rattle.std.specs.Prelude.{◌≡◌, IfOk, unwrap_or};
+ghost use Rattle.std.specs.Prelude.{◌≡◌, ◌∷◌, [], IfOk, unwrap_or};
 ghost use Rattle.std.specs.Str.{chars};
-ghost use Rattle.counter_sets.specs.Sets.{is_missing_in};
+ghost use Rattle.counter_sets.specs.Sets.{AreDistinct, is_missing_in};
+ghost use Rattle.box_eval.specs.Scopes.{HasNoneOf};
 ghost use Rattle.box_eval.specs.Properties.{after_resets, change_of, changes_of, counted, creator_of, first_value, has_implicit_step, implicit_op, implicit_step, incremented_all, assigned_all, increments_of, reset_by, start_in};
 
 use crate::change::Change;
@@ -36,6 +37,7 @@ pub fn count_box(
     style: &Style,
     place: &Place,
 ) -> Result<Counted, Memory>
+    requires new { HasNoneOf (place.now.creator ∷ []) place.now.set }
     ensures counted { IfOk result (λ after. after ≡ counted (is_missing_in place.now.parent) place.now.creator starts.now is_item style.now place.now.set) }
 {
     let reset = reset_all(alloc, starts, style.resets.as_slice(), place)?;
@@ -89,6 +91,7 @@ fn reset(
     place: &Place,
     set: &CounterSet,
 ) -> Result<CounterSet, Memory>
+    requires distinct { AreDistinct (reset_by (is_missing_in place.now.parent) place.now.creator starts.now set.now op.now) }
     ensures set { IfOk result (λ after. after ≡ reset_by (is_missing_in place.now.parent) place.now.creator starts.now set.now op.now) }
 {
     let counter = Counter {
@@ -107,6 +110,7 @@ fn reset_all(
     resets: &[ResetOp],
     place: &Place,
 ) -> Result<CounterSet, Memory>
+    requires new { HasNoneOf (place.now.creator ∷ []) place.now.set }
     ensures set { IfOk result (λ after. after ≡ after_resets (is_missing_in place.now.parent) place.now.creator starts.now resets.now place.now.set) }
 {
     let mut set = place.set.share(alloc)?;

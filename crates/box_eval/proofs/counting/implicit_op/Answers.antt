@@ -10,4 +10,4 @@ returns c =
     let make : List ℕ → ℤ → CounterOp = λ name value. record { name = name; value = value } in
     let step = c.implicit_step.result in
     let same : to_z w32 (of_z w32 step) ≡ step = search rules in
-    record { op = ap (λ name. make name (to_z w32 (of_z w32 step))) c.in_ok-from_str.ensures.characters ∙ ap (make list_item) (same ∙ c.implicit_step.ensures.step); }
+    record { op = ap (λ name. make name (to_z w32 (of_z w32 step))) c.in_ok-from_str.ensures.characters ∙ ap (make list_item) (same ∙ c.implicit_step.ensures.step) }
