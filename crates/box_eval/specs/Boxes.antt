@@ -12,9 +12,9 @@ use Rattle.plain_types.specs.declared.style.ListType.TheVariants as list_type
 use Rattle.plain_types.specs.declared.style.Style.{Style}
 use Rattle.plain_types.specs.declared.style_ref.StyleRef.TheVariants as style_ref
 
--- the element of this key has such a box
-abbrev pub box : ℕ → BoxKind → BoxId
-box key kind = record { key = key; kind = kind }
+-- a box of the element of this key
+abbrev pub box_of : ℕ → BoxKind → BoxId
+box_of key kind = record { key = key; kind = kind }
 
 -- `display: none`
 abbrev pub is_absent : Display → Bool
@@ -45,15 +45,15 @@ marks content.Normal type = not (is_unmarked type)
 marks content.Nothing type = false
 marks (content.Items items) type = true
 
--- an element whose parent has a box, or that is the root, has a box
-abbrev pub has_box : ElementStyle → Bool
-has_box style = not (is_absent style.own.display)
+-- an element of this style generates a box, where it is the root or its parent has one
+abbrev pub generates_box : ElementStyle → Bool
+generates_box style = not (is_absent style.own.display)
 
--- an element that has a box has a marker: list items alone have one (our own)
+-- such an element has a marker; list items alone have one (our own)
 abbrev pub has_marker : ElementStyle → Bool
 has_marker style = is_list_item style.own.display && marks style.marker.content style.own.list_type
 
--- a pseudo-element of this style, `::before` or `::after`, of an element that has a box has one too;
--- `list-item` counts there as any other box (our own)
+-- `::before` or `::after` of such an element has a box, where this is its own style; `list-item` counts there
+-- as any other box (our own)
 abbrev pub has_pseudo_box : Style → Bool
 has_pseudo_box style = has_items style.content && not (is_absent style.display)

@@ -27,7 +27,7 @@ use Rattle.box_eval.specs.declared.formed.Formed.{Formed}
 use Rattle.box_eval.specs.declared.inputs.Inputs.{Inputs}
 use Rattle.box_eval.specs.declared.inputs.Start.{Start}
 use Rattle.box_eval.specs.declared.made.Made.{Made}
-use Rattle.box_eval.specs.Boxes.{box, has_items, has_marker, has_pseudo_box, is_list_item}
+use Rattle.box_eval.specs.Boxes.{box_of, has_items, has_marker, has_pseudo_box, is_list_item}
 use Rattle.box_eval.specs.Properties.{counted, list_item}
 
 -- What is handed from box to box.
@@ -99,23 +99,24 @@ past_formed box formed handed = option_map_or (λ (made : Made). past box made.s
 module _ (table : List CounterStyle) (replacing : Replacing) (key : ℕ) (element : Styled) where
   -- which counters a new one replaces in a box of the element
   abbrev pub is_replaced_in : BoxKind → Handed → Counter → Bool
-  is_replaced_in kind handed = replacing (box key kind ∷ handed.earlier) handed.parent
+  is_replaced_in kind handed = replacing (box_of key kind ∷ handed.earlier) handed.parent
 
   -- the text of a box whose counters after its properties are these
   abbrev pub content_of : BoxKind → Style → List Counter → Handed → Generated
   content_of kind style set handed =
-      generated table (items_of style.content) element.attrs style.quotes (box key kind) (is_replaced_in kind handed) set handed.depth
+      generated table (items_of style.content) element.attrs style.quotes (box_of key kind) (is_replaced_in kind handed) set handed.depth
 
   -- The element's own box.
 
   abbrev pub own_counted : Handed → Counted
   own_counted handed =
-      counted (is_replaced_in kind.Element handed) (box key kind.Element) element.starts
+      counted (is_replaced_in kind.Element handed) (box_of key kind.Element) element.starts
       (is_list_item element.style.own.display) element.style.own (inherited_by handed)
 
   -- Its marker. It has no counter properties: CSS Lists 3, 3.1.1.
 
-  -- CSS Lists 3, 3.2: the text of a marker that has no items of its own
+  -- CSS Lists 3, 3.2: the text of a marker that has no items of its own. A list item has a counter `list-item`,
+  -- so the 0 is never read.
   abbrev pub default_text : ListType → List Counter → List ℕ
   default_text (list_type.Chars text) set = text
   default_text (list_type.Style style) set =
@@ -137,12 +138,12 @@ module _ (table : List CounterStyle) (replacing : Replacing) (key : ℕ) (elemen
   -- Its before and after boxes. They are no list items (our own).
 
   abbrev pub pseudo_counted : BoxKind → Style → Handed → Counted
-  pseudo_counted kind style handed = counted (is_replaced_in kind handed) (box key kind) element.starts false style (inherited_by handed)
+  pseudo_counted kind style handed = counted (is_replaced_in kind handed) (box_of key kind) element.starts false style (inherited_by handed)
 
   abbrev pub pseudo_formed : BoxKind → Style → Handed → Formed
   pseudo_formed kind style handed =
-      let after = pseudo_counted kind style handed in
-      cond (has_pseudo_box style) (formed_box after.changes (content_of kind style after.set handed)) (no_box handed.depth)
+      let counted = pseudo_counted kind style handed in
+      cond (has_pseudo_box style) (formed_box counted.changes (content_of kind style counted.set handed)) (no_box handed.depth)
 
   -- The whole element, but for its children.
 
@@ -151,14 +152,14 @@ module _ (table : List CounterStyle) (replacing : Replacing) (key : ℕ) (elemen
   marker_of handed = marker_formed (inside (own_counted handed).set handed.depth)
 
   abbrev pub behind_marker : Handed → Handed
-  behind_marker handed = past_formed (box key kind.Marker) (marker_of handed) (inside (own_counted handed).set handed.depth)
+  behind_marker handed = past_formed (box_of key kind.Marker) (marker_of handed) (inside (own_counted handed).set handed.depth)
 
   -- its before box, and what its children are handed
   abbrev pub before_of : Handed → Formed
   before_of handed = pseudo_formed kind.Before element.style.before (behind_marker handed)
 
   abbrev pub children_handed : Handed → Handed
-  children_handed handed = past_formed (box key kind.Before) (before_of handed) (behind_marker handed)
+  children_handed handed = past_formed (box_of key kind.Before) (before_of handed) (behind_marker handed)
 
   -- the element up to its children
   abbrev pub entry_of : Handed → Entry
@@ -174,15 +175,16 @@ module _ (table : List CounterStyle) (replacing : Replacing) (key : ℕ) (elemen
   abbrev pub after_of : Handed → Formed
   after_of handed = pseudo_formed kind.After element.style.after handed
 
-  -- the element from its children on; it is left with the counters of its last box
+  -- the element from its children on; it is left with the counters of its last box in tree order, and there is
+  -- one, since its own box comes before its children
   abbrev pub closing_of : Handed → Closing
   closing_of handed = record {
     after = (after_of handed).made;
-    exit = unwrap_or (past_formed (box key kind.After) (after_of handed) handed).preceding [];
+    exit = unwrap_or (past_formed (box_of key kind.After) (after_of handed) handed).preceding [];
     depth = (after_of handed).depth;
   }
 
--- what the inputs of an element say is handed to it, where these are the sibling boxes before it
+-- what inputs hand on, where these are the sibling boxes before: to an element, or behind its children
 abbrev pub handed_in : Inputs → List BoxId → Handed
 handed_in inputs earlier =
     record { parent = inputs.parent; earlier = earlier; sibling = inputs.sibling; preceding = inputs.preceding; depth = inputs.depth }

@@ -16,7 +16,7 @@ use Rattle.box_eval.specs.declared.change.Change.{Change}
 use Rattle.box_eval.specs.declared.inputs.Inputs.{Inputs}
 use Rattle.box_eval.specs.declared.inputs.Start.{Start}
 use Rattle.box_eval.specs.declared.made.Made.{Made}
-use Rattle.box_eval.specs.Boxes.{box, has_box, has_pseudo_box}
+use Rattle.box_eval.specs.Boxes.{box_of, generates_box, has_pseudo_box}
 use Rattle.box_eval.specs.Elements.{Handed, Replacing, Styled, at_root, children_handed, closing_of, entry_of, by_peers, past}
 use Rattle.box_eval.specs.Properties.{last_resets}
 
@@ -35,10 +35,10 @@ box_starts start creator style =
 
 abbrev pub element_starts : (BoxId → List ℕ → ℤ) → ℕ → ElementStyle → List Start
 element_starts start key style =
-    cond (has_box style)
-    (box_starts start (box key kind.Element) style.own
-    ++ (cond (has_pseudo_box style.before) (box_starts start (box key kind.Before) style.before) []
-    ++ cond (has_pseudo_box style.after) (box_starts start (box key kind.After) style.after) []))
+    cond (generates_box style)
+    (box_starts start (box_of key kind.Element) style.own
+    ++ (cond (has_pseudo_box style.before) (box_starts start (box_of key kind.Before) style.before) []
+    ++ cond (has_pseudo_box style.after) (box_starts start (box_of key kind.After) style.after) []))
     []
 
 abbrev pub styled_node : (ℕ → ElementStyle) → (BoxId → List ℕ → ℤ) → ℕ → Node → StyledNode
@@ -69,7 +69,7 @@ without_box =
 
 -- CSS Display 3, 2.5: whether a node has a box, where its parent has one or not
 abbrev pub is_boxed : Bool → StyledNode → Bool
-is_boxed parent_has_box (Element element) = parent_has_box && has_box element.style
+is_boxed parent_has_box (Element element) = parent_has_box && generates_box element.style
 is_boxed parent_has_box Text = false
 
 abbrev pub changes_in : Option Made → List Change
@@ -87,7 +87,7 @@ module _ (table : List CounterStyle) (replacing : Replacing) where
   -- what the node after it is handed: without a box, what the node itself was handed
   abbrev pub past_node : Bool → ℕ → StyledNode → (handed behind : Handed) → Handed
   past_node true key (Element element) handed behind =
-      past (box key kind.Element) (entry_of table replacing key element handed).own
+      past (box_of key kind.Element) (entry_of table replacing key element handed).own
       (closing_of table replacing key element behind).exit (closing_of table replacing key element behind).depth handed
   past_node _ key label handed behind = handed
 
@@ -175,10 +175,13 @@ module _ (table : List CounterStyle) (replacing : Replacing) where
       ++ (inputs has first children
       ++ inputs boxed (past_node has node.key node.label handed behind) after)
 
--- A whole document.
+-- A whole document: what is said of its elements, what its boxes do to counters, and its elements' inputs.
 
 abbrev pub evaluation : List CounterStyle → Forest (Keyed StyledNode) → List (ℕ × ElementRecord)
 evaluation table document = records table by_peers true at_root document
 
 abbrev pub all_changes : List CounterStyle → Forest (Keyed StyledNode) → List Change
 all_changes table document = changes table by_peers true at_root document
+
+abbrev pub all_inputs : List CounterStyle → Forest (Keyed StyledNode) → List Inputs
+all_inputs table document = inputs table by_peers true at_root document

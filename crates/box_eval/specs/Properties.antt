@@ -18,7 +18,8 @@ use Rattle.box_eval.specs.declared.inputs.Start.{Start}
 
 -- Entries of one name.
 
--- 4.1 and 4.2, `counter-reset` and `counter-set`: of each name only the last entry holds, where it stands
+-- `counter-reset` and `counter-set`: of each name only the last entry holds, where it stands. `reversed(c)` and
+-- `c` are one name. (Both are our own.)
 module _ {Entry : Type 0} (name_of : Entry → List ℕ) where
   abbrev pub last_of_each : List Entry → List Entry
   last_of_each [] = []
@@ -41,7 +42,7 @@ names ops = map (λ (op : CounterOp). op.name) ops
 abbrev pub number_for : List ℕ → List CounterOp → Option ℤ
 number_for name ops = option_map (λ (op : CounterOp). op.value) (find (is_for name) ops)
 
--- 4.2, `counter-increment`: the entries of one name are added, from left to right
+-- `counter-increment`: the numbers of one name are added, from left to right, each sum saturated (our own)
 abbrev pub sum_for : List ℕ → List CounterOp → ℤ
 sum_for name ops = fold (λ sum (op : CounterOp). count_sum sum op.value) (pos 0) (filter (is_for name) ops)
 
