@@ -6,3 +6,5 @@ mod CountedLemmas
 mod ContentLemmas
 mod OpLemmas
 mod ResetLemmas
+mod ElementLemmas
+mod EntryLemmas

@@ -1,5 +1,5 @@
 -- The evaluation of an element's boxes: CSS Lists 3, 3.2 and 4.4, and CSS Generated Content 3, 1 and 2.
-use Rattle.std.specs.Prelude.{ℕ, Bool, false, pos, List, [], ◌∷◌, Option, Some, None, cond, unwrap_or}
+use Rattle.std.specs.Prelude.{ℕ, ℤ, Bool, false, pos, List, [], ◌∷◌, Option, Some, None, cond, unwrap_or}
 use Rattle.std.specs.Option.{option_map_or}
 use Rattle.plain_types.specs.declared.attr.Attr.{Attr}
 use Rattle.plain_types.specs.declared.box_id.BoxId.{BoxId}
@@ -94,7 +94,20 @@ no_box depth = record { made = None; depth = depth }
 
 -- what the next sibling box is handed behind it
 abbrev pub past_formed : BoxId → Formed → Handed → Handed
-past_formed box formed handed = option_map_or (λ (made : Made). past box made.set made.set formed.depth handed) formed.made handed
+past_formed box formed handed =
+    option_map_or (λ (made : Made). past box made.set made.set formed.depth handed) formed.made (record handed { depth = formed.depth })
+
+-- the number of a list item. It has a counter `list-item`, so the 0 is never read.
+abbrev pub item_number : List Counter → ℤ
+item_number set = option_map_or (λ (counter : Counter). counter.value) (innermost set list_item) (pos 0)
+
+-- CSS Lists 3, 3.2: the text of a marker that has no items of its own
+abbrev pub default_text : List CounterStyle → ListType → List Counter → List ℕ
+default_text table (list_type.Chars text) set = text
+default_text table (list_type.Style style) set = marker_text table style (item_number set)
+
+abbrev pub default_content : List CounterStyle → ListType → List Counter → ℕ → Generated
+default_content table type set depth = record { pieces = piece.Chars (default_text table type set) ∷ []; set = set; depth = depth }
 
 module _ (table : List CounterStyle) (replacing : Replacing) (key : ℕ) (element : Styled) where
   -- which counters a new one replaces in a box of the element
@@ -115,22 +128,11 @@ module _ (table : List CounterStyle) (replacing : Replacing) (key : ℕ) (elemen
 
   -- Its marker. It has no counter properties: CSS Lists 3, 3.1.1.
 
-  -- CSS Lists 3, 3.2: the text of a marker that has no items of its own. A list item has a counter `list-item`,
-  -- so the 0 is never read.
-  abbrev pub default_text : ListType → List Counter → List ℕ
-  default_text (list_type.Chars text) set = text
-  default_text (list_type.Style style) set =
-      marker_text table style (option_map_or (λ (counter : Counter). counter.value) (innermost set list_item) (pos 0))
-
-  abbrev pub default_content : List Counter → ℕ → Generated
-  default_content set depth =
-      record { pieces = piece.Chars (default_text element.style.own.list_type set) ∷ []; set = set; depth = depth }
-
   abbrev pub marker_content : Handed → Generated
   marker_content handed =
       cond (has_items element.style.marker.content)
       (content_of kind.Marker element.style.marker (inherited_by handed) handed)
-      (default_content (inherited_by handed) handed.depth)
+      (default_content table element.style.own.list_type (inherited_by handed) handed.depth)
 
   abbrev pub marker_formed : Handed → Formed
   marker_formed handed = cond (has_marker element.style) (formed_box [] (marker_content handed)) (no_box handed.depth)
@@ -183,6 +185,9 @@ module _ (table : List CounterStyle) (replacing : Replacing) (key : ℕ) (elemen
     exit = unwrap_or (past_formed (box_of key kind.After) (after_of handed) handed).preceding [];
     depth = (after_of handed).depth;
   }
+
+abbrev pub styled_by : Inputs → List Attr → ElementStyle → Styled
+styled_by inputs attrs style = record { attrs = attrs; style = style; starts = inputs.starts }
 
 -- what inputs hand on, where these are the sibling boxes before: to an element, or behind its children
 abbrev pub handed_in : Inputs → List BoxId → Handed

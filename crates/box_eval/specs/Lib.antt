@@ -3,3 +3,4 @@ pub mod Properties
 pub mod Elements
 pub mod Evaluation
 pub mod Scopes
+pub mod Forming
