@@ -100,25 +100,19 @@ module _ (table : List CounterStyle) (element : Styled) (inputs : Inputs) (earli
 
   module _ (fits : AreEarlier earlier inputs) where
     module _ (new : AreNew (first_boxes inputs.key element.style) inputs) where
-      own : Counted
-      own = own_counted table by_parent inputs.key element (handed_in inputs earlier)
-
-      element_ready : IsReady (box_of inputs.key kind.Element) (handed_in inputs earlier)
+      pub element_ready : IsReady (box_of inputs.key kind.Element) (handed_in inputs earlier)
       element_ready = ready_in (box_of inputs.key kind.Element) earlier inputs fits (new_element inputs.key element.style inputs new)
 
-      none_by_marker : has_marker element.style ≡ true → HasNoneOf (box_of inputs.key kind.Marker ∷ []) own.set
-      unfolding own
+      pub none_by_marker : has_marker element.style ≡ true → HasNoneOf (box_of inputs.key kind.Marker ∷ []) (own_counted table by_parent inputs.key element (handed_in inputs earlier)).set
       none_by_marker has = none_in_own kind.Marker refl (new_marker inputs.key element.style inputs has new)
 
       pub none_by_before : has_pseudo_box element.style.before ≡ true → HasNoneOf (box_of inputs.key kind.Before ∷ []) (own_counted table by_parent inputs.key element (handed_in inputs earlier)).set
       none_by_before has = none_in_own kind.Before refl (new_before inputs.key element.style inputs has new)
 
       pub marker_ready : has_marker element.style ≡ true → IsReady (box_of inputs.key kind.Marker) (inside (own_counted table by_parent inputs.key element (handed_in inputs earlier)).set inputs.depth)
-      unfolding own
       marker_ready has = ready_inside (box_of inputs.key kind.Marker) (own_counted table by_parent inputs.key element (handed_in inputs earlier)).set inputs.depth (none_by_marker has)
 
       pub before_ready : has_pseudo_box element.style.before ≡ true → IsReady (box_of inputs.key kind.Before) (behind_marker table by_parent inputs.key element (handed_in inputs earlier))
-      unfolding own
       before_ready has =
           let marker = marker_of table by_parent inputs.key element (handed_in inputs earlier) in
           let around = inside (own_counted table by_parent inputs.key element (handed_in inputs earlier)).set inputs.depth in

@@ -8,3 +8,4 @@ mod OpLemmas
 mod ResetLemmas
 mod ElementLemmas
 mod EntryLemmas
+mod DocumentLemmas

@@ -4,3 +4,4 @@ pub mod Elements
 pub mod Evaluation
 pub mod Scopes
 pub mod Forming
+pub mod Laws

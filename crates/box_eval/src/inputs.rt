@@ -15,18 +15,20 @@ pub struct Start {
     pub value: Count,
 }
 
-/// What is handed to an element.
+/// What boxes before hand on to the next boxes of an element: to its own box, or, once its children are
+/// evaluated, to its after box.
 #[derive(Drop)]
 pub struct Inputs {
     /// The element's key.
     pub key: usize,
-    /// The counters of its box's parent box.
+    /// The counters of the parent box. For the after box that is the element's own box.
     pub parent: CounterSet,
-    /// Those of the box's sibling box before it, where there is one.
+    /// Those of the sibling box before, where there is one. For the after box that is the element's last child
+    /// box so far.
     pub sibling: Option<CounterSet>,
-    /// Those of the box before it in tree order, where there is one.
+    /// Those of the box just before in tree order, where there is one.
     pub preceding: Option<CounterSet>,
-    /// The quote depth.
+    /// The quote depth behind that box.
     pub depth: u64,
     /// The starts of the reversed counters that its boxes create. A missing one is 0.
     pub starts: List<Start>,
