@@ -1,13 +1,12 @@
 -- The counter properties of a box, by its peers and by its parent's set.
-use Rattle.std.proofs.Common.{◌≡◌, List, Bool, ap, ◌∙◌, ℤ, refl}
-use Rattle.std.specs.List.{fold}
+use Rattle.std.proofs.Common.{◌≡◌, List, Bool, ap, ◌∙◌}
 use Rattle.plain_types.specs.Counts.{count_sum}
 use Rattle.plain_types.specs.declared.box_id.BoxId.{BoxId}
 use Rattle.plain_types.specs.declared.counter.Counter.{Counter}
 use Rattle.plain_types.specs.declared.style.CounterOp.{CounterOp}
 use Rattle.plain_types.specs.declared.style.ResetOp.{ResetOp}
 use Rattle.plain_types.specs.declared.style.Style.{Style}
-use Rattle.counter_sets.specs.Sets.{assigned, incremented, is_by_peer, is_missing_in, with_counter, with_innermost}
+use Rattle.counter_sets.specs.Sets.{assigned, incremented, is_by_peer, is_missing_in, with_innermost}
 use Rattle.box_eval.specs.declared.inputs.Start.{Start}
 use Rattle.box_eval.specs.declared.counting.Counted.{Counted}
 use Rattle.box_eval.specs.Properties.{after_resets, assigned_all, changes_of, counted, counted_from, first_value, incremented_all, increments_of, last_assigns, last_resets, reset_by}

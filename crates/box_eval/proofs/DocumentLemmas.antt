@@ -1,8 +1,8 @@
 -- Whole documents, by the boxes' peers and by their parents' sets.
-use Rattle.std.proofs.Common.{◌≡◌, ◌+◌, ◌≤◌, ◌++◌, ◌∷◌, ◌||◌, ◌&&◌, ◌==◌, ℕ, List, [], Bool, true, false, cond, Option, Some, None, refl, sym, ap, subst, ◌∙◌, arith, ℤ, inl, inr}
+use Rattle.std.proofs.Common.{◌≡◌, ◌+◌, ◌≤◌, ◌++◌, ◌∷◌, ◌==◌, ℕ, List, [], Bool, true, false, cond, Option, Some, None, refl, sym, ap, subst, ◌∙◌, arith, ℤ, inl, inr}
 use Rattle.std.proofs.lemmas.Bool.{and_left, and_right, both_ways, cases_Bool, eq-eqb, eqb-true}
 use Rattle.std.proofs.lemmas.Bool.Decides.{nat_tests}
-use Rattle.std.specs.Prelude.{if◌then◌else◌, unwrap_or}
+use Rattle.std.specs.Prelude.{unwrap_or}
 use Rattle.std.specs.List.{AllByRecursion, list_any}
 use Rattle.forest.specs.Forest.{Forest, Empty, Tree}
 use Rattle.forest.specs.Keys.{Keyed, HasDistinctKeys, times}
@@ -11,9 +11,7 @@ use Rattle.plain_types.specs.declared.box_kind.BoxKind.{BoxKind}
 use Rattle.plain_types.specs.declared.box_kind.BoxKind.TheVariants as kind
 use Rattle.plain_types.specs.declared.counter.Counter.{Counter}
 use Rattle.plain_types.specs.declared.counter_style.CounterStyle.{CounterStyle}
-use Rattle.plain_types.specs.declared.style.ElementStyle.{ElementStyle}
 use Rattle.counter_sets.specs.Sets.{is_by_peer, is_missing_in, is_same_box}
-use Rattle.box_eval.specs.declared.change.Change.{Change}
 use Rattle.box_eval.specs.declared.counting.Counted.{Counted}
 use Rattle.box_eval.specs.declared.entry.Closing.{Closing}
 use Rattle.box_eval.specs.declared.entry.Entry.{Entry}
@@ -21,8 +19,8 @@ use Rattle.box_eval.specs.declared.formed.Formed.{Formed}
 use Rattle.box_eval.specs.declared.inputs.Inputs.{Inputs}
 use Rattle.box_eval.specs.declared.made.Made.{Made}
 use Rattle.box_eval.specs.Boxes.{box_of, has_marker, has_pseudo_box}
-use Rattle.box_eval.specs.Elements.{Handed, Replacing, Styled, after_of, at_root, before_of, behind_marker, by_parent, by_peers, children_handed, closing_of, content_of, entry_of, formed_box, inherited_by, inside, marker_content, marker_of, no_box, own_counted, past, past_formed, pseudo_counted}
-use Rattle.box_eval.specs.Laws.{AreBoxesScoped, AreScoped, DoesParentTell, IsMadeScoped, IsNodeScoped, IsScoped}
+use Rattle.box_eval.specs.Elements.{Handed, Styled, after_of, at_root, before_of, behind_marker, by_parent, by_peers, children_handed, closing_of, content_of, entry_of, formed_box, inherited_by, inside, marker_content, marker_of, no_box, own_counted, past, past_formed, pseudo_counted}
+use Rattle.box_eval.specs.Laws.{AreBoxesScoped, AreScoped, IsMadeScoped, IsNodeScoped, IsScoped}
 use Rattle.box_eval.specs.Evaluation.{Element, ElementRecord, StyledNode, Text, changes, changes_in, first_changes, inputs, inputs_of, is_boxed, last_changes, past_node, past_trees, record_of, records, records_of, within}
 use Rattle.box_eval.specs.Scopes.{AreEarlier, AreNew, HasNoneOf, first_boxes, last_boxes}
 use Rattle.box_eval.proofs.Agreement.{AllAgree}
@@ -89,11 +87,11 @@ past_parent box None depth handed = refl
 past_parent box (Some made) depth handed = refl
 
 good_next : (Good : Counter → Type 0) (box : BoxId) (made : Option Made) (depth : ℕ) (handed : Handed) → AreGood Good handed → Holds (AllByRecursion Good) made → AreGood Good (past_formed box (record { made = made; depth = depth }) handed)
-good_next Good box None depth handed good h = record { parent = good.parent; sibling = good.sibling; }
-good_next Good box (Some made) depth handed good h = record { parent = good.parent; sibling = h; }
+good_next Good box None depth handed good h = record { parent = good.parent; sibling = good.sibling }
+good_next Good box (Some made) depth handed good h = record { parent = good.parent; sibling = h }
 
 fits_next : (box : BoxId) (made : Option Made) (depth : ℕ) (handed : Handed) → Fits handed → Holds (λ _. HasNoneOf (box ∷ []) handed.parent) made → Holds (AllAgree (box ∷ handed.earlier) handed.parent) made → Fits (past_formed box (record { made = made; depth = depth }) handed)
-fits_next box None depth handed fits none agrees = record { parent = fits.parent; sibling = fits.sibling; }
+fits_next box None depth handed fits none agrees = record { parent = fits.parent; sibling = fits.sibling }
 fits_next box (Some made) depth handed fits none agrees = record {
   parent = none_both box handed.earlier handed.parent none fits.parent;
   sibling =
@@ -113,7 +111,6 @@ module _ (table : List CounterStyle) (key : ℕ) (element : Styled) (handed : Ha
 
   -- what is good of all that is handed and of all that the element's boxes create is good inside it
   module _ (Good : Counter → Type 0) (steady : (counter : Counter) (value : ℤ) → Good counter → Good (record counter { value = value })) (good : AreGood Good handed) (mine : (which : BoxKind) (counter : Counter) → counter.creator ≡ box_of key which → is_same_box (box_of key which) (box_of key kind.After) ≡ false → Good counter) where
-
     pub own_is_good : AllByRecursion Good own_set
     own_is_good = own_good Good steady table by_parent key element handed (inherits_good Good steady handed good) (λ counter e. mine kind.Element counter e (and_right (key == key) false refl))
 
@@ -133,7 +130,7 @@ module _ (table : List CounterStyle) (key : ℕ) (element : Styled) (handed : Ha
     children_good =
         let marker = marker_of table by_parent key element handed in
         let before = before_of table by_parent key element handed in
-        let first : AreGood Good (inside own_set handed.depth) = record { parent = own_is_good; sibling = tt; } in
+        let first : AreGood Good (inside own_set handed.depth) = record { parent = own_is_good; sibling = tt } in
         good_next Good (box_of key kind.Before) before.made before.depth (behind_marker table by_parent key element handed)
         (good_next Good (box_of key kind.Marker) marker.made marker.depth (inside own_set handed.depth) first marker_is_good) before_is_good
 
@@ -174,14 +171,14 @@ module _ (table : List CounterStyle) (node : Keyed StyledNode) (children after :
     own_here = own_counted table by_parent node.key element handed
 
     fits_here : AreEarlier handed.earlier input
-    fits_here = record { parent = level.fits.parent; sibling = level.fits.sibling; }
+    fits_here = record { parent = level.fits.parent; sibling = level.fits.sibling }
 
     new_here : AreNew (first_boxes node.key element.style) input
     new_here =
         let boxes = first_boxes node.key element.style in
         let good = out_good (λ counter. is_by_peer boxes counter ≡ false)
         (λ counter h. first_list counter.creator node.key (has_marker element.style) (has_pseudo_box element.style.before) (number_symm counter.creator.key node.key ∙ (out_parts node children after counter.creator.key h).0)) in
-        record { parent = good.parent; sibling = good.sibling; }
+        record { parent = good.parent; sibling = good.sibling }
 
     mine_out : (trees : Forest (Keyed StyledNode)) → times node.key trees ≡ 0 → (which : BoxKind) (counter : Counter) → counter.creator ≡ box_of node.key which → is_same_box (box_of node.key which) (box_of node.key kind.After) ≡ false → IsOut trees counter
     mine_out trees zero which counter e _ = ap (λ (box : BoxId). times box.key trees) e ∙ zero
@@ -199,13 +196,13 @@ module _ (table : List CounterStyle) (node : Keyed StyledNode) (children after :
         let before = before_of table by_parent node.key element handed in
         let next = behind_marker table by_parent node.key element handed in
         let counted = pseudo_counted table by_parent node.key element kind.Before element.style.before next in
-        let first : Fits around = record { parent = each_any (λ counter. is_by_peer [] counter ≡ false) (λ _. refl) own_here.set; sibling = tt; } in
+        let first : Fits around = record { parent = each_any (λ counter. is_by_peer [] counter ≡ false) (λ _. refl) own_here.set; sibling = tt } in
         let marker_none : Holds (λ _. HasNoneOf (marker_box ∷ []) own_here.set) marker.made =
-            holds_if (λ _. HasNoneOf (marker_box ∷ []) own_here.set) (has_marker element.style) (formed_box [] (marker_content table by_parent node.key element around)) (no_box handed.depth)
-            (λ has. none_by_marker table element input handed.earlier fits_here new_here has) (λ _. tt) in
+        holds_if (λ _. HasNoneOf (marker_box ∷ []) own_here.set) (has_marker element.style) (formed_box [] (marker_content table by_parent node.key element around)) (no_box handed.depth)
+        (λ has. none_by_marker table element input handed.earlier fits_here new_here has) (λ _. tt) in
         let before_none : Holds (λ _. HasNoneOf (before_box ∷ []) next.parent) before.made =
-            holds_if (λ _. HasNoneOf (before_box ∷ []) next.parent) (has_pseudo_box element.style.before) (formed_box counted.changes (content_of table by_parent node.key element kind.Before element.style.before counted.set next)) (no_box next.depth)
-            (λ has. subst (HasNoneOf (before_box ∷ [])) (sym (past_parent marker_box marker.made marker.depth around)) (none_by_before table element input handed.earlier fits_here new_here has)) (λ _. tt) in
+        holds_if (λ _. HasNoneOf (before_box ∷ []) next.parent) (has_pseudo_box element.style.before) (formed_box counted.changes (content_of table by_parent node.key element kind.Before element.style.before counted.set next)) (no_box next.depth)
+        (λ has. subst (HasNoneOf (before_box ∷ [])) (sym (past_parent marker_box marker.made marker.depth around)) (none_by_before table element input handed.earlier fits_here new_here has)) (λ _. tt) in
         fits_next before_box before.made before.depth next
         (fits_next marker_box marker.made marker.depth around first marker_none (marker_agrees table node.key element around (marker_ready table element input handed.earlier fits_here new_here)))
         before_none (pseudo_agrees table node.key element kind.Before element.style.before next (before_ready table element input handed.earlier fits_here new_here))
@@ -232,14 +229,14 @@ module _ (table : List CounterStyle) (node : Keyed StyledNode) (children after :
       input_behind = inputs_from node.key element behind
 
       fits_behind : AreEarlier behind.earlier input_behind
-      fits_behind = record { parent = fits.parent; sibling = fits.sibling; }
+      fits_behind = record { parent = fits.parent; sibling = fits.sibling }
 
       none_listed : (b : Bool) → AreNew (box_of node.key kind.After ∷ []) input_behind → AreNew (cond b (box_of node.key kind.After ∷ []) []) input_behind
       none_listed true new = new
-      none_listed false new = record { parent = each_any (λ counter. is_by_peer [] counter ≡ false) (λ _. refl) behind.parent; sibling = each_any (λ counter. is_by_peer [] counter ≡ false) (λ _. refl) (unwrap_or behind.sibling []); }
+      none_listed false new = record { parent = each_any (λ counter. is_by_peer [] counter ≡ false) (λ _. refl) behind.parent; sibling = each_any (λ counter. is_by_peer [] counter ≡ false) (λ _. refl) (unwrap_or behind.sibling []) }
 
       new_behind : AreNew (last_boxes node.key element.style) input_behind
-      new_behind = none_listed (has_pseudo_box element.style.after) (record { parent = subst (AllByRecursion (NotAfter node.key)) (sym in_it) not_after_inside.parent; sibling = none; })
+      new_behind = none_listed (has_pseudo_box element.style.after) (record { parent = subst (AllByRecursion (NotAfter node.key)) (sym in_it) not_after_inside.parent; sibling = none })
 
       ready_behind : has_pseudo_box element.style.after ≡ true → IsReady (box_of node.key kind.After) behind
       ready_behind has = ready_in (box_of node.key kind.After) behind.earlier input_behind fits_behind (new_after node.key element.style input_behind has new_behind)
@@ -261,15 +258,15 @@ module _ (table : List CounterStyle) (node : Keyed StyledNode) (children after :
           let next = behind_marker table by_parent node.key element handed in
           record {
             own = subst (λ (counted : Counted). IsScoped (box_of node.key kind.Element ∷ handed.earlier) handed.parent counted.set) (sym own_here_is)
-              (own_agrees table node.key element handed (element_ready table element input handed.earlier fits_here new_here));
+                (own_agrees table node.key element handed (element_ready table element input handed.earlier fits_here new_here));
             marker = subst (λ (counted : Counted). IsMadeScoped marker_box (inside counted.set handed.depth) (marker_of table by_peers node.key element handed).made) (sym own_here_is)
-              (subst (λ (formed : Formed). IsMadeScoped marker_box around formed.made) (sym (marker_is table element input handed.earlier fits_here new_here))
-              (scoped_holds marker_box around marker.made (marker_agrees table node.key element around (marker_ready table element input handed.earlier fits_here new_here))));
+                (subst (λ (formed : Formed). IsMadeScoped marker_box around formed.made) (sym (marker_is table element input handed.earlier fits_here new_here))
+                (scoped_holds marker_box around marker.made (marker_agrees table node.key element around (marker_ready table element input handed.earlier fits_here new_here))));
             before = subst (λ (now : Handed). IsMadeScoped before_box now (before_of table by_peers node.key element handed).made) (sym (behind_marker_is table element input handed.earlier fits_here new_here))
-              (subst (λ (formed : Formed). IsMadeScoped before_box next formed.made) (sym (before_is table element input handed.earlier fits_here new_here))
-              (scoped_holds before_box next before.made (pseudo_agrees table node.key element kind.Before element.style.before next (before_ready table element input handed.earlier fits_here new_here))));
+                (subst (λ (formed : Formed). IsMadeScoped before_box next formed.made) (sym (before_is table element input handed.earlier fits_here new_here))
+                (scoped_holds before_box next before.made (pseudo_agrees table node.key element kind.Before element.style.before next (before_ready table element input handed.earlier fits_here new_here))));
             after = subst (λ (formed : Formed). IsMadeScoped after_box behind formed.made) (sym (pseudo_same table node.key element kind.After element.style.after behind ready_behind))
-              (scoped_holds after_box behind (after_of table by_parent node.key element behind).made (pseudo_agrees table node.key element kind.After element.style.after behind ready_behind));
+                (scoped_holds after_box behind (after_of table by_parent node.key element behind).made (pseudo_agrees table node.key element kind.After element.style.after behind ready_behind));
           }
 
       next_is : past_node table by_peers true node.key (Element element) handed behind ≡ past_node table by_parent true node.key (Element element) handed behind
@@ -288,7 +285,7 @@ module _ (table : List CounterStyle) (node : Keyed StyledNode) (children after :
             fits = record {
               parent = none_both box handed.earlier handed.parent (new_element node.key element.style input new_here).parent level.fits.parent;
               sibling = each_imp (λ counter. is_by_peer (box ∷ handed.earlier) counter ≡ is_missing_in handed.parent counter) (λ counter. is_missing_in handed.parent counter ≡ true → is_by_peer (box ∷ handed.earlier) counter ≡ true)
-                (λ counter h e. h ∙ e) own_here.set (own_agrees table node.key element handed (element_ready table element input handed.earlier fits_here new_here));
+                  (λ counter h e. h ∙ e) own_here.set (own_agrees table node.key element handed (element_ready table element input handed.earlier fits_here new_here));
             };
           }
 
@@ -329,16 +326,25 @@ module _ (table : List CounterStyle) (node : Keyed StyledNode) (children after :
     };
   }
   node_told true Text = record {
-    first = refl; inner = record { out = out_children; fits = level.fits; }; not_after = not_after; changes = refl;
-    behind = λ behind in_it fits none. record { next = refl; onward = record { out = out_after; fits = level.fits; }; records = refl; last = refl; scoped = tt; };
+    first = refl;
+    inner = record { out = out_children; fits = level.fits };
+    not_after = not_after;
+    changes = refl;
+    behind = λ behind in_it fits none. record { next = refl; onward = record { out = out_after; fits = level.fits }; records = refl; last = refl; scoped = tt };
   }
   node_told false (Element element) = record {
-    first = refl; inner = record { out = out_children; fits = level.fits; }; not_after = not_after; changes = refl;
-    behind = λ behind in_it fits none. record { next = refl; onward = record { out = out_after; fits = level.fits; }; records = refl; last = refl; scoped = tt; };
+    first = refl;
+    inner = record { out = out_children; fits = level.fits };
+    not_after = not_after;
+    changes = refl;
+    behind = λ behind in_it fits none. record { next = refl; onward = record { out = out_after; fits = level.fits }; records = refl; last = refl; scoped = tt };
   }
   node_told false Text = record {
-    first = refl; inner = record { out = out_children; fits = level.fits; }; not_after = not_after; changes = refl;
-    behind = λ behind in_it fits none. record { next = refl; onward = record { out = out_after; fits = level.fits; }; records = refl; last = refl; scoped = tt; };
+    first = refl;
+    inner = record { out = out_children; fits = level.fits };
+    not_after = not_after;
+    changes = refl;
+    behind = λ behind in_it fits none. record { next = refl; onward = record { out = out_after; fits = level.fits }; records = refl; last = refl; scoped = tt };
   }
 
 -- What holds of a level still holds behind trees.
@@ -366,8 +372,8 @@ module _ (table : List CounterStyle) (Good : Counter → Type 0) (steady : (coun
       let behind = past_trees table by_parent has (within table by_parent has node.key node.label handed) children in
       let next = past_node table by_parent has node.key node.label handed behind in
       let here = past_node_good has node.key node.label handed behind good (λ counter e. mine counter (not_out node children after counter e)) in
-      let rest = past_good after boxed next (record { parent = subst (AllByRecursion Good) (sym here.0) good.parent; sibling = here.1; })
-          (λ counter out. mine counter (λ e. out (out_parts node children after counter.creator.key e).2)) in
+      let rest = past_good after boxed next (record { parent = subst (AllByRecursion Good) (sym here.0) good.parent; sibling = here.1 })
+      (λ counter out. mine counter (λ e. out (out_parts node children after counter.creator.key e).2)) in
       (rest.0 ∙ here.0, rest.1)
 
 -- All trees.
@@ -390,7 +396,7 @@ other_key key children zero counter there = elim (cases_Bool (counter.creator.ke
 ]
 
 pub told : (table : List CounterStyle) (trees : Forest (Keyed StyledNode)) (boxed : Bool) (handed : Handed) → HasDistinctKeys trees → Level trees handed → Told table boxed handed trees
-told table Empty boxed handed distinct level = record { past = refl; records = refl; changes = refl; inputs = refl; scoped = tt; fits = level.fits; }
+told table Empty boxed handed distinct level = record { past = refl; records = refl; changes = refl; inputs = refl; scoped = tt; fits = level.fits }
 told table (Tree node children after) boxed handed distinct level =
     let has = is_boxed boxed node.label in
     let key = node.key in
@@ -427,15 +433,16 @@ told table (Tree node children after) boxed handed distinct level =
           (join_two (inputs table by_peers has first_by_peers children) (inputs table by_parent has first children) _ _
           (ap (λ inner. inputs table by_peers has inner children) here.first ∙ below.inputs)
           (ap (λ onward. inputs table by_peers boxed onward after) next_is ∙ rest.inputs));
-      scoped =
-          (subst (IsNodeScoped table by_peers has key node.label handed) (sym behind_is) back.scoped,
-           subst (λ inner. AreScoped table by_peers has inner children) (sym here.first) below.scoped,
-           subst (λ onward. AreScoped table by_peers boxed onward after) (sym next_is) rest.scoped);
+      scoped = (
+        subst (IsNodeScoped table by_peers has key node.label handed) (sym behind_is) back.scoped,
+        subst (λ inner. AreScoped table by_peers has inner children) (sym here.first) below.scoped,
+        subst (λ onward. AreScoped table by_peers boxed onward after) (sym next_is) rest.scoped,
+      );
       fits = rest.fits;
     }
 
 pub root_level : (document : Forest (Keyed StyledNode)) → Level document at_root
 root_level document = record {
-  out = record { parent = tt; sibling = tt; };
-  fits = record { parent = tt; sibling = tt; };
+  out = record { parent = tt; sibling = tt };
+  fits = record { parent = tt; sibling = tt };
 }

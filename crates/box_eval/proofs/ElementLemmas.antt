@@ -1,9 +1,8 @@
 -- The boxes of one element.
-use Rattle.std.proofs.Common.{◌≡◌, ◌++◌, ◌∷◌, ◌||◌, ℕ, List, [], Bool, true, false, cond, Option, Some, None, refl, sym, ap, subst, ◌∙◌, inl, inr, ℤ}
+use Rattle.std.proofs.Common.{◌≡◌, ◌++◌, ◌∷◌, ℕ, List, [], Bool, true, false, cond, Option, Some, None, refl, sym, ap, subst, ◌∙◌, inl, inr, ℤ}
 use Rattle.std.proofs.lemmas.Bool.{cases_Bool}
 use Rattle.std.specs.Prelude.{unwrap_or}
 use Rattle.std.specs.List.{AllByRecursion, list_any}
-use Rattle.std.specs.Option.{option_map_or}
 use Rattle.plain_types.specs.declared.box_id.BoxId.{BoxId}
 use Rattle.plain_types.specs.declared.box_kind.BoxKind.{BoxKind}
 use Rattle.plain_types.specs.declared.box_kind.BoxKind.TheVariants as kind
@@ -12,17 +11,13 @@ use Rattle.plain_types.specs.declared.counter_style.CounterStyle.{CounterStyle}
 use Rattle.plain_types.specs.declared.style.ElementStyle.{ElementStyle}
 use Rattle.plain_types.specs.declared.style.Style.{Style}
 use Rattle.counter_sets.specs.Sets.{inherited, is_by_peer, is_missing_in, is_same_box}
-use Rattle.content_eval.specs.declared.generated.Generated.{Generated}
 use Rattle.box_eval.specs.declared.counting.Counted.{Counted}
-use Rattle.box_eval.specs.declared.entry.Closing.{Closing}
-use Rattle.box_eval.specs.declared.entry.Entry.{Entry}
 use Rattle.box_eval.specs.declared.formed.Formed.{Formed}
 use Rattle.box_eval.specs.declared.inputs.Inputs.{Inputs}
 use Rattle.box_eval.specs.declared.made.Made.{Made}
 use Rattle.box_eval.specs.Boxes.{box_of, has_items, has_marker, has_pseudo_box, is_list_item}
-use Rattle.box_eval.specs.Elements.{Handed, Replacing, Styled, by_parent, by_peers, content_of, default_content, formed_box, handed_in, inherited_by, inside, is_replaced_in, items_of, marker_content, marker_formed, no_box, own_counted, past_formed, pseudo_counted, pseudo_formed}
-use Rattle.box_eval.specs.Properties.{counted}
-use Rattle.box_eval.specs.Scopes.{AreEarlier, AreNew, HasNoneOf, first_boxes, last_boxes}
+use Rattle.box_eval.specs.Elements.{Handed, Replacing, Styled, by_parent, by_peers, content_of, default_content, formed_box, inherited_by, is_replaced_in, items_of, marker_content, marker_formed, no_box, own_counted, past_formed, pseudo_counted, pseudo_formed}
+use Rattle.box_eval.specs.Scopes.{AreNew, HasNoneOf, first_boxes, last_boxes}
 use Rattle.box_eval.proofs.Agreement.{Agrees, AllAgree, inherited_agrees, steady}
 use Rattle.box_eval.proofs.BoxLemmas.{box_self, creator_prop}
 use Rattle.box_eval.proofs.ContentLemmas.{content_same}
@@ -155,9 +150,9 @@ module _ (box : BoxId) (handed : Handed) (ready : IsReady box handed) where
   ready_mine counter e = elim (cases_Bool (is_missing_in handed.parent counter)) [
     | inl missing ↦ by_itself counter e ∙ sym missing
     | inr there ↦
-      let none = creator_prop (λ creator. list_any (is_same_box creator) (box ∷ handed.earlier) ≡ false) handed.parent counter ready.parent there in
-      let some = by_itself counter e in
-      absurd (cc)
+        let none = creator_prop (λ creator. list_any (is_same_box creator) (box ∷ handed.earlier) ≡ false) handed.parent counter ready.parent there in
+        let some = by_itself counter e in
+        absurd (cc)
   ]
 
 -- By peers and by the parent's set the boxes are the same.

@@ -1,5 +1,5 @@
 -- One element, by its boxes' peers and by their parents' sets.
-use Rattle.std.proofs.Common.{◌≡◌, ◌∷◌, ◌||◌, ◌&&◌, ◌==◌, ℕ, List, [], true, false, Option, Some, None, refl, sym, ap, ◌∙◌, ℤ}
+use Rattle.std.proofs.Common.{◌≡◌, ◌∷◌, ◌||◌, ◌==◌, ℕ, List, [], true, false, Option, Some, None, refl, sym, ap, ◌∙◌, ℤ}
 use Rattle.std.proofs.lemmas.Bool.{and_right, or_right}
 use Rattle.std.specs.Prelude.{unwrap_or}
 use Rattle.std.specs.List.{AllByRecursion, list_any}
@@ -59,11 +59,11 @@ ready_in box earlier inputs fits new = record {
 
 -- the first box in a box is ready, where it created none of that box's counters
 pub ready_inside : (box : BoxId) (own : List Counter) (depth : ℕ) → HasNoneOf (box ∷ []) own → IsReady box (inside own depth)
-ready_inside box own depth none = record { parent = none; sibling = tt; }
+ready_inside box own depth none = record { parent = none; sibling = tt }
 
 -- and so is the next one, behind a box that is there or not
 pub ready_next : (box first : BoxId) (own : List Counter) (depth after : ℕ) (made : Option Made) → HasNoneOf (box ∷ []) own → Holds (λ _. HasNoneOf (first ∷ []) own) made → Holds (AllAgree (first ∷ []) own) made → IsReady box (past_formed first (record { made = made; depth = after }) (inside own depth))
-ready_next box first own depth after None none others agrees = record { parent = none; sibling = tt; }
+ready_next box first own depth after None none others agrees = record { parent = none; sibling = tt }
 ready_next box first own depth after (Some made) none others agrees = record {
   parent = none_both box (first ∷ []) own none others;
   sibling =

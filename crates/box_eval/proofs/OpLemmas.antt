@@ -1,5 +1,5 @@
 -- Entries of counter properties.
-use Rattle.std.proofs.Common.{◌≡◌, ◌++◌, ◌∷◌, ◌||◌, ℕ, List, [], Bool, true, false, cond, not, map, refl, sym, ap, ◌∙◌, inl, inr, append-nil, Option, Some, None, ℤ, pos, negsuc}
+use Rattle.std.proofs.Common.{◌≡◌, ◌++◌, ◌∷◌, ◌||◌, ℕ, List, [], Bool, true, false, cond, not, map, refl, sym, ap, ◌∙◌, inl, inr, append-nil, Option, Some, None, pos, negsuc}
 use Rattle.std.proofs.lemmas.List.{map-append}
 use Rattle.std.proofs.lemmas.List.Elements.{filter-append}
 use Rattle.std.proofs.lemmas.Bool.{cases_Bool, or_right}

@@ -1,5 +1,5 @@
 -- The counters that a box's resets create are not there before.
-use Rattle.std.proofs.Common.{◌≡◌, ◌∷◌, ◌||◌, ◌&&◌, ℕ, List, [], Bool, true, false, cond, not, refl, sym, ap, subst, ◌∙◌, inl, inr}
+use Rattle.std.proofs.Common.{◌≡◌, ◌∷◌, ◌||◌, ℕ, List, [], Bool, true, false, refl, subst, inl, inr}
 use Rattle.std.proofs.lemmas.Bool.{cases_Bool}
 use Rattle.std.specs.List.{AllByRecursion, list_any}
 use Rattle.std.specs.Str.{bytes_eq}
@@ -12,7 +12,7 @@ use Rattle.box_eval.specs.declared.inputs.Start.{Start}
 use Rattle.box_eval.specs.Properties.{first_value, last_of_each, last_resets, reset_by}
 use Rattle.box_eval.specs.Scopes.{HasNoneOf}
 use Rattle.box_eval.proofs.BoxLemmas.{box_self, creator_prop}
-use Rattle.box_eval.proofs.ListLemmas.{each_imp, each_both, or_parts, or_none}
+use Rattle.box_eval.proofs.ListLemmas.{each_imp, each_both, or_parts}
 use Rattle.box_eval.proofs.OpLemmas.{last_here, last_later}
 
 -- what holds of each entry holds of the last of each name

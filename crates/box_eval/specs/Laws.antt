@@ -1,5 +1,5 @@
 -- Laws of the evaluation of whole documents.
-use Rattle.std.specs.Prelude.{◌≡◌, ℕ, Bool, true, List, [], ◌∷◌, Option, Some, None}
+use Rattle.std.specs.Prelude.{◌≡◌, ℕ, Bool, true, List, ◌∷◌, Option, Some, None}
 use Rattle.std.specs.List.{AllByRecursion}
 use Rattle.forest.specs.Forest.{Forest, Empty, Tree}
 use Rattle.forest.specs.Keys.{Keyed, HasDistinctKeys}
@@ -11,7 +11,7 @@ use Rattle.counter_sets.specs.Sets.{is_by_peer, is_missing_in}
 use Rattle.box_eval.specs.declared.made.Made.{Made}
 use Rattle.box_eval.specs.Boxes.{box_of}
 use Rattle.box_eval.specs.Elements.{Handed, Replacing, Styled, after_of, at_root, before_of, behind_marker, by_parent, by_peers, inside, marker_of, own_counted}
-use Rattle.box_eval.specs.Evaluation.{Element, StyledNode, Text, changes, inputs, is_boxed, past_node, past_trees, records, within}
+use Rattle.box_eval.specs.Evaluation.{Element, StyledNode, changes, inputs, is_boxed, past_node, past_trees, records, within}
 
 -- Of a box's counters, those that the parent's set lacks were created by the box itself or by a sibling box
 -- before it, and no others were: what its peers created is what the parent's set lacks.

@@ -1,4 +1,4 @@
-use Rattle.std.proofs.Common.{◌≡◌, ◌∙◌, ◌&&◌, not, sym, ap}
+use Rattle.std.proofs.Common.{◌∙◌, ◌&&◌, not, sym, ap}
 use Rattle.std.specs.List.{list_any}
 use Rattle.std.specs.Str.{chars}
 use Rattle.box_eval.specs.Properties.{is_for, list_item}

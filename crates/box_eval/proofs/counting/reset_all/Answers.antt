@@ -5,7 +5,6 @@ use Rattle.plain_types.specs.declared.counter.Counter.{Counter}
 use Rattle.plain_types.specs.declared.style.ResetOp.{ResetOp}
 use Rattle.counter_sets.specs.Sets.{AreDistinct, is_missing_in}
 use Rattle.box_eval.specs.Properties.{last_resets, reset_by}
-use Rattle.box_eval.specs.Scopes.{HasNoneOf}
 use Rattle.box_eval.proofs.OpLemmas.{last_here, last_later}
 use Rattle.box_eval.proofs.ResetLemmas.{LacksAll, lacks_at_first, later_lack, later_lacked, reset_distinct}
 use Rattle.box_eval.proofs.counting.reset_all.Goals as goal

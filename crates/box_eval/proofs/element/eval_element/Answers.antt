@@ -1,11 +1,10 @@
-use Rattle.std.proofs.Common.{◌≡◌, ◌∙◌, ◌∷◌, List, [], ap, sym, subst, true}
+use Rattle.std.proofs.Common.{◌≡◌, ◌∙◌, ◌∷◌, [], ap, sym, subst}
 use Rattle.plain_types.specs.declared.box_id.BoxId.{BoxId}
 use Rattle.plain_types.specs.declared.box_kind.BoxKind.TheVariants as kind
-use Rattle.plain_types.specs.declared.counter.Counter.{Counter}
 use Rattle.box_eval.specs.declared.counting.Counted.{Counted}
 use Rattle.box_eval.specs.declared.entry.Entry.{Entry}
 use Rattle.box_eval.specs.declared.formed.Formed.{Formed}
-use Rattle.box_eval.specs.Boxes.{box_of, has_pseudo_box}
+use Rattle.box_eval.specs.Boxes.{box_of}
 use Rattle.box_eval.specs.Elements.{before_of, behind_marker, by_parent, entry_of, handed_in, inherited_by, inside, marker_formed, marker_of, own_counted, past_formed, pseudo_formed, styled_by}
 use Rattle.box_eval.specs.Scopes.{HasNoneOf}
 use Rattle.box_eval.proofs.EntryLemmas.{before_new, entry_same}
@@ -24,7 +23,7 @@ form_before-requires g c =
     let marker_is : marker ≡ marker_of table by_parent inputs.key element handed = c.in_ok-marker.ensures.marker ∙ ap (λ (counted : Counted). marker_formed table by_parent inputs.key element (inside counted.set inputs.depth)) own_is in
     let behind : past_formed box marker (inside own.set inputs.depth) ≡ behind_marker table by_parent inputs.key element handed =
     ap (λ formed. past_formed box formed (inside own.set inputs.depth)) marker_is ∙ ap (λ (counted : Counted). past_formed box (marker_of table by_parent inputs.key element handed) (inside counted.set inputs.depth)) own_is in
-    record { new = λ has. subst (λ next. HasNoneOf (box_of inputs.key kind.Before ∷ []) (inherited_by next)) (sym behind) (before_new table element inputs [] c.requires.new has); }
+    record { new = λ has. subst (λ next. HasNoneOf (box_of inputs.key kind.Before ∷ []) (inherited_by next)) (sym behind) (before_new table element inputs [] c.requires.new has) }
 
 pub returns : goal.returns
 returns g c =

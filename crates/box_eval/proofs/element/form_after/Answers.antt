@@ -13,4 +13,4 @@ form_box-requires c =
     let style = c.args.style.now in
     let has : has_pseudo_box style.after ≡ true = cond_some c.in-Some.items.now (items_of style.after.content) (has_pseudo_box style.after) c.in-Some.ensures.items in
     let new = new_inherited (box_of inputs.key kind.After) inputs (new_after inputs.key style inputs has c.requires.new) in
-    record { new = subst (λ (place : Place). HasNoneOf (place.creator ∷ []) place.set) (sym c.in_ok-place-in-Some.ensures.place) new; }
+    record { new = subst (λ (place : Place). HasNoneOf (place.creator ∷ []) place.set) (sym c.in_ok-place-in-Some.ensures.place) new }

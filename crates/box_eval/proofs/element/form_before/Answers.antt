@@ -1,4 +1,4 @@
-use Rattle.std.proofs.Common.{◌≡◌, ◌∙◌, None, ap, sym, cond, false}
+use Rattle.std.proofs.Common.{◌≡◌, ◌∙◌, ap, sym, cond, false}
 use Rattle.plain_types.specs.declared.box_kind.BoxKind.TheVariants as kind
 use Rattle.box_eval.specs.Boxes.{box_of, has_pseudo_box}
 use Rattle.box_eval.specs.Elements.{content_of, formed_box, inside, items_of, by_parent, no_box, past_formed, pseudo_counted, styled_by}

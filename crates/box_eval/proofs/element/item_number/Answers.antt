@@ -9,8 +9,8 @@ unfolding chars
 returns-in-Some c =
     let value = c.in-Some.counter.now.value in
     let same : to_z w32 (of_z w32 value) ≡ value = search rules in
-    record { number = same ∙ ap (λ found. option_map_or (λ (counter : Counter). counter.value) found (pos 0)) c.in-Some.ensures.innermost; }
+    record { number = same ∙ ap (λ found. option_map_or (λ (counter : Counter). counter.value) found (pos 0)) c.in-Some.ensures.innermost }
 
 pub returns-in-None : goal.returns-in-None
 unfolding chars
-returns-in-None c = record { number = ap (λ found. option_map_or (λ (counter : Counter). counter.value) found (pos 0)) c.in-None.ensures.innermost; }
+returns-in-None c = record { number = ap (λ found. option_map_or (λ (counter : Counter). counter.value) found (pos 0)) c.in-None.ensures.innermost }

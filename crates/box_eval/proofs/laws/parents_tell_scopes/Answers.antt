@@ -7,6 +7,6 @@ pub returns : goal.returns
 returns c = record {
   scoped = λ table document distinct. (told table document true at_root distinct (root_level document)).scoped;
   told = λ table document distinct.
-    let both = told table document true at_root distinct (root_level document) in
-    record { records = both.records; changes = both.changes; inputs = both.inputs; };
+      let both = told table document true at_root distinct (root_level document) in
+      record { records = both.records; changes = both.changes; inputs = both.inputs };
 }
