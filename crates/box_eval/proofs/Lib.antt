@@ -1,0 +1,11 @@
+mod ListLemmas
+mod BoxLemmas
+mod KeptLemmas
+mod Agreement
+mod CountedLemmas
+mod ContentLemmas
+mod OpLemmas
+mod ResetLemmas
+mod ElementLemmas
+mod EntryLemmas
+mod DocumentLemmas

@@ -1,0 +1,60 @@
+//! Which boxes an element has (CSS Display 3, 2.5, CSS Lists 3, 3, and CSS Pseudo-Elements 4, 4).
+
+ghost use Rattle.std.specs.Prelude.{◌≡◌, Some, None, cond, option_copied};
+ghost use Rattle.box_eval.specs.Boxes.{has_marker, has_pseudo_box, is_list_item, is_unmarked, marks};
+ghost use Rattle.box_eval.specs.Elements.{items_of};
+
+use plain_types::content::{Content, Item};
+use plain_types::list::List;
+use plain_types::style::{Display, ElementStyle, ListType, Style};
+use plain_types::style_ref::StyleRef;
+
+/// Whether it is `list-item`.
+pub fn is_list_item(display: Display) -> bool
+    ensures test { result ≡ is_list_item display }
+{
+    match display {
+        Display::ListItem => true,
+        Display::Absent | Display::Plain => false,
+    }
+}
+
+/// Whether it is `none`.
+fn is_unmarked(list_type: &ListType) -> bool
+    ensures test { result ≡ is_unmarked list_type.now }
+{
+    match list_type {
+        ListType::Style(StyleRef::Nothing) => true,
+        ListType::Style(StyleRef::Name(_)) => false,
+        ListType::Style(StyleRef::Symbols(_)) => false,
+        ListType::Chars(_) => false,
+    }
+}
+
+/// Whether a marker of this `content` says something.
+fn marks(content: &Content, list_type: &ListType) -> bool
+    ensures test { result ≡ marks content.now list_type.now }
+{
+    match content {
+        Content::Normal => !is_unmarked(list_type),
+        Content::Nothing => false,
+        Content::Items(_) => true,
+    }
+}
+
+/// Whether an element that has a box has a marker.
+pub fn has_marker(style: &ElementStyle) -> bool
+    ensures test { result ≡ has_marker style.now }
+{
+    is_list_item(style.own.display) && marks(&style.marker.content, &style.own.list_type)
+}
+
+/// The items of `::before` or `::after`, where it has a box.
+pub fn pseudo_items(style: &Style) -> Option<&List<Item>>
+    ensures items { option_copied result ≡ cond (has_pseudo_box style.now) (Some (items_of style.now.content)) None }
+{
+    match (&style.content, style.display) {
+        (Content::Items(items), Display::ListItem | Display::Plain) => Some(items),
+        _ => None,
+    }
+}
