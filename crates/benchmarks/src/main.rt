@@ -11,6 +11,7 @@
 //! | `.. walk` | and goes over the arena's nodes by links, instead |
 //! | `.. precedes` | and asks a hundred times which of the first and the last node comes first, instead |
 //! | `tokens FILE` | reads the tokens of a style sheet |
+//! | `show-tokens` | prints the tokens of the style sheet on standard input, one a line |
 #![tactic(auto)]
 
 mod arena;
@@ -26,6 +27,7 @@ fn perform(rt: &HostRuntime, words: &[String]) -> Option<usize> {
             let size = size.as_str().parse::<usize>().ok()?;
             arena::perform(rt.alloc(), shape.as_str(), size, work.as_str())
         }
+        [work] if work.as_str() == "show-tokens" => sheet::show_tokens(rt),
         [work, file] if work.as_str() == "tokens" => sheet::count_tokens(rt, file.as_str()),
         _ => None,
     }
