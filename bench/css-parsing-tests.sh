@@ -5,7 +5,7 @@
 #   bench/css-parsing-tests.sh [FOLDER]      with the suite's JSON in this folder, nothing is fetched
 set -eu
 here=$(cd "$(dirname "$0")/.." && pwd)
-(cd "$here/crates/benchmarks" && rt run) >/dev/null # builds it, if need be
+(cd "$here/crates/benchmarks" && rt run -- wide 3 to) >/dev/null # builds it, if need be
 work=$(mktemp -d)
 trap 'rm -rf "$work"' EXIT
 folder=${1:-}
