@@ -13,7 +13,7 @@ cd "$work"
 : >empty.css
 apt-get update -qq || true
 for package in debian-reference-en debian-handbook debian-policy developers-reference; do
-  apt-get download -qq "$package" >/dev/null
+  apt-get download -qq -o APT::Sandbox::User=root "$package" >/dev/null
   mkdir "$package"
   dpkg -x "$package"_*.deb "$package"
   find "$package" -name '*.epub' -exec python3 -c '

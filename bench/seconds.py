@@ -1,5 +1,7 @@
-"""Times commands for the scripts beside it: the least of some runs, in seconds."""
+"""Times commands for the scripts beside it: the least of some runs, in seconds of processor time, which other
+work on the machine changes little."""
 
+import os
 import subprocess
 import time
 
@@ -9,16 +11,29 @@ def seconds(*words, runs=3, statuses=(0,), most=None):
     run takes more than so many seconds."""
     best = None
     for _ in range(runs):
-        begin = time.perf_counter()
-        try:
-            status = subprocess.run(words, stdout=subprocess.DEVNULL, stderr=subprocess.DEVNULL, timeout=most).returncode
-        except subprocess.TimeoutExpired:
+        taken = one_run(words, statuses, most)
+        if taken is None:
             return None
-        taken = time.perf_counter() - begin
-        if status not in statuses:
-            raise SystemExit(f"{' '.join(words)[:200]}: status {status}")
         best = taken if best is None else min(best, taken)
     return best
+
+
+def one_run(words, statuses, most):
+    process = subprocess.Popen(words, stdout=subprocess.DEVNULL, stderr=subprocess.DEVNULL)
+    last = None if most is None else time.monotonic() + most
+    while True:
+        ended, status, usage = os.wait4(process.pid, 0 if last is None else os.WNOHANG)
+        if ended:
+            break
+        if time.monotonic() > last:
+            process.kill()
+            process.wait()
+            return None
+        time.sleep(0.01)
+    process.returncode = os.waitstatus_to_exitcode(status)
+    if process.returncode not in statuses:
+        raise SystemExit(f"{' '.join(words)[:200]}: status {process.returncode}")
+    return usage.ru_utime + usage.ru_stime
 
 
 def ratio(whole, half):

@@ -9,7 +9,7 @@ work=$(mktemp -d)
 trap 'rm -rf "$work"' EXIT
 cd "$work"
 PYTHONPATH=$here/bench python3 - "$here/crates/benchmarks/out/benchmarks" "${1:-16777216}" <<'PY'
-import re
+import shutil
 import subprocess
 import sys
 from seconds import seconds, ratio
@@ -21,6 +21,17 @@ body { counter-reset: sec fig; margin: 0 auto }
 h2::before { content: counter(sec, upper-roman) ". " }
 a.ref::after { content: " (Fig. " target-counter(attr(href), fig) ")" }
 """
+
+
+def most_memory(*words):
+    """The most memory that the command took, as GNU time tells it."""
+    time = shutil.which("time")
+    if time is None:
+        return "unknown memory (there is no GNU time here)"
+    told = subprocess.run([time, "-f", "%M", *words], capture_output=True, text=True, check=True)
+    return f"{int(told.stderr) // 1024} MiB"
+
+
 texts = {
     "brackets": lambda n: "(" * n,
     "one string": lambda n: '"' + "a" * (n - 2) + '"',
@@ -34,8 +45,6 @@ for name, make in texts.items():
         with open("sheet.css", "w") as file:
             file.write(make(size))
         taken.append(seconds(program, "tokens", "sheet.css"))
-    told = subprocess.run(["/usr/bin/time", "-v", program, "tokens", "sheet.css"], capture_output=True, text=True)
-    found = re.search(r"Maximum resident set size \(kbytes\): (\d+)", told.stderr)
-    memory = f", {int(found[1]) // 1024} MiB at most" if found else ""
+    memory = f", {most_memory(program, 'tokens', 'sheet.css')} at most"
     print(f"{name}, {length} bytes: {taken[1]:.3f} s{memory}; {ratio(taken[1], taken[0]):.2f} times that of half as many")
 PY

@@ -12,6 +12,7 @@
 //! | `.. precedes` | and asks a hundred times which of the first and the last node comes first, instead |
 //! | `tokens FILE` | reads the tokens of a style sheet |
 //! | `sheet FILE` | reads a style sheet, and answers how many rules and counter styles it has |
+//! | `show-tokens` | prints the tokens of the style sheet on standard input, one a line |
 #![tactic(auto)]
 
 mod arena;
@@ -27,6 +28,7 @@ fn perform(rt: &HostRuntime, words: &[String]) -> Option<usize> {
             let size = size.as_str().parse::<usize>().ok()?;
             arena::perform(rt.alloc(), shape.as_str(), size, work.as_str())
         }
+        [work] if work.as_str() == "show-tokens" => sheet::show_tokens(rt),
         [work, file] if work.as_str() == "tokens" => sheet::count_tokens(rt, file.as_str()),
         [work, file] if work.as_str() == "sheet" => sheet::count_rules(rt, file.as_str()),
         _ => None,

@@ -26,7 +26,7 @@ use Rattle.css_values.specs.Styles.{last_style_at}
 unfoldable pub pair_at : List TokenKind → Option (Pair × List TokenKind)
 pair_at kinds = string_at kinds then λ left. string_at left.1 then λ right. Some (record { left = left.0; right = right.0 }, right.1)
 
--- 3.1: `auto | none | [ <string> <string> ]+`
+-- 3.1: `auto | none | match-parent | [ <string> <string> ]+` (our own: no `match-parent`)
 unfoldable pub quotes_value : List TokenKind → Option Quotes
 quotes_value kinds =
     if is_alone (codes "none") kinds then Some quotes.Nothing
@@ -45,7 +45,8 @@ quote_of kind = word_of kind then quote_word
 
 -- Attributes, counters and targets.
 
--- `attr( <name>`: the name is any identifier
+-- CSS 2.2, 12.2, `attr( <identifier> )`: the name is any identifier (our own: neither a namespace, nor a type
+-- or a fallback, as later levels have them)
 abbrev pub attr_name_at : List TokenKind → Option (List ℕ × List TokenKind)
 attr_name_at kinds = past_function (codes "attr") kinds then word_at
 
@@ -53,6 +54,7 @@ attr_name_at kinds = past_function (codes "attr") kinds then word_at
 unfoldable pub attr_at : List TokenKind → Option (List ℕ × List TokenKind)
 attr_at kinds = attr_name_at kinds then λ name. past_close name.1 then λ end. Some (name.0, end)
 
+-- our own, in the form that CSS Generated Content 3 has in its examples: an address that an attribute has,
 -- `attr( <name> ) | attr( <name> url )`
 unfoldable pub attr_url_at : List TokenKind → Option (List ℕ × List TokenKind)
 attr_url_at kinds =
@@ -70,7 +72,7 @@ url_token_at kinds = one_at url_token_of kinds
 abbrev pub url_function_at : List TokenKind → Option (List ℕ × List TokenKind)
 url_function_at kinds = past_function (codes "url") kinds then λ rest. string_at rest then λ string. past_close string.1 then λ end. Some (string.0, end)
 
--- `<string> | <url>`
+-- CSS Values 4, 4.5: `<string> | <url>`
 unfoldable pub address_at : List TokenKind → Option (List ℕ × List TokenKind)
 address_at kinds = string_at kinds otherwise url_token_at kinds otherwise url_function_at kinds
 
@@ -81,13 +83,13 @@ url_at kinds = (address_at kinds then λ address. Some (url.Given address.0, add
 unfoldable pub name_between_at : List TokenKind → Option ((List ℕ × List ℕ) × List TokenKind)
 name_between_at kinds = name_at kinds then λ name. past_comma name.1 then λ rest. string_at rest then λ between. Some ((name.0, between.0), between.1)
 
--- `counter( <counter-name> [, <counter-style> ]? )`
+-- CSS Lists 3, 4.7: `counter( <counter-name> [, [ <counter-style> | none ] ]? )`
 unfoldable pub counter_at : List TokenKind → Option (Item × List TokenKind)
 counter_at kinds =
     past_function (codes "counter") kinds then λ rest. name_at rest then λ name. last_style_at name.1 then λ style.
     Some (item.Counter name.0 style.0, style.1)
 
--- `counters( <counter-name> , <string> [, <counter-style> ]? )`
+-- CSS Lists 3, 4.7: `counters( <counter-name> , <string> [, [ <counter-style> | none ] ]? )`
 unfoldable pub counters_at : List TokenKind → Option (Item × List TokenKind)
 counters_at kinds =
     past_function (codes "counters") kinds then λ rest. name_between_at rest then λ names. last_style_at names.1 then λ style.
@@ -97,19 +99,21 @@ counters_at kinds =
 abbrev pub target_at : List ℕ → List TokenKind → Option (Url × List TokenKind)
 target_at function kinds = past_function function kinds then url_at
 
--- 5.1: `target-counter( <url> , <counter-name> [, <counter-style> ]? )`
+-- 5.1: `target-counter( [ <string> | <url> ] , <counter-name> [, <counter-style> ]? )`, where our own rule
+-- also takes an attribute as the address, and `none` as the style
 unfoldable pub target_counter_at : List TokenKind → Option (Item × List TokenKind)
 target_counter_at kinds =
     target_at (codes "target-counter") kinds then λ url. past_comma url.1 then λ next. name_at next then λ name. last_style_at name.1 then λ style.
     Some (item.TargetCounter url.0 name.0 style.0, style.1)
 
--- 5.2: `target-counters( <url> , <counter-name> , <string> [, <counter-style> ]? )`
+-- 5.2: `target-counters( [ <string> | <url> ] , <counter-name> , <string> [, <counter-style> ]? )`, and our own
+-- rule likewise
 unfoldable pub target_counters_at : List TokenKind → Option (Item × List TokenKind)
 target_counters_at kinds =
     target_at (codes "target-counters") kinds then λ url. past_comma url.1 then λ next. name_between_at next then λ names. last_style_at names.1 then λ style.
     Some (item.TargetCounters url.0 names.0.0 names.0.1 style.0, style.1)
 
--- `content | before | after`
+-- 5.3: `content | before | after | first-letter` (our own: no `first-letter`)
 abbrev pub part_word : List ℕ → Option Part
 part_word word =
     if is_word word (codes "content") then Some part.Content
@@ -125,7 +129,7 @@ last_part_at kinds =
     (past_comma kinds then λ rest. one_at part_of rest then λ part. past_close part.1 then λ end. Some (part.0, end))
     otherwise (past_close kinds then λ end. Some (part.Content, end))
 
--- 5.3: `target-text( <url> [, <part> ]? )`
+-- 5.3: `target-text( [ <string> | <url> ] [, <part> ]? )`, and our own rule likewise
 unfoldable pub target_text_at : List TokenKind → Option (Item × List TokenKind)
 target_text_at kinds =
     target_at (codes "target-text") kinds then λ url. last_part_at url.1 then λ part.
@@ -133,6 +137,7 @@ target_text_at kinds =
 
 -- Content.
 
+-- 2: an item of `<content-list>` (our own: no image, `contents` or `leader()`)
 unfoldable pub item_at : List TokenKind → Option (Item × List TokenKind)
 item_at kinds =
     (string_at kinds then λ string. Some (item.Chars string.0, string.1))
@@ -144,7 +149,7 @@ item_at kinds =
     otherwise target_counters_at kinds
     otherwise target_text_at kinds
 
--- 2: `normal | none | <item>+`
+-- 2: `normal | none | <content-list>` (our own: no image in the place of the element, and no alternative text)
 unfoldable pub content_value : List TokenKind → Option Content
 content_value kinds =
     if is_alone (codes "normal") kinds then Some content.Normal

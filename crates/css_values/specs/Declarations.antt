@@ -15,7 +15,8 @@ use Rattle.css_values.specs.Styles.{list_type_at}
 use Rattle.css_values.specs.Lists.{resets, increments, assigns, list_style}
 use Rattle.css_values.specs.Contents.{quotes_value, content_value}
 
--- CSS Display 3, 2: the values that are neither `none` nor `list-item` (our own: only those of one word)
+-- CSS Display 3, 2: values that are neither `none` nor `list-item` (our own: these alone, so none of two
+-- words, and neither `contents` nor `run-in`)
 abbrev pub plain_displays : List (List ℕ)
 plain_displays =
     codes "block" ∷ codes "inline" ∷ codes "inline-block" ∷ codes "flow-root" ∷ codes "flex" ∷ codes "inline-flex" ∷ codes "grid" ∷ codes "inline-grid"
@@ -47,6 +48,7 @@ css_wide kinds =
 abbrev pub said_of : {X : Type 0} → List TokenKind → Option X → Option (Said X)
 said_of kinds value = css_wide kinds otherwise (value then λ x. Some (said.Value x))
 
+-- our own: these properties alone
 -- what a declaration of this name with these tokens says, if it says something of a property that we know
 unfoldable pub declared : List ℕ → List TokenKind → Option Declaration
 declared name kinds =

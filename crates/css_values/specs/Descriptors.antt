@@ -11,7 +11,7 @@ use Rattle.definitions.specs.Words.{is_word}
 use Rattle.css_tokens.specs.declared.token.TokenKind.{TokenKind}
 use Rattle.css_values.specs.Parts.{one_at, word_of, is_alone, past_keyword, integer_at, natural_at, symbol_at, style_name_at, optional, only, alone, all_of, comma_list}
 
--- `cyclic | numeric | alphabetic | symbolic | additive`
+-- 3.1: `cyclic | numeric | alphabetic | symbolic | additive`
 abbrev pub system_word : List ℕ → Option System
 system_word word =
     if is_word word (codes "cyclic") then Some system.Cyclic
@@ -56,7 +56,7 @@ bound_at kinds =
     (integer_at kinds then λ value. Some (Some value.0, value.1))
     otherwise (past_keyword (codes "infinite") kinds then λ rest. Some (None, rest))
 
--- the first is not above the second
+-- 3.5: the first is not above the second
 abbrev pub are_in_order : Option ℤ → Option ℤ → Bool
 are_in_order (Some low) (Some high) = not (int_lt high low)
 are_in_order _ _ = true
@@ -67,20 +67,20 @@ bounds low high = record { low = low; high = high }
 unfoldable pub bounds_at : List TokenKind → Option (Bounds × List TokenKind)
 bounds_at kinds = bound_at kinds then λ low. bound_at low.1 then λ high. if are_in_order low.0 high.0 then Some (bounds low.0 high.0, high.1) else None
 
--- `[ <bound> <bound> ]# | auto`
+-- 3.5: `[ [ <integer> | infinite ]{2} ]# | auto`
 unfoldable pub range_value : List TokenKind → Option Descriptor
 range_value kinds = if is_alone (codes "auto") kinds then Some descriptor.RangeAuto else (comma_list bounds_at kinds then λ ranges. Some (descriptor.Range ranges))
 
 abbrev pub weight_of : ℤ → List ℕ → Weight
 weight_of weight symbol = record { weight = weight; symbol = symbol }
 
--- `<integer [0,∞]> && <symbol>`: in either order
+-- 3.6 and 3.8, `<integer [0,∞]> && <symbol>`: in either order
 unfoldable pub weight_at : List TokenKind → Option (Weight × List TokenKind)
 weight_at kinds =
     (natural_at kinds then λ weight. symbol_at weight.1 then λ symbol. Some (weight_of weight.0 symbol.0, symbol.1))
     otherwise (symbol_at kinds then λ symbol. natural_at symbol.1 then λ weight. Some (weight_of weight.0 symbol.0, weight.1))
 
--- 3.6
+-- 3.6: `<integer [0,∞]> && <symbol>`
 abbrev pub pad_value : List TokenKind → Option Descriptor
 pad_value kinds = alone (weight_at kinds) then λ pad. Some (descriptor.Pad pad.weight pad.symbol)
 
@@ -93,23 +93,28 @@ abbrev pub are_falling : List Weight → Bool
 are_falling [] = true
 are_falling (first ∷ rest) = is_below first rest && are_falling rest
 
--- `[ <integer [0,∞]> && <symbol> ]#`
+-- 3.8: `[ <integer [0,∞]> && <symbol> ]#`
 unfoldable pub additive_value : List TokenKind → Option Descriptor
 additive_value kinds = comma_list weight_at kinds then λ weights. if are_falling weights then Some (descriptor.Additive weights) else None
 
+-- 3.3 and 3.4, `prefix` and `suffix`: `<symbol>`
 abbrev pub symbol_value : List TokenKind → Option (List ℕ)
 symbol_value kinds = alone (symbol_at kinds)
 
+-- 3.1
 abbrev pub system_value : List TokenKind → Option Descriptor
 system_value kinds = alone (system_at kinds) then λ system. Some (descriptor.System system)
 
+-- 3.7: `<counter-style-name>`
 abbrev pub fallback_value : List TokenKind → Option Descriptor
 fallback_value kinds = alone (style_name_at kinds) then λ name. Some (descriptor.Fallback name)
 
+-- 3.8: `<symbol>+`
 abbrev pub symbols_value : List TokenKind → Option Descriptor
 symbols_value kinds = all_of symbol_at kinds then λ symbols. Some (descriptor.Symbols symbols)
 
--- what a descriptor of this name with these tokens says, if it is one that we know
+-- what a descriptor of this name with these tokens says, if it is one that we know (our own: no `speak-as`,
+-- 3.9)
 unfoldable pub described : List ℕ → List TokenKind → Option Descriptor
 described name kinds =
     if is_word name (codes "system") then system_value kinds

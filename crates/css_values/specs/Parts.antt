@@ -1,5 +1,5 @@
--- The parts of which values are made: CSS Values 4. Blanks may stand between all of them and mean
--- nothing, so values are read from the kinds of the tokens without Blanks.
+-- The parts of which values are made: CSS Values 4. By its section 2.5 Blanks may stand between all of them
+-- and mean nothing, so values are read from the kinds of the tokens without Blanks.
 use Rattle.std.specs.Prelude.{ℕ, Bool, true, false, ◌&&◌, not, ◌==◌, if◌then◌else◌, List, [], ◌∷◌, Option, Some, None, codes, ℤ, pos, int_lt}
 use Rattle.std.specs.List.{list_any}
 use Rattle.plain_types.specs.StyleNames.{style_name}
@@ -35,7 +35,7 @@ abbrev pub is_sign : ℕ → TokenKind → Bool
 is_sign wanted (kind.Sign c) = c == wanted
 is_sign wanted _ = false
 
--- 2.1: the identifier is this keyword
+-- 4.1: the identifier is this keyword, in any ASCII case
 abbrev pub is_keyword : List ℕ → TokenKind → Bool
 is_keyword word (kind.Word name) = is_word name word
 is_keyword word _ = false
@@ -82,7 +82,7 @@ integer_of _ = None
 abbrev pub integer_at : List TokenKind → Option (ℤ × List TokenKind)
 integer_at kinds = one_at integer_of kinds
 
--- an integer of at least 0
+-- 5.1, `<integer [0,∞]>`: an integer of at least 0
 abbrev pub natural_of : TokenKind → Option ℤ
 natural_of kind = integer_of kind then λ value. if int_lt value (pos 0) then None else Some value
 
@@ -108,11 +108,12 @@ name_of _ = None
 abbrev pub name_at : List TokenKind → Option (List ℕ × List TokenKind)
 name_at kinds = one_at name_of kinds
 
--- CSS Counter Styles 3, 2: the name of a counter style is one in the same sense
+-- CSS Counter Styles 3, 3: the name of a counter style is a custom-ident other than `none`, too; the names
+-- that are predefined become lower-case
 abbrev pub style_name_at : List TokenKind → Option (List ℕ × List TokenKind)
 style_name_at kinds = name_at kinds then λ name. Some (style_name name.0, name.1)
 
--- CSS Counter Styles 3, 3.2: a symbol is a string or a custom-ident (our own: no image)
+-- CSS Counter Styles 3, 3.2: `<string> | <image> | <custom-ident>` (our own: no image)
 abbrev pub symbol_of : TokenKind → Option (List ℕ)
 symbol_of (kind.Chars value) = Some value
 symbol_of (kind.Word name) = if is_among wide_words name then None else Some name

@@ -1,5 +1,5 @@
--- Counter styles where a value names or writes one: CSS Lists 3, 3, and CSS Counter Styles 3, 3 and its
--- symbols() function.
+-- Counter styles where a value names or writes one: CSS Lists 3, 3.3, and CSS Counter Styles 3, 3 (names)
+-- and 4 (`symbols()`).
 use Rattle.std.specs.Prelude.{ℕ, nat_le, if◌then◌else◌, List, length, Option, Some, None, unwrap_or, codes, pos}
 use Rattle.plain_types.specs.declared.style.ListType.{ListType}
 use Rattle.plain_types.specs.declared.style.ListType.TheVariants as list_type
@@ -13,7 +13,8 @@ use Rattle.definitions.specs.Words.{is_word}
 use Rattle.css_tokens.specs.declared.token.TokenKind.{TokenKind}
 use Rattle.css_values.specs.Parts.{one_at, word_of, string_at, past_keyword, past_function, past_comma, past_close, style_name_at, optional}
 
--- `cyclic | numeric | alphabetic | symbolic | fixed`
+-- CSS Counter Styles 3, 4, `<symbols-type>`: `cyclic | numeric | alphabetic | symbolic | fixed`; `fixed`
+-- begins with 1 there
 abbrev pub symbols_type : List ℕ → Option System
 symbols_type word =
     if is_word word (codes "cyclic") then Some system.Cyclic
@@ -28,7 +29,7 @@ symbols_type_of kind = word_of kind then symbols_type
 abbrev pub or_symbolic : Option System × List TokenKind → System × List TokenKind
 or_symbolic type = (unwrap_or type.0 system.Symbolic, type.1)
 
--- how many strings a system needs
+-- 4: how many strings a system needs
 abbrev pub least_symbols : System → ℕ
 least_symbols system.Numeric = 2
 least_symbols system.Alphabetic = 2
@@ -47,11 +48,11 @@ symbols_system_at kinds = or_symbolic (optional (one_at symbols_type_of kinds) k
 abbrev pub arguments_at : System × List TokenKind → Option (Anonymous × List TokenKind)
 arguments_at system = strings_at system.0 (run_at string_at system.1)
 
--- `symbols( <symbols-type>? <string>+ )`
+-- 4: `symbols( <symbols-type>? [ <string> | <image> ]+ )` (our own: no image)
 unfoldable pub symbols_at : List TokenKind → Option (Anonymous × List TokenKind)
 symbols_at kinds = past_function (codes "symbols") kinds then λ rest. arguments_at (symbols_system_at rest)
 
--- `<counter-style> | none`
+-- `<counter-style> | none`: the name of a style, or `symbols()`, or none
 unfoldable pub style_at : List TokenKind → Option (StyleRef × List TokenKind)
 style_at kinds =
     (past_keyword (codes "none") kinds then λ rest. Some (style_ref.Nothing, rest))
@@ -61,7 +62,8 @@ style_at kinds =
 abbrev pub decimal : StyleRef
 decimal = style_ref.Name (codes "decimal")
 
--- `[, [ <counter-style> | none ] ]?`, the last part of a function: `decimal` where it is missing
+-- CSS Lists 3, 4.7, `[, [ <counter-style> | none ] ]?`, the last part of a function: `decimal` where it is
+-- missing
 abbrev pub last_style_at : List TokenKind → Option (StyleRef × List TokenKind)
 last_style_at kinds = (past_comma kinds then λ rest. style_at rest then λ style. past_close style.1 then λ end. Some (style.0, end)) otherwise (past_close kinds then λ end. Some (decimal, end))
 

@@ -15,6 +15,9 @@
 //! that what `item_at` gives is spelled at the front, and `item_again`, that it gives each item that is.
 //! From these follows `same_first`, that no item begins another one.
 //!
+//! Long runs of characters, in content, values, comments and sections, are passed over by their bytes, with
+//! `lane_class`; [`passing`] does it, and what is read is the same.
+//!
 //! `first_item(alloc, "<a b='1 &lt; 2'>x")` is a start tag `a` with one attribute `b`, whose value is
 //! `1 < 2`, and the text `x`.
 #![tactic(auto)]
@@ -32,6 +35,7 @@ pub mod token;
 #[cfg(test)]
 mod tests {
     use crate::item::first_item;
+    use crate::passing::split_plain;
     use crate::token::Token;
     use std::test::Fail;
 
@@ -96,13 +100,37 @@ mod tests {
         assert_eq!(rt; read(&rt, "<p a=''b=''>x"), (Kind::Nothing, 0));
         assert_eq!(rt; read(&rt, "&#xD800;x"), (Kind::Nothing, 0));
         assert_eq!(rt; read(&rt, "<!-- a ->x"), (Kind::Nothing, 0));
+        assert_eq!(rt; read(&rt, "<!-- \u{ffff} -->x"), (Kind::Nothing, 0));
+        assert_eq!(rt; read(&rt, "<a b='\u{1}'>x"), (Kind::Nothing, 0));
         assert_eq!(rt; read(&rt, "<1>x"), (Kind::Nothing, 0));
         assert_eq!(rt; read(&rt, ""), (Kind::Nothing, 0));
     }
 
+    /// Texts, and the longest front of plain characters in each.
+    static RUNS: [(&str, &str); 8] = [
+        ("", ""),
+        ("a b\tc\n", "a b\tc\n"),
+        ("a]]>&", "a]]>"),
+        ("<", ""),
+        ("\u{e9}\u{20ac}\u{1f600}<", "\u{e9}\u{20ac}\u{1f600}"),
+        ("a\u{b}", "a"),
+        // 0xef begins the three characters, and the last alone may not stand
+        ("\u{f000}\u{fffd}\u{ffff}", "\u{f000}\u{fffd}"),
+        ("\u{7f}\u{80}\r", "\u{7f}\u{80}"),
+    ];
+
+    #[test]
+    fn runs(rt: HostRuntime) {
+        for (text, front) in &RUNS {
+            let (run, rest) = split_plain(text);
+            assert_eq!(rt; run, *front);
+            assert_eq!(rt; run.len() + rest.len(), text.len());
+        }
+    }
+
     #[test]
     fn values(rt: HostRuntime) -> Result<(), Fail> {
-        let found = first_item(rt.alloc(), "<a t='x\ty&#9;&#0065;'/>")?;
+        let found = first_item(rt.alloc(), "<a t='x\ty&#9;&#0065;\"\u{f000}\u{e9}'/>")?;
         let (token, rest) = found.ok_or("an item")?;
         assert_eq!(rt; rest.len(), 0);
         let Token::EmptyTag { name, attrs } = token else {
@@ -112,7 +140,7 @@ mod tests {
         assert_eq!(rt; attrs.len(), 1);
         for attr in attrs.as_slice() {
             assert_eq!(rt; attr.name.as_str(), "t");
-            assert_eq!(rt; attr.value.as_str(), "x y\tA");
+            assert_eq!(rt; attr.value.as_str(), "x y\tA\"\u{f000}\u{e9}");
         }
         Ok(())
     }
