@@ -9,3 +9,4 @@ pub mod Cuts
 pub mod Texts
 pub mod Numbers
 pub mod Names
+pub mod PassLaws

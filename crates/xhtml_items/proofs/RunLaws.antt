@@ -1,6 +1,8 @@
 -- What is read piece by piece is spelled so, and what is spelled so is read.
-use Rattle.std.proofs.Common.{◌≡◌, ℕ, zero, suc, ◌<◌, ◌≤◌, List, [], ◌∷◌, ◌++◌, length, Option, Some, None, refl, sym, ap, ◌∙◌, append_assoc, arith}
+use Rattle.std.proofs.Common.{◌≡◌, ℕ, Bool, true, zero, suc, ◌<◌, ◌≤◌, List, [], ◌∷◌, ◌++◌, length, Option, Some, None, refl, sym, ap, ◌∙◌, append_assoc, arith}
 use Rattle.std.proofs.lemmas.List.{append-nil, length-append}
+use Rattle.std.specs.List.{list_all}
+use Rattle.std.proofs.lemmas.Bool.{and_parts}
 use Rattle.definitions.specs.Items.{ArePieces}
 use Rattle.xhtml_items.specs.Runs.{Run, run_ends, run_on, run_at, run_with, run_next}
 
@@ -18,6 +20,15 @@ Goes-more piece_at whole pieces rest piece after goes e = record { on = λ more 
 pub Goes-end : {Piece : Type 0} (piece_at : List ℕ → Option (Piece × List ℕ)) (whole : List ℕ) (pieces : List Piece) (rest : List ℕ)
     → Goes piece_at whole pieces rest → piece_at rest ≡ None → Run piece_at whole pieces rest
 Goes-end piece_at whole pieces rest goes e = rw append-nil at (goes.on [] rest (run_ends e))
+
+-- pieces of one character each, in a row
+pub Goes-over : (piece_at : List ℕ → Option (ℕ × List ℕ)) (test : ℕ → Bool) → ((c : ℕ) (cs : List ℕ) → test c ≡ true → piece_at (c ∷ cs) ≡ Some (c, cs))
+    → (whole pieces front after : List ℕ) → list_all test front ≡ true → Goes piece_at whole pieces (front ++ after) → Goes piece_at whole (pieces ++ front) after
+Goes-over piece_at test law whole pieces [] after all goes = rw append-nil goes
+Goes-over piece_at test law whole pieces (c ∷ front) after all goes =
+    let p = and_parts (test c) (list_all test front) all in
+    let one = Goes-more piece_at whole pieces (c ∷ (front ++ after)) c (front ++ after) goes (law c (front ++ after) p.0) in
+    rw append_assoc at (Goes-over piece_at test law whole (pieces ++ c ∷ []) front after p.1 one)
 
 module _ {Piece : Type 0} (Spells : List ℕ → Piece → Type 0) (piece_at : List ℕ → Option (Piece × List ℕ)) where
   -- the two laws of one piece

@@ -1,12 +1,14 @@
 //! Attributes.
 
-ghost use Rattle.std.specs.Prelude.{◌≡◌, IfSome, IfOk};
+ghost use Rattle.std.specs.Prelude.{◌≡◌, IsTrue, IfSome, IfOk};
 ghost use Rattle.std.specs.Str.{chars, IsUtf8};
+ghost use Rattle.definitions.specs.Characters.{is_quote};
 ghost use Rattle.xhtml_items.specs.Runs.{run_at};
 ghost use Rattle.xhtml_items.specs.Reading.{value_part_at, quoted_at, attribute_at, are_distinct};
 ghost use Rattle.xhtml_items.specs.Tokens.{Reads, character_view, value_view, attribute_view, attributes_view};
 
 use crate::characters::{as_read, is_plain, is_quote};
+use crate::passing::{split_at_stop, value_stops};
 use crate::references::reference;
 use crate::text::{first_char, past, past_blanks, skip_blanks, split_name};
 use plain_types::attr::Attr;
@@ -34,16 +36,22 @@ fn value_part(quote: char, text: &str) -> Option<(char, &str)>
 
 /// A value, up to its closing quote or to what can't stand in it.
 fn value(alloc: Global, quote: char, text: &str) -> Result<(Text, &str), Memory>
+    requires { IsTrue (is_quote quote) }
     ensures reads { IfOk result (λ x. run_at (value_part_at quote) (chars text.now) ≡ value_view x) }
     ensures text { IfOk result (λ x. IsUtf8 x.1.now) }
 {
+    let stops = value_stops();
     let mut value = Text::new(alloc);
     let mut rest = text;
-    'parts: while let Some((c, after)) = value_part(quote, rest) {
+    'parts: loop {
+        let (straight, after) = split_at_stop(&stops, rest);
+        value.push_str(straight)?;
+        let Some((c, after)) = value_part(quote, after) else {
+            return Ok((value, after));
+        };
         value.push(c)?;
         rest = after;
     }
-    Ok((value, rest))
 }
 
 /// A value between two quotes.

@@ -1,8 +1,6 @@
 //! Classes of characters.
 
 ghost use Rattle.std.specs.Prelude.{◌≡◌};
-ghost use Rattle.std.specs.List.{list_all};
-ghost use Rattle.std.specs.Str.{chars};
 ghost use Rattle.definitions.specs.Characters.{is_blank, is_character, is_plain, is_quote, is_name_start, is_name_character};
 ghost use Rattle.definitions.specs.Spelling.{is_legal, as_read};
 ghost use Rattle.xhtml_items.specs.Classes.{is_in};
@@ -18,12 +16,6 @@ pub(crate) fn is_character(c: char) -> bool
     ensures { result ≡ is_character c }
 {
     matches!(c, '\t' | '\n' | ' '..='\u{d7ff}' | '\u{e000}'..='\u{fffd}' | '\u{10000}'..='\u{10ffff}')
-}
-
-pub(crate) fn are_characters(text: &str) -> bool
-    ensures { result ≡ list_all is_character (chars text.now) }
-{
-    text.chars().all(is_character)
 }
 
 pub(crate) fn is_plain(c: char) -> bool
@@ -74,6 +66,8 @@ pub enum Class {
     Literal(char),
     /// What stands for itself in content.
     Plain,
+    /// What a document may have.
+    Character,
 }
 
 impl Class {
@@ -87,6 +81,7 @@ impl Class {
             Class::HexadecimalDigit => c.is_ascii_hexdigit(),
             Class::Literal(quote) => is_character(c) && c != quote,
             Class::Plain => is_plain(c),
+            Class::Character => is_character(c),
         }
     }
 }

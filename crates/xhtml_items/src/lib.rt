@@ -23,6 +23,7 @@ mod attributes;
 pub mod characters;
 pub mod item;
 mod markup;
+pub mod passing;
 mod references;
 mod tags;
 pub mod text;

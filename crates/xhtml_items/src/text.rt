@@ -7,7 +7,8 @@ ghost use Rattle.xhtml_items.specs.Classes.{is_in, is_ascii};
 ghost use Rattle.xhtml_items.specs.Reading.{span, past, past_word, past_capital, past_capitals, skip_blanks, past_blanks, name_at, split_once, up_to};
 ghost use Rattle.xhtml_items.specs.Tokens.{Reads, text_view, two_texts};
 
-use crate::characters::{Class, are_characters, is_blank, is_name_start};
+use crate::characters::{Class, is_blank, is_name_start};
+use crate::passing::are_characters;
 
 /// The first character, and the text after it.
 pub fn first_char(text: &str) -> Option<(char, &str)>

@@ -18,9 +18,9 @@ use plain_types::tree::Tree;
 use plain_types::tree_builder::TreeBuilder;
 use std::alloc::Global;
 use std::mem;
-use xhtml_items::characters::{Class, is_blank};
+use xhtml_items::characters::is_blank;
 use xhtml_items::item::first_item;
-use xhtml_items::text::split_while;
+use xhtml_items::passing::split_plain;
 use xhtml_items::token::Token;
 
 /// What the items so far have come to: the nodes, the names of the open elements, the outermost first,
@@ -222,7 +222,7 @@ impl<'a> OpenTree<'a> {
         ensures text { IfOk result (λ after. IfSome after (λ rest. IsUtf8 rest.now)) }
     {
         if self.accepts_characters(true) {
-            let (characters, after) = split_while(Class::Plain, text);
+            let (characters, after) = split_plain(text);
             if !characters.is_empty() {
                 self.characters.push_str(characters)?;
                 return Ok(Some(after));

@@ -11,13 +11,13 @@ use Rattle.xhtml_reader.proofs.open_tree.OpenTree.advance.Goals as goal
 pub returns-then-not-is_empty-clause-advances : goal.returns-then-not-is_empty-clause-advances
 returns-then-not-is_empty-clause-advances c =
     let old = kept c.args.self.now in
-    run_fits old _ (chars c.args.text.now) (chars c.split_while.result.0.now) _ (spanned is_plain _ _ _ c.split_while.ensures.reads)
+    run_fits old _ (chars c.args.text.now) (chars c.split_plain.result.0.now) _ (spanned is_plain _ _ _ c.split_plain.ensures.reads)
     (sym c.accepts_characters.ensures ∙ c.if-accepts_characters.true) (ap (λ waiting. record old { waiting = waiting }) c.in_ok-push_str.ensures.ok)
 
 pub returns-then-not-is_empty-clause-shorter : goal.returns-then-not-is_empty-clause-shorter
 returns-then-not-is_empty-clause-shorter c =
-    after_some _ _ _ (spanned is_plain _ _ _ c.split_while.ensures.reads).parts
-    (full_chars _ c.split_while.ensures.front (sym c.is_empty.ensures ∙ c.if-not-is_empty.true))
+    after_some _ _ _ (spanned is_plain _ _ _ c.split_plain.ensures.reads).parts
+    (full_chars _ c.split_plain.ensures.front (sym c.is_empty.ensures ∙ c.if-not-is_empty.true))
 
 pub add-requires : goal.add-requires
 add-requires c = sound_names (chars c.args.text.now) c.in-Ok-Some.token (chars c.in-Ok-Some.after.now) (rw c.in-Ok-Some.field-0-is at c.in-Ok-Some.ensures.reads)
