@@ -11,6 +11,7 @@
 //! | `.. walk` | and goes over the arena's nodes by links, instead |
 //! | `.. precedes` | and asks a hundred times which of the first and the last node comes first, instead |
 //! | `tokens FILE` | reads the tokens of a style sheet |
+//! | `sheet FILE` | reads a style sheet, and answers how many rules and counter styles it has |
 #![tactic(auto)]
 
 mod arena;
@@ -27,6 +28,7 @@ fn perform(rt: &HostRuntime, words: &[String]) -> Option<usize> {
             arena::perform(rt.alloc(), shape.as_str(), size, work.as_str())
         }
         [work, file] if work.as_str() == "tokens" => sheet::count_tokens(rt, file.as_str()),
+        [work, file] if work.as_str() == "sheet" => sheet::count_rules(rt, file.as_str()),
         _ => None,
     }
 }

@@ -1,0 +1,29 @@
+//! Style sheets: rules, declarations, and the recovery from what is not understood (CSS Syntax 3, 5).
+//!
+//! The floor above tokens, values and selectors. `sheet` reads a whole text: what goes in is the text as it
+//! was fetched, what comes out its style rules and counter styles in the types of `plain_types`. Every text
+//! is a sheet; what is not understood is left out, as CSS leaves it out. `features` tells what the selectors
+//! of a sheet look at, for those who keep styles right under edits.
+//!
+//! Below them `pieces` cuts tokens where no block is open, `rules` cuts a sheet into rules and a block into
+//! what may be declarations, and `declarations` reads these. Nothing recurses on brackets: a piece is cut by
+//! one pass that keeps the closing brackets that it waits for.
+//!
+//! The layers above know this crate by the words `sheet` (`specs/Sheets.antt`) and `features`
+//! (`specs/Features.antt`). A sheet is told from its text in four steps, a file of `specs/` each: `Blocks` (what
+//! stands in a block, and what outside of it), `Rules`, `Declarations`, `Sheets`. Each is a function, so a text
+//! has exactly one sheet.
+//!
+//! ```text
+//! let sheet = read_sheet(alloc, "p { content: none; color: red } @media print { p {} }")?;
+//! // one rule with one declaration, and no counter style
+//! ```
+#![tactic(auto)]
+
+mod declarations;
+pub mod features;
+mod pieces;
+mod rules;
+pub mod sheet;
+#[cfg(test)]
+mod tests;

@@ -1,0 +1,154 @@
+//! Rules of a sheet and parts of a block, cut out of tokens and not read yet (CSS Syntax 3, 5.4.1 to 5.4.4).
+
+ghost use Rattle.std.specs.Prelude.{◌≡◌, IfOk};
+ghost use Rattle.definitions.specs.Reading.{Reads};
+ghost use Rattle.css_values.specs.Parts.{is_blank_kind};
+ghost use Rattle.css_reader.specs.Rules.{is_between_rules, is_between_declarations, block_after, style_rule_at, at_rule_at, rule_at, part_at};
+ghost use Rattle.css_reader.specs.Seen.{rule_seen_if, tokens_seen_if};
+
+use crate::pieces::{PieceEnd, is_sign, past_one, piece};
+use css_tokens::token::{Token, TokenKind};
+use plain_types::memory::Memory;
+use plain_types::text::Text;
+use std::alloc::Global;
+
+/// A rule with its prelude and the content of its block.
+#[derive(Clone, Copy)]
+pub(crate) enum FoundRule<'a> {
+    Style {
+        prelude: &'a [Token],
+        block: &'a [Token],
+    },
+    /// An at-rule by its name, without the `@`.
+    At {
+        name: &'a Text,
+        prelude: &'a [Token],
+        block: &'a [Token],
+    },
+}
+
+fn is_blank(kind: &TokenKind) -> bool
+    ensures { result ≡ is_blank_kind kind.now }
+{
+    match kind {
+        TokenKind::Blank => true,
+        _ => false,
+    }
+}
+
+fn is_between_rules(kind: &TokenKind) -> bool
+    ensures { result ≡ is_between_rules kind.now }
+{
+    match kind {
+        TokenKind::Blank => true,
+        TokenKind::CommentOpen => true,
+        TokenKind::CommentClose => true,
+        _ => false,
+    }
+}
+
+fn is_between_declarations(kind: &TokenKind) -> bool
+    ensures { result ≡ is_between_declarations kind.now }
+{
+    is_blank(kind) || is_sign(';', kind)
+}
+
+/// After a prelude: the content of the block, and the tokens after it.
+fn block<'a>(
+    alloc: Global,
+    tokens: &'a [Token],
+) -> Result<(Option<&'a [Token]>, &'a [Token]), Memory>
+    ensures { IfOk result (λ x. block_after tokens.now ≡ (tokens_seen_if x.0, x.1.now)) }
+{
+    let Some((first, after)) = tokens.split_first() else {
+        return Ok((None, tokens));
+    };
+    if !is_sign('{', &first.kind) {
+        return Ok((None, after));
+    }
+    let (content, rest) = piece(alloc, PieceEnd::Closing, after)?;
+    Ok((Some(content), past_one(rest)))
+}
+
+/// A style rule, and the tokens after it; no rule where it has no block.
+fn style_rule<'a>(
+    alloc: Global,
+    tokens: &'a [Token],
+) -> Result<(Option<FoundRule<'a>>, &'a [Token]), Memory>
+    ensures { IfOk result (λ x. style_rule_at tokens.now ≡ (rule_seen_if x.0, x.1.now)) }
+{
+    let (prelude, after) = piece(alloc, PieceEnd::Opening, tokens)?;
+    match block(alloc, after)? {
+        (Some(block), rest) => Ok((Some(FoundRule::Style { prelude, block }), rest)),
+        (None, rest) => Ok((None, rest)),
+    }
+}
+
+/// An at-rule after its name, and the tokens after it; no rule where it has no block.
+fn at_rule<'a>(
+    alloc: Global,
+    name: &'a Text,
+    tokens: &'a [Token],
+) -> Result<(Option<FoundRule<'a>>, &'a [Token]), Memory>
+    ensures { IfOk result (λ x. at_rule_at name.now tokens.now ≡ (rule_seen_if x.0, x.1.now)) }
+{
+    let (prelude, after) = piece(alloc, PieceEnd::SemicolonOrOpening, tokens)?;
+    match block(alloc, after)? {
+        (Some(block), rest) => Ok((
+            Some(FoundRule::At {
+                name,
+                prelude,
+                block,
+            }),
+            rest,
+        )),
+        (None, rest) => Ok((None, rest)),
+    }
+}
+
+/// What stands at the front of a sheet, a rule or something that gives none, and the tokens after it.
+#[tactic(auto, unfolding(crate::specs::Rules::rule_at))]
+pub(crate) fn rule<'a>(
+    alloc: Global,
+    tokens: &'a [Token],
+) -> Result<Option<(Option<FoundRule<'a>>, &'a [Token])>, Memory>
+    ensures { IfOk result (λ r. Reads (λ x. (rule_seen_if x.0, x.1.now)) r (rule_at tokens.now)) }
+{
+    let Some((first, after)) = tokens.split_first() else {
+        return Ok(None);
+    };
+    if is_between_rules(&first.kind) {
+        return Ok(Some((None, after)));
+    }
+    match &first.kind {
+        TokenKind::AtKeyword(name) => Ok(Some(at_rule(alloc, name, after)?)),
+        _ => Ok(Some(style_rule(alloc, tokens)?)),
+    }
+}
+
+/// What stands at the front of a block's content, what may be a declaration or something that gives none,
+/// and the tokens after it.
+#[tactic(auto, unfolding(crate::specs::Rules::part_at))]
+pub(crate) fn part<'a>(
+    alloc: Global,
+    tokens: &'a [Token],
+) -> Result<Option<(Option<&'a [Token]>, &'a [Token])>, Memory>
+    ensures { IfOk result (λ r. Reads (λ x. (tokens_seen_if x.0, x.1.now)) r (part_at tokens.now)) }
+{
+    let Some((first, after)) = tokens.split_first() else {
+        return Ok(None);
+    };
+    if is_between_declarations(&first.kind) {
+        return Ok(Some((None, after)));
+    }
+    match &first.kind {
+        TokenKind::AtKeyword(name) => {
+            let (_, rest) = at_rule(alloc, name, after)?;
+            Ok(Some((None, rest)))
+        }
+        _ => {
+            let (part, rest) = piece(alloc, PieceEnd::Semicolon, tokens)?;
+            Ok(Some((Some(part), rest)))
+        }
+    }
+}
