@@ -1,6 +1,6 @@
 -- The command `table SHEET STYLE FROM TO` (our own).
 use Rattle.std.specs.Prelude.{◌≡◌, ◌⊎◌, ℕ, ℤ, Bool, IsTrue, List, Option, None}
-use Rattle.css_reader.specs.Sheets.{sheet_of}
+use Rattle.css_reader.specs.Sheets.{sheet as sheet_of}
 use Rattle.definitions.specs.CounterStyles.{finished_styles}
 use Rattle.plain_types.specs.declared.style_ref.StyleRef.TheVariants.{Name}
 use Rattle.ports.specs.Files.{Files}
