@@ -74,6 +74,7 @@ pub fn table<S: Shelf, O: Sink>(
     ensures cause { IsCaused ⊥ (Rose (S.faults shelf.old) (S.faults shelf.new)) (RoseAbove 16777216 (S.taken shelf.old) (S.taken shelf.new))
         (Rose (O.faults out.old) (O.faults out.new)) (ended result) }
     ensures faults { O.faults out.old ≤ O.faults out.new }
+    ensures not_yet { ended result ≡ status.NotYet → O.out out.new ≡ O.out out.old }
     ensures turns { (files : Files) → S.held shelf.old ≡ Some files
         → EndsTable (S.honest shelf.old) (files (chars sheet.now)) (ended result) }
 {

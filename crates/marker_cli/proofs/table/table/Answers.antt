@@ -1,4 +1,5 @@
-use Rattle.std.proofs.Common.{◌≡◌, ◌∙◌, ap, refl, sym}
+use Rattle.std.proofs.Common.{◌≡◌, ◌∙◌, ap, refl, sym, w32}
+use Rattle.std.proofs.lemmas.Int.{to_z-of_z}
 use Rattle.std.specs.Prelude.{Ok}
 use Rattle.std.specs.Str.{chars}
 use Rattle.definitions.specs.CounterStyles.{finished_styles}
@@ -7,6 +8,7 @@ use Rattle.plain_types.specs.declared.style_ref.StyleRef.TheVariants.{Name}
 use Rattle.table_text.specs.Rows.{rows, values_between}
 use Rattle.marker_cli.specs.declared.status.FileAt.TheVariants.{Word}
 use Rattle.marker_cli.specs.declared.status.Status.TheVariants as status
+use Rattle.marker_cli.specs.Ends.{ended}
 use Rattle.marker_cli.specs.Output.{ends, writes}
 use Rattle.marker_cli.specs.Turns.{text_in}
 use Rattle.marker_cli.proofs.EndsLemmas.{at_same, at_start, at_text, ended_is, ends_no_memory, ends_no_text, ends_put, ends_stopped}
@@ -29,15 +31,16 @@ returns-in_err-styles-clause-told g c files told =
 
 pub returns-in_err-styles-clause-turns : goal.returns-in_err-styles-clause-turns
 returns-in_err-styles-clause-turns g c files told =
-    table-done _ _ _ (c.in_ok-text.text, c.in_ok-text.ensures.told files told)
-    (λ file is. cc (ended_is {status = status.Memory} c.from_residual-in_err-styles.result c.from_residual-in_err-styles.ensures, is))
+    let lacks : ended c.from_residual-in_err-styles.result ≡ status.Memory = ended_is c.from_residual-in_err-styles.result c.from_residual-in_err-styles.ensures in
+    table-done _ _ _ (c.in_ok-text.text, c.in_ok-text.ensures.told files told) (λ file is. cc (sym lacks ∙ is))
 
 pub returns-clause-told : goal.returns-clause-told
 returns-clause-told g c files told =
     let styles : c.in_ok-styles.styles ≡ finished_styles (sheet_of c.in_ok-text.text).styles =
     c.in_ok-styles.ensures.styles ∙ ap (λ text. finished_styles (sheet_of text).styles) c.as_str.ensures.characters in
     ends_put c.put_values.result
-    (at_same (ap (λ table. writes (rows table (Name (chars c.args.style.now)) (values_between c.args.from c.args.to)) (ends status.Ok)) (sym styles))
+    (at_same (λ i. writes (rows (sym styles i) (Name (chars c.args.style.now))
+    (values_between (sym (to_z-of_z w32 c.args.from c.ranges.from) i) (sym (to_z-of_z w32 c.args.to c.ranges.to) i))) (ends status.Ok))
     (at_text files _ _ _ (at_start _ _) (c.in_ok-text.ensures.told files told)))
     c.put_values.ensures.ok c.put_values.ensures.failed c.put_values.ensures.cause
 
