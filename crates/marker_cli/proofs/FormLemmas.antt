@@ -89,3 +89,16 @@ one_integer bytes number other fits fits_too first second =
 
 pub one_natural : (bytes : List ℕ) (number other : ℕ) → number < 2 ^ 32 → other < 2 ^ 32 → bytes ≡ decimal number → bytes ≡ decimal other → other ≡ number
 one_natural bytes number other fits fits_too first second = decimal_injective other number (omega arith) (omega arith) (sym second ∙ first)
+
+-- a table excludes the other forms, and has one pair of numbers
+pub only_table : (words : List (List ℕ)) (P : Type 0) (from to : ℤ) (form : Form) → IsForm words (Table from to) → IsForm words form → (form ≡ Table from to → P) → P
+only_table words P from to Dump is other go = other_length (codes "dump") (codes "table") 3 5 words other is.0 (λ e. cc e)
+only_table words P from to Edit is other go = other_length (codes "edit") (codes "table") 4 5 words other is.0 (λ e. cc e)
+only_table words P from to (Table first last) is other go = go (λ i. Table (same_from i) (same_to i))
+  where
+    same_from : first ≡ from
+    same_from = one_integer (word words 3) from first is.1.from_fits other.1.from_fits is.1.from_written other.1.from_written
+
+    same_to : last ≡ to
+    same_to = one_integer (word words 4) to last is.1.to_fits other.1.to_fits is.1.to_written other.1.to_written
+only_table words P from to (Gen seed count) is other go = other_length (codes "gen") (codes "table") 3 5 words other.0 is.0 (λ e. cc e)

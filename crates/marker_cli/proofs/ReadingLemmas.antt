@@ -1,4 +1,4 @@
--- How a failed read ends a dump.
+-- How a failed read ends a dump or a table.
 use Rattle.std.proofs.Common.{◌≡◌, ℕ, Bool, true, false, nat_lt, if◌then◌else◌, List, length, Option, Result, refl, sym, ◌∙◌, ap, subst, inl, inr, ◌⊎◌}
 use Rattle.std.specs.Prelude.{Some, None, Ok, Err, IfErr}
 use Rattle.std.specs.Str.{chars, is_utf8}
@@ -9,6 +9,7 @@ use Rattle.marker_cli.specs.declared.status.Status.{Status}
 use Rattle.marker_cli.specs.declared.status.Status.TheVariants.{Memory, NotUtf8, ReadFault, TooLarge, WriteFault}
 use Rattle.marker_cli.specs.Dump.{EndsAt, EndsReading, at_document, at_sheet}
 use Rattle.marker_cli.specs.Ends.{IsCaused, ReadsFailed, ended}
+use Rattle.marker_cli.specs.Table.{EndsTable}
 use Rattle.marker_cli.specs.Turns.{HasText, StopsBy, is_refused, lacks_memory, text_in, text_of, was_not_read}
 
 -- a file that is held doesn't end a run as one that isn't
@@ -112,3 +113,26 @@ pub put_not_reading : {A : Type 0} (W : Type 0) (result : Result A Status) → I
 put_not_reading W (Ok x) cause file is = cc is
 put_not_reading W (Err error) (inl lacks) file is = cc (sym lacks ∙ is)
 put_not_reading W (Err error) (inr failed) file is = cc (sym failed.0 ∙ is)
+
+-- the turn of the sheet of a table, and later
+pub table-sheet : {before now : ℕ} (honest : Bool) (sheet : Option (List ℕ)) (status : Status)
+    → StopsBy (ReadsFailed honest before now) (Word 1) (text_in (Word 1) sheet) status → EndsTable honest sheet status
+table-sheet honest sheet status (lacks_memory lacks) = record { at = λ file is. absurd (cc (sym lacks ∙ is)); no_sheet = λ _ _. inl lacks }
+table-sheet honest sheet status (is_refused is) = record {
+  at = λ file fault.
+      let gone = refused_read (Word 1) sheet status file is fault in
+      (sym gone.1, λ _. gone.0);
+  no_sheet = λ _ none. inr (refused_none (Word 1) sheet status is none);
+}
+table-sheet honest sheet status (was_not_read is failed) = record {
+  at = λ file fault. (same_file (sym fault ∙ is), λ honestly. absurd (cc (sym failed.dishonest ∙ honestly)));
+  no_sheet = λ _ _. inr is;
+}
+
+pub table-done : (honest : Bool) (sheet : Option (List ℕ)) (status : Status) → HasText (Word 1) sheet
+    → ((file : FileAt) → status ≡ ReadFault file → ⊥) → EndsTable honest sheet status
+table-done honest sheet status has other =
+    record { at = λ file is. absurd (other file is); no_sheet = λ _ none. absurd (text_held (Word 1) sheet has none) }
+
+pub table_as : {honest : Bool} {sheet : Option (List ℕ)} {status told : Status} → told ≡ status → EndsTable honest sheet status → EndsTable honest sheet told
+table_as {honest} {sheet} same ends = subst (λ s. EndsTable honest sheet s) (sym same) ends

@@ -4,6 +4,7 @@ pub mod Lines
 pub mod Output
 pub mod Run
 pub mod Stands
+pub mod Table
 pub mod Turns
 pub mod Walk
 pub mod Words

@@ -1,5 +1,5 @@
 -- A run, from its words and files to its output (our own).
-use Rattle.std.specs.Prelude.{◌≡◌, ℕ, List, [], Option, Some, None}
+use Rattle.std.specs.Prelude.{◌≡◌, ℕ, ℤ, List, [], Option, Some, None}
 use Rattle.ports.specs.Files.{Files}
 use Rattle.marker_cli.specs.declared.form.Form.{Form}
 use Rattle.marker_cli.specs.declared.form.Form.TheVariants.{Dump, Edit, Table, Gen}
@@ -8,6 +8,7 @@ use Rattle.marker_cli.specs.declared.status.FileAt.TheVariants.{Word, Line}
 use Rattle.marker_cli.specs.declared.status.Status.TheVariants.{NotYet, Usage}
 use Rattle.marker_cli.specs.Dump.{DocumentReadsAs, Reading, dump_output}
 use Rattle.marker_cli.specs.Output.{Output, ends}
+use Rattle.marker_cli.specs.Table.{table_output}
 use Rattle.marker_cli.specs.Turns.{HasText}
 use Rattle.marker_cli.specs.Words.{IsForm, ReadsAsForm, word}
 
@@ -21,12 +22,12 @@ pub record AreReadings (words : List (List ℕ)) (files : Files) (readings : Rea
   pub form : ReadsAsForm words readings.form
   pub document : DocumentReadsAs files (word words 1) (word words 2) readings.document
 
--- the output of words of this form; of the forms only `dump` is built yet
+-- the output of words of this form; of the forms only `dump` and `table` are built yet
 abbrev pub form_output : List (List ℕ) → Files → Reading → Option Form → Output
 form_output words files reading None = ends Usage
 form_output words files reading (Some Dump) = dump_output files (word words 1) (word words 2) reading
 form_output words files reading (Some Edit) = ends NotYet
-form_output words files reading (Some (Table from to)) = ends NotYet
+form_output words files reading (Some (Table from to)) = table_output files (word words 1) (word words 2) from to
 form_output words files reading (Some (Gen seed count)) = ends NotYet
 
 -- the output that these words have over these files, where they and the texts read so
@@ -38,10 +39,12 @@ abbrev pub name_at : List (List ℕ) → FileAt → List ℕ
 name_at words (Word place) = word words place
 name_at words (Line number) = []
 
--- the turn of this file comes: DOC is the first, and SHEET follows where DOC has a text
+-- the turn of this file comes: in a dump DOC is the first, and SHEET follows where DOC has a text; a table has
+-- SHEET alone
 pub data HasTurn (words : List (List ℕ)) (files : Files) : FileAt → Type 0 where
   turn_of_document : IsForm words Dump → HasTurn words files (Word 1)
   turn_of_sheet : IsForm words Dump → HasText (Word 1) (files (word words 1)) → HasTurn words files (Word 2)
+  turn_of_styles : (from to : ℤ) → IsForm words (Table from to) → HasTurn words files (Word 1)
 
 -- its turn comes, and it isn't held
 pub record IsMissing (words : List (List ℕ)) (files : Files) (file : FileAt) : Type 0 where
@@ -52,5 +55,5 @@ pub record IsMissing (words : List (List ℕ)) (files : Files) (file : FileAt) :
 abbrev pub IsNotBuilt : Form → Type 0
 IsNotBuilt Dump = ⊥
 IsNotBuilt Edit = Unit {0}
-IsNotBuilt (Table from to) = Unit {0}
+IsNotBuilt (Table from to) = ⊥
 IsNotBuilt (Gen seed count) = Unit {0}

@@ -40,4 +40,5 @@ mod markers;
 pub mod report;
 pub mod run;
 pub mod status;
+mod table;
 mod walk;

@@ -18,6 +18,7 @@ use crate::dump::dump;
 use crate::form::{Form, read_form};
 use crate::report::report;
 use crate::status::Status;
+use crate::table::table;
 use plain_types::text::Text;
 use ports::shelf::Shelf;
 use ports::sink::Sink;
@@ -60,7 +61,15 @@ fn perform<S: Shelf, O: Sink>(alloc: Global, words: &[Text], shelf: &mut S, out:
             out,
         )),
         Some(Form::Edit) => Status::NotYet,
-        Some(Form::Table { .. }) => Status::NotYet,
+        Some(Form::Table { from, to }) => status_of(table(
+            alloc,
+            words[1].as_str(),
+            words[2].as_str(),
+            from,
+            to,
+            shelf,
+            out,
+        )),
         Some(Form::Gen { .. }) => Status::NotYet,
         None => Status::Usage,
     }

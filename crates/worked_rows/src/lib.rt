@@ -11,6 +11,8 @@ mod contents;
 #[cfg(test)]
 mod rows;
 #[cfg(test)]
+mod tables;
+#[cfg(test)]
 mod tests;
 #[cfg(test)]
 mod values;

@@ -16,17 +16,17 @@ use steps::Steps;
 
 /// A run: its words and files, and what must come out.
 #[derive(Clone, Copy)]
-pub struct Row {
-    pub words: &'static [&'static str],
-    pub document: &'static [u8],
-    pub sheet: &'static [u8],
-    pub out: &'static str,
-    pub err: &'static str,
+pub struct Row<'a> {
+    pub words: &'a [&'a str],
+    pub document: &'a [u8],
+    pub sheet: &'a [u8],
+    pub out: &'a str,
+    pub err: &'a str,
     pub code: u8,
 }
 
 /// A dump of this document with an empty sheet.
-pub fn dumped(document: &'static str, out: &'static str) -> Row {
+pub fn dumped<'a>(document: &'a str, out: &'a str) -> Row<'a> {
     Row {
         words: &["dump", "d.xhtml", "s.css"],
         document: document.as_bytes(),
@@ -38,7 +38,7 @@ pub fn dumped(document: &'static str, out: &'static str) -> Row {
 }
 
 /// A dump that ends with this line and code, and writes nothing.
-pub fn refused(document: &'static [u8], sheet: &'static [u8], err: &'static str, code: u8) -> Row {
+pub fn refused<'a>(document: &'a [u8], sheet: &'a [u8], err: &'a str, code: u8) -> Row<'a> {
     Row {
         words: &["dump", "d.xhtml", "s.css"],
         document,
@@ -49,8 +49,20 @@ pub fn refused(document: &'static [u8], sheet: &'static [u8], err: &'static str,
     }
 }
 
+/// A table with this sheet.
+pub fn tabled<'a>(sheet: &'a str, words: &'a [&'a str], out: &'a str) -> Row<'a> {
+    Row {
+        words,
+        document: b"",
+        sheet: sheet.as_bytes(),
+        out,
+        err: "",
+        code: 0,
+    }
+}
+
 /// Words that end with this line and code, and write nothing.
-pub fn ended(words: &'static [&'static str], err: &'static str, code: u8) -> Row {
+pub fn ended<'a>(words: &'a [&'a str], err: &'a str, code: u8) -> Row<'a> {
     Row {
         words,
         document: b"<p/>",
@@ -70,7 +82,7 @@ fn named(alloc: Global, name: &str, bytes: &[u8]) -> Result<NamedFile, Memory> {
     })
 }
 
-fn words_of(alloc: Global, row: &Row) -> Result<List<Text>, Memory> {
+fn words_of(alloc: Global, row: &Row<'_>) -> Result<List<Text>, Memory> {
     let mut words = List::new(alloc);
     for word in row.words {
         words.push(Text::from_str(alloc, word)?)?;
@@ -82,7 +94,7 @@ fn words_of(alloc: Global, row: &Row) -> Result<List<Text>, Memory> {
 pub fn code_of<O: Sink, L: Ledger>(
     rt: &HostRuntime,
     blank: Blank,
-    row: &Row,
+    row: &Row<'_>,
     out: &mut O,
     err: &mut FixedSink,
 ) -> Result<u8, Memory>
