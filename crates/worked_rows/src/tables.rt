@@ -242,7 +242,8 @@ fn predefined_styles(rt: HostRuntime) -> Result<(), Fail> {
         ("disclosure-open", "1", "1", "1 \"\u{25be}\"\n"),
         ("disclosure-closed", "1", "1", "1 \"\u{25b8}\"\n"),
     ] {
-        let row = tabled("", &["table", "s.css", style, from, to], out);
+        let words = ["table", "s.css", style, from, to];
+        let row = tabled("", &words, out);
         assert!(rt; comes_out(&rt, &row)?, "{style} {from} {to}");
     }
     Ok(())
@@ -291,8 +292,9 @@ fn long_circles(rt: HostRuntime) -> Result<(), Fail> {
         ),
     ] {
         let sheet = chain(rt.alloc(), front, back)?;
+        let words = ["table", "s.css", "n0", from, to];
         let row = Row {
-            words: &["table", "s.css", "n0", from, to],
+            words: &words,
             document: b"",
             sheet: sheet.as_bytes(),
             out,
