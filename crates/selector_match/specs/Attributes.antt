@@ -7,13 +7,13 @@ use Rattle.plain_types.specs.StyleNames.{lower_case}
 use Rattle.plain_types.specs.declared.selector_parts.AttrTest.{AttrTest}
 use Rattle.plain_types.specs.declared.selector_parts.AttrTest.TheVariants.{Present, Equal, Word, Dash, Start, End, Inside}
 
--- Infra, 4.6: what stands between ASCII whitespace, which is tab, LF, FF, CR and space
-abbrev pub words : List ℕ → List (List ℕ)
-words text = slice_split is_ascii_whitespace text
+-- the parts between ASCII whitespace: Infra, 4.6, tab, LF, FF, CR and space
+abbrev pub parts : List ℕ → List (List ℕ)
+parts text = slice_split is_ascii_whitespace text
 
--- one of the words is this one, which has characters and is a word
+-- one of the parts is this word; a part without characters is no word
 abbrev pub has_word : List ℕ → List ℕ → Bool
-has_word text word = not (length word == 0) && list_any (bytes_eq word) (words text)
+has_word text word = not (length word == 0) && list_any (bytes_eq word) (parts text)
 
 -- the value stands in the text, from some character on
 abbrev pub contains : List ℕ → List ℕ → Bool
@@ -31,5 +31,8 @@ passes End text value = not (length value == 0) && ends_with nat_eq text value
 passes Inside text value = not (length value == 0) && contains text value
 
 -- Selectors 4, 6.3: with the flag `i` ASCII case does not count
+abbrev pub in_case : Bool → List ℕ → List ℕ
+in_case fold text = if fold then lower_case text else text
+
 abbrev pub passes_in_case : Bool → AttrTest → List ℕ → List ℕ → Bool
-passes_in_case fold test text value = if fold then passes test (lower_case text) (lower_case value) else passes test text value
+passes_in_case fold test text value = passes test (in_case fold text) (in_case fold value)

@@ -1,5 +1,5 @@
--- What selectors see of a document: Selectors 4, 2, a tree of elements. The relations between elements are
--- those of DOM, 1.1 "Trees", among elements alone.
+-- What selectors see of a document: Selectors 4, 3.2 "Data Model", a tree of elements. The relations between
+-- elements are those of DOM, 1.1 "Trees", among elements alone.
 use Rattle.std.specs.Prelude.{ℕ, ◌==◌, if◌then◌else◌, Bool, true, false, ◌&&◌, List, [], ◌∷◌, length, Option, Some, None}
 use Rattle.std.specs.Option.{option_or}
 use Rattle.forest.specs.Forest.{Forest, Empty, Tree}
@@ -14,7 +14,7 @@ pub record Element : Type 0 where
   pub attrs : List Attr
   pub is_empty : Bool
 
--- Selectors 3, 6.6.5.7: these children are none, or texts without characters; white space counts (our own:
+-- Selectors 3, 6.6.5.12: these children are none, or texts without characters; white space counts (our own:
 -- Selectors 4, 13.2 leaves it out)
 abbrev pub are_nothing : Forest Node → Bool
 are_nothing Empty = true

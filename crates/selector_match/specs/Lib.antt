@@ -2,3 +2,5 @@ pub mod Elements
 pub mod Attributes
 pub mod Positions
 pub mod Matching
+pub mod Lookups
+pub mod Runs

@@ -1,0 +1,11 @@
+mod TextLaws
+mod SeatLaws
+mod StandingLaws
+mod EmptyLaws
+mod FoldLaws
+mod Encoding
+mod AttributeLaws
+mod PositionLaws
+mod Chains
+mod RunLaws
+mod TurnLaws

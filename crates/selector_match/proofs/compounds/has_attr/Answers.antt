@@ -1,0 +1,18 @@
+use Rattle.std.proofs.Common.{ap, ◌∙◌, false}
+use Rattle.std.specs.Option.{option_map_or}
+use Rattle.std.specs.Str.{chars}
+use Rattle.node_arena.specs.Nodes.{value_of}
+use Rattle.selector_match.specs.Attributes.{passes_in_case}
+use Rattle.selector_match.proofs.StandingLaws.{element-attrs}
+use Rattle.selector_match.proofs.compounds.has_attr.Goals as goal
+
+pub returns-in-Some : goal.returns-in-Some
+returns-in-Some c =
+    c.passes.ensures
+    ∙ ap (λ o. option_map_or (λ text. passes_in_case c.args.fold c.args.test text (chars c.args.value.now)) o false)
+    (c.in-Some.ensures.characters ∙ ap (value_of (chars c.args.name.now)) (element-attrs c.args.arena.now.tree c.root-root.ensures.document c.args.key c.requires.live c.requires.element))
+
+pub returns-in-None : goal.returns-in-None
+returns-in-None c =
+    ap (λ o. option_map_or (λ text. passes_in_case c.args.fold c.args.test text (chars c.args.value.now)) o false)
+    (c.in-None.ensures.characters ∙ ap (value_of (chars c.args.name.now)) (element-attrs c.args.arena.now.tree c.root-root.ensures.document c.args.key c.requires.live c.requires.element))

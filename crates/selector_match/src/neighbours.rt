@@ -1,0 +1,103 @@
+//! The element siblings of an element, and its children.
+
+ghost use Rattle.std.specs.Prelude.{◌≡◌, ◌==◌, [], IfSome, IfNone, false, length};
+ghost use Rattle.std.specs.Option.{option_map_or};
+ghost use Rattle.forest.specs.Keys.{without_keys};
+ghost use Rattle.forest.specs.Spots.{IsLive, IsLink, children_of};
+ghost use Rattle.node_arena.specs.Nodes.{characters_of};
+ghost use Rattle.selector_match.specs.Elements.{are_nothing};
+ghost use Rattle.selector_match.specs.Positions.{siblings, counts, counted};
+ghost use Rattle.selector_match.specs.Lookups.{IsElement, IsElementBeside, beside_of, standing_at};
+
+use node_arena::arena::Arena;
+
+/// The sibling beside a node: the one after it, or before it.
+fn sibling(arena: &Arena, key: usize, after: bool) -> Option<usize>
+    requires { IsLive arena.now.tree key }
+    ensures link { result ≡ beside_of arena.now.tree after key }
+    ensures live { IsLink arena.now.tree result }
+{
+    if after {
+        arena.next_sibling(key)
+    } else {
+        arena.previous_sibling(key)
+    }
+}
+
+/// The nearest element among the siblings after an element, or among those before it. Time linear in the
+/// number of texts between.
+pub(crate) fn element_beside(arena: &Arena, key: usize, after: bool) -> Option<usize>
+    requires live { IsLive arena.now.tree key }
+    requires element { IsElement arena.now.tree key }
+    ensures some { IfSome result (IsElementBeside arena.now.tree after key) }
+    ensures none { IfNone result (siblings after (standing_at arena.now.tree key).level ≡ []) }
+{
+    let _root = arena.root();
+    let mut at = key;
+    'beside: while let Some(beside) = sibling(arena, at, after) {
+        if arena.name(beside).is_some() {
+            return Some(beside);
+        }
+        at = beside;
+    }
+    None
+}
+
+/// Whether a sibling counts: any does, or one of the same name. Time linear in the names.
+fn counts(arena: &Arena, key: usize, sibling: usize, same_type: bool) -> bool
+    requires live { IsLive arena.now.tree key }
+    requires element { IsElement arena.now.tree key }
+    requires sibling { IsLive arena.now.tree sibling }
+    requires element_too { IsElement arena.now.tree sibling }
+    ensures { result ≡ counts same_type (standing_at arena.now.tree key).level.element (standing_at arena.now.tree sibling).level.element }
+{
+    let _root = arena.root();
+    !same_type || arena.name(sibling) == arena.name(key)
+}
+
+/// How many siblings after an element, or before it, count: all, or those of its name. Time linear in
+/// the number of siblings.
+pub(crate) fn count_beside(arena: &Arena, key: usize, after: bool, same_type: bool) -> usize
+    requires live { IsLive arena.now.tree key }
+    requires element { IsElement arena.now.tree key }
+    ensures { result ≡ counted after same_type (standing_at arena.now.tree key).level }
+{
+    let _root = arena.root();
+    let mut count = 0;
+    let mut at = key;
+    'beside: while let Some(sibling) = element_beside(arena, at, after) {
+        if counts(arena, key, sibling, same_type) {
+            count += 1;
+        }
+        at = sibling;
+    }
+    count
+}
+
+/// Whether a node is a text without characters.
+fn is_nothing(arena: &Arena, key: usize) -> bool
+    requires { IsLive arena.now.tree key }
+    ensures { result ≡ option_map_or (λ characters. length characters == 0) (characters_of arena.now.tree key) false }
+{
+    match arena.characters(key) {
+        Some(characters) => characters.is_empty(),
+        None => false,
+    }
+}
+
+/// Whether a node has neither a child element nor a text with characters. Time linear in the number of
+/// its children that are empty texts.
+pub(crate) fn is_empty(arena: &Arena, key: usize) -> bool
+    requires { IsLive arena.now.tree key }
+    ensures { result ≡ are_nothing (without_keys (children_of arena.now.tree key)) }
+{
+    let _root = arena.root();
+    let mut child = arena.first_child(key);
+    'children: while let Some(at) = child {
+        if !is_nothing(arena, at) {
+            return false;
+        }
+        child = arena.next_sibling(at);
+    }
+    true
+}
