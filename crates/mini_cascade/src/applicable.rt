@@ -11,13 +11,13 @@ ghost use Rattle.selectors.specs.Specificity.{is_less};
 
 use crate::candidate::Candidate;
 use crate::rank::{Level, Origin, Rank, cascade_level};
-use crate::stubs::matches;
 use node_arena::arena::Arena;
 use plain_types::declaration::{Declaration, Declared};
 use plain_types::memory::Memory;
 use plain_types::selector::Selector;
 use plain_types::selector_parts::PseudoElement;
 use plain_types::sheet::{Sheet, StyleRule};
+use selector_match::matching::matches;
 use selectors::counting::specificity;
 use selectors::specificity::Specificity;
 use std::alloc::Global;

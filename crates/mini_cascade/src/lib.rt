@@ -28,7 +28,6 @@ mod defaulting;
 pub mod hints;
 mod property;
 mod rank;
-mod stubs;
 pub mod style_of;
 #[cfg(test)]
 mod tests;

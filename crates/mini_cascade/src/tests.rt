@@ -1,5 +1,7 @@
 //! Hints, and styles of a list item in a numbered list, worked out by hand from the rules of the cascade.
 
+ghost use Rattle.std.specs.Prelude.{◌≡◌, ◌<◌};
+
 use crate::hints::{hints, start_reset};
 use crate::style_of::style_of;
 use css_tokens::lexer::tokens;
@@ -105,7 +107,7 @@ static REVERSED_STARTS: [(Option<i32>, &str); 4] = [
 
 /// Whose rule it is.
 #[derive(Clone, Copy)]
-enum From {
+enum Whose {
     Agent,
     AgentImportant,
     Author,
@@ -113,7 +115,7 @@ enum From {
 }
 
 /// A rule: whose it is, its selectors, and the name and value of its declaration.
-type Rule = (From, &'static str, &'static str, &'static str);
+type Rule = (Whose, &'static str, &'static str, &'static str);
 
 /// An `li` with this attribute in an `ol`, rules, and in what its styles differ from initial values.
 type Row = ((&'static str, &'static str), &'static [Rule], &'static str);
@@ -122,15 +124,15 @@ static STYLES: [Row; 38] = [
     (("id", "b"), &[], ""),
     (
         ("id", "b"),
-        &[(From::Author, "li", "display", "list-item")],
+        &[(Whose::Author, "li", "display", "list-item")],
         "display list-item; ",
     ),
     // of equals the last
     (
         ("id", "b"),
         &[
-            (From::Author, "li", "display", "none"),
-            (From::Author, "li", "display", "list-item"),
+            (Whose::Author, "li", "display", "none"),
+            (Whose::Author, "li", "display", "list-item"),
         ],
         "display list-item; ",
     ),
@@ -138,17 +140,17 @@ static STYLES: [Row; 38] = [
     (
         ("id", "b"),
         &[
-            (From::Author, "#b", "display", "none"),
-            (From::Author, "li", "display", "list-item"),
+            (Whose::Author, "#b", "display", "none"),
+            (Whose::Author, "li", "display", "list-item"),
         ],
         "display none; ",
     ),
     (
         ("id", "b"),
         &[
-            (From::Author, "#b", "display", "none"),
+            (Whose::Author, "#b", "display", "none"),
             (
-                From::Author,
+                Whose::Author,
                 "li[id][id][id][id][id][id][id][id][id][id][id]",
                 "display",
                 "list-item",
@@ -159,24 +161,24 @@ static STYLES: [Row; 38] = [
     (
         ("id", "b"),
         &[
-            (From::Author, "[id]", "display", "none"),
-            (From::Author, "ol > li", "display", "list-item"),
+            (Whose::Author, "[id]", "display", "none"),
+            (Whose::Author, "ol > li", "display", "list-item"),
         ],
         "display none; ",
     ),
     (
         ("id", "b"),
         &[
-            (From::Author, "ol li", "display", "none"),
-            (From::Author, "li", "display", "list-item"),
+            (Whose::Author, "ol li", "display", "none"),
+            (Whose::Author, "li", "display", "list-item"),
         ],
         "display none; ",
     ),
     (
         ("id", "b"),
         &[
-            (From::Author, "li", "display", "none"),
-            (From::Author, ":where(#b)", "display", "list-item"),
+            (Whose::Author, "li", "display", "none"),
+            (Whose::Author, ":where(#b)", "display", "list-item"),
         ],
         "display none; ",
     ),
@@ -184,38 +186,38 @@ static STYLES: [Row; 38] = [
     (
         ("id", "b"),
         &[
-            (From::Author, "#x, li", "display", "none"),
-            (From::Author, "[id]", "display", "list-item"),
+            (Whose::Author, "#x, li", "display", "none"),
+            (Whose::Author, "[id]", "display", "list-item"),
         ],
         "display list-item; ",
     ),
     (
         ("id", "b"),
         &[
-            (From::Author, "#b, li", "display", "none"),
-            (From::Author, "[id]", "display", "list-item"),
+            (Whose::Author, "#b, li", "display", "none"),
+            (Whose::Author, "[id]", "display", "list-item"),
         ],
         "display none; ",
     ),
     (
         ("id", "b"),
         &[
-            (From::Author, "li::before, #b", "display", "none"),
-            (From::Author, "[id]::before", "display", "list-item"),
+            (Whose::Author, "li::before, #b", "display", "none"),
+            (Whose::Author, "[id]::before", "display", "list-item"),
         ],
         "display none; ::before display list-item; ",
     ),
     (
         ("id", "b"),
-        &[(From::Author, "ul, p > li", "display", "none")],
+        &[(Whose::Author, "ul, p > li", "display", "none")],
         "",
     ),
     // origins before specificity
     (
         ("id", "b"),
         &[
-            (From::Agent, "#b", "display", "none"),
-            (From::Author, "*", "display", "list-item"),
+            (Whose::Agent, "#b", "display", "none"),
+            (Whose::Author, "*", "display", "list-item"),
         ],
         "display list-item; ",
     ),
@@ -223,106 +225,110 @@ static STYLES: [Row; 38] = [
     (
         ("id", "b"),
         &[
-            (From::AuthorImportant, "*", "display", "none"),
-            (From::Author, "#b", "display", "list-item"),
+            (Whose::AuthorImportant, "*", "display", "none"),
+            (Whose::Author, "#b", "display", "list-item"),
         ],
         "display none; ",
     ),
     (
         ("id", "b"),
         &[
-            (From::AuthorImportant, "#b", "display", "none"),
-            (From::AuthorImportant, "li", "display", "list-item"),
+            (Whose::AuthorImportant, "#b", "display", "none"),
+            (Whose::AuthorImportant, "li", "display", "list-item"),
         ],
         "display none; ",
     ),
     (
         ("id", "b"),
         &[
-            (From::AuthorImportant, "li", "display", "none"),
-            (From::AuthorImportant, "li", "display", "list-item"),
+            (Whose::AuthorImportant, "li", "display", "none"),
+            (Whose::AuthorImportant, "li", "display", "list-item"),
         ],
         "display list-item; ",
     ),
     (
         ("id", "b"),
         &[
-            (From::AgentImportant, "#b", "display", "none"),
-            (From::Author, "*", "display", "list-item"),
+            (Whose::AgentImportant, "#b", "display", "none"),
+            (Whose::Author, "*", "display", "list-item"),
         ],
         "display list-item; ",
     ),
     // hints: above the user agent's rules, below each of the author's
     (
         ("type", "square"),
-        &[(From::Agent, "li", "list-style-type", "disc")],
+        &[(Whose::Agent, "li", "list-style-type", "disc")],
         "type square; ::marker type square; ::before type square; ::after type square; ",
     ),
     (
         ("type", "square"),
-        &[(From::Author, "*", "list-style-type", "disc")],
+        &[(Whose::Author, "*", "list-style-type", "disc")],
         "",
     ),
     (
         ("value", "7"),
-        &[(From::Author, ":where(li)", "counter-set", "c 1")],
+        &[(Whose::Author, ":where(li)", "counter-set", "c 1")],
         "set c 1; ",
     ),
     (("value", "7"), &[], "set list-item 7; "),
     // inherited properties, into the pseudo-elements too
     (
         ("id", "b"),
-        &[(From::Author, "ol", "list-style-type", "square")],
+        &[(Whose::Author, "ol", "list-style-type", "square")],
         "type square; ::marker type square; ::before type square; ::after type square; ",
     ),
     (
         ("id", "b"),
-        &[(From::Author, "li", "quotes", "none")],
+        &[(Whose::Author, "li", "quotes", "none")],
         "quotes none; ::marker quotes none; ::before quotes none; ::after quotes none; ",
     ),
     (
         ("id", "b"),
         &[
-            (From::Author, "ol", "quotes", "none"),
-            (From::Author, "li", "quotes", "auto"),
+            (Whose::Author, "ol", "quotes", "none"),
+            (Whose::Author, "li", "quotes", "auto"),
         ],
         "",
     ),
     (
         ("id", "b"),
         &[
-            (From::Author, "ol", "list-style", "inside"),
-            (From::Author, "li::before", "list-style-type", "\"x\""),
+            (Whose::Author, "ol", "list-style", "inside"),
+            (Whose::Author, "li::before", "list-style-type", "\"x\""),
         ],
         "::before type 'x'; ",
     ),
     // the others are not
-    (("id", "b"), &[(From::Author, "ol", "display", "none")], ""),
-    (("id", "b"), &[(From::Author, "ol", "content", "\"x\"")], ""),
+    (("id", "b"), &[(Whose::Author, "ol", "display", "none")], ""),
     (
         ("id", "b"),
-        &[(From::Author, "ol", "counter-reset", "c")],
+        &[(Whose::Author, "ol", "content", "\"x\"")],
         "",
     ),
     (
         ("id", "b"),
-        &[(From::Author, "li", "content", "\"x\"")],
+        &[(Whose::Author, "ol", "counter-reset", "c")],
+        "",
+    ),
+    (
+        ("id", "b"),
+        &[(Whose::Author, "li", "content", "\"x\"")],
         "content 'x'; ",
     ),
     // unless they are told to
     (
         ("id", "b"),
         &[
-            (From::Author, "ol", "counter-reset", "c 3"),
-            (From::Author, "li", "counter-reset", "inherit"),
+            (Whose::Author, "ol", "counter-reset", "c 3"),
+            (Whose::Author, "li", "counter-reset", "inherit"),
         ],
         "reset c 3; ",
     ),
     (
         ("id", "b"),
         &[
-            (From::Author, "li", "content", "\"x\""),
-            (From::Author, "li::marker", "content", "inherit"),
+            (Whose::Author, "li", "content", "\"x\""),
+            (Whose::Author, "li::marker", "content", "inherit"),
         ],
         "content 'x'; ::marker content 'x'; ",
     ),
@@ -330,8 +336,8 @@ static STYLES: [Row; 38] = [
     (
         ("id", "b"),
         &[
-            (From::Author, "ol", "display", "inherit"),
-            (From::Author, "li", "display", "inherit"),
+            (Whose::Author, "ol", "display", "inherit"),
+            (Whose::Author, "li", "display", "inherit"),
         ],
         "",
     ),
@@ -339,26 +345,26 @@ static STYLES: [Row; 38] = [
     (
         ("id", "b"),
         &[
-            (From::Author, "ol", "list-style-type", "\"x\""),
-            (From::Author, "li", "list-style-type", "unset"),
-            (From::Author, "ol", "display", "none"),
-            (From::Author, "li", "display", "unset"),
+            (Whose::Author, "ol", "list-style-type", "\"x\""),
+            (Whose::Author, "li", "list-style-type", "unset"),
+            (Whose::Author, "ol", "display", "none"),
+            (Whose::Author, "li", "display", "unset"),
         ],
         "type 'x'; ::marker type 'x'; ::before type 'x'; ::after type 'x'; ",
     ),
     (
         ("id", "b"),
         &[
-            (From::Author, "ol", "list-style-type", "square"),
-            (From::Author, "li", "list-style-type", "initial"),
+            (Whose::Author, "ol", "list-style-type", "square"),
+            (Whose::Author, "li", "list-style-type", "initial"),
         ],
         "",
     ),
     (
         ("id", "b"),
         &[
-            (From::Author, "li", "display", "none"),
-            (From::Author, "#b", "display", "initial"),
+            (Whose::Author, "li", "display", "none"),
+            (Whose::Author, "#b", "display", "initial"),
         ],
         "",
     ),
@@ -366,31 +372,31 @@ static STYLES: [Row; 38] = [
     (
         ("id", "b"),
         &[
-            (From::Author, "li::marker", "quotes", "none"),
+            (Whose::Author, "li::marker", "quotes", "none"),
             (
-                From::AuthorImportant,
+                Whose::AuthorImportant,
                 "li::marker",
                 "list-style-type",
                 "square",
             ),
-            (From::Author, "li::marker", "counter-reset", "c"),
-            (From::Author, "li::marker", "display", "none"),
-            (From::Author, "li::marker", "content", "\"y\""),
+            (Whose::Author, "li::marker", "counter-reset", "c"),
+            (Whose::Author, "li::marker", "display", "none"),
+            (Whose::Author, "li::marker", "content", "\"y\""),
         ],
         "::marker content 'y'; ",
     ),
     (
         ("id", "b"),
         &[
-            (From::Author, "li::before", "counter-increment", "c 2"),
-            (From::Author, "li:after", "display", "none"),
-            (From::Author, "li::after", "quotes", "none"),
+            (Whose::Author, "li::before", "counter-increment", "c 2"),
+            (Whose::Author, "li:after", "display", "none"),
+            (Whose::Author, "li::after", "quotes", "none"),
         ],
         "::before increment c 2; ::after display none; ::after quotes none; ",
     ),
     (
         ("id", "b"),
-        &[(From::Author, "li::first-line", "display", "none")],
+        &[(Whose::Author, "li::first-line", "display", "none")],
         "",
     ),
 ];
@@ -445,7 +451,7 @@ fn rule_of(alloc: Global, rule: &Rule) -> Result<Option<StyleRule>, Memory> {
     let Some(what) = read_declaration(alloc, rule.2, pieces.as_slice())? else {
         return Ok(None);
     };
-    let important = matches!(rule.0, From::AgentImportant | From::AuthorImportant);
+    let important = matches!(rule.0, Whose::AgentImportant | Whose::AuthorImportant);
     let mut declared = List::new(alloc);
     declared.push(Declared { what, important })?;
     Ok(Some(StyleRule {
@@ -461,7 +467,7 @@ fn sheet_of(alloc: Global, rules: &[Rule], agent: bool) -> Result<Sheet, Memory>
         styles: List::new(alloc),
     };
     for rule in rules {
-        if agent == matches!(rule.0, From::Agent | From::AgentImportant) {
+        if agent == matches!(rule.0, Whose::Agent | Whose::AgentImportant) {
             if let Some(rule) = rule_of(alloc, rule)? {
                 sheet.rules.push(rule)?;
             }
