@@ -25,7 +25,7 @@ use Rattle.box_eval.specs.Evaluation.{Element, ElementRecord, StyledNode, Text, 
 use Rattle.box_eval.specs.Scopes.{AreEarlier, AreNew, HasNoneOf, first_boxes, last_boxes}
 use Rattle.box_eval.proofs.Agreement.{AllAgree}
 use Rattle.box_eval.proofs.ElementLemmas.{Holds, IsReady, holds_if, marker_agrees, marker_good, new_after, new_element, own_agrees, own_good, pseudo_agrees, pseudo_good, pseudo_same}
-use Rattle.box_eval.proofs.EntryLemmas.{before_is, before_ready, behind_marker_is, children_same, closing_same, element_ready, entry_same, marker_is, marker_ready, next_inherits, none_both, none_by_before, none_by_marker, own_is, ready_in}
+use Rattle.box_eval.proofs.EntryLemmas.{before_is, before_ready, behind_marker_is, children_same, closing_any, closing_same, element_ready, entry_same, marker_is, marker_ready, next_inherits, none_both, none_by_before, none_by_marker, own_is, ready_in}
 use Rattle.box_eval.proofs.KeptLemmas.{inherited_good}
 use Rattle.box_eval.proofs.ListLemmas.{each_imp, or_none}
 
@@ -446,3 +446,97 @@ root_level document = record {
   out = record { parent = tt; sibling = tt };
   fits = record { parent = tt; sibling = tt };
 }
+
+-- By the parent's set nothing depends on the sibling boxes before.
+
+abbrev pub with_earlier : Handed → List BoxId → Handed
+with_earlier handed earlier = record handed { earlier = earlier }
+
+-- the second is the first, but for the sibling boxes before
+abbrev pub DiffersInEarlier : Handed → Handed → Type 0
+DiffersInEarlier first second = (earlier : List BoxId) × (second ≡ with_earlier first earlier)
+
+module _ (table : List CounterStyle) where
+  within_any : (has : Bool) (key : ℕ) (label : StyledNode) (handed : Handed) (earlier : List BoxId) → DiffersInEarlier (within table by_parent has key label handed) (within table by_parent has key label (with_earlier handed earlier))
+  within_any true key (Element element) handed earlier = ((children_handed table by_parent key element handed).earlier, refl)
+  within_any true key Text handed earlier = (earlier, refl)
+  within_any false key (Element element) handed earlier = (earlier, refl)
+  within_any false key Text handed earlier = (earlier, refl)
+
+  next_any : (has : Bool) (key : ℕ) (label : StyledNode) (handed behind : Handed) (earlier beside : List BoxId) → DiffersInEarlier (past_node table by_parent has key label handed behind) (past_node table by_parent has key label (with_earlier handed earlier) (with_earlier behind beside))
+  next_any true key (Element element) handed behind earlier beside =
+      let box = box_of key kind.Element in
+      let own = (own_counted table by_parent key element handed).set in
+      (box ∷ earlier, ap (λ (closing : Closing). past box own closing.exit closing.depth (with_earlier handed earlier)) (sym (closing_any table key element behind beside)))
+  next_any true key Text handed behind earlier beside = (earlier, refl)
+  next_any false key (Element element) handed behind earlier beside = (earlier, refl)
+  next_any false key Text handed behind earlier beside = (earlier, refl)
+
+  record_any : (has : Bool) (key : ℕ) (label : StyledNode) (handed behind : Handed) (earlier beside : List BoxId) → records_of table by_parent has key label handed behind ≡ records_of table by_parent has key label (with_earlier handed earlier) (with_earlier behind beside)
+  record_any true key (Element element) handed behind earlier beside =
+      let entry = entry_of table by_parent key element handed in
+      let make : Closing → ElementRecord = λ closing. record { has_box = true; own = entry.own; exit = closing.exit; depth_before = handed.depth; depth_after = closing.depth; marker = entry.marker; before = entry.before; after = closing.after } in
+      ap (λ closing. (key, make closing) ∷ []) (closing_any table key element behind beside)
+  record_any true key Text handed behind earlier beside = refl
+  record_any false key (Element element) handed behind earlier beside = refl
+  record_any false key Text handed behind earlier beside = refl
+
+  first_any : (has : Bool) (key : ℕ) (label : StyledNode) (handed : Handed) (earlier : List BoxId) → first_changes table by_parent has key label handed ≡ first_changes table by_parent has key label (with_earlier handed earlier)
+  first_any true key (Element element) handed earlier = refl
+  first_any true key Text handed earlier = refl
+  first_any false key (Element element) handed earlier = refl
+  first_any false key Text handed earlier = refl
+
+  last_any : (has : Bool) (key : ℕ) (label : StyledNode) (behind : Handed) (beside : List BoxId) → last_changes table by_parent has key label behind ≡ last_changes table by_parent has key label (with_earlier behind beside)
+  last_any true key (Element element) behind beside = ap (λ (closing : Closing). changes_in closing.after) (closing_any table key element behind beside)
+  last_any true key Text behind beside = refl
+  last_any false key (Element element) behind beside = refl
+  last_any false key Text behind beside = refl
+
+  inputs_any : (boxed : Bool) (key : ℕ) (label : StyledNode) (handed : Handed) (earlier : List BoxId) → inputs_of table by_parent boxed key label handed ≡ inputs_of table by_parent boxed key label (with_earlier handed earlier)
+  inputs_any true key (Element element) handed earlier = refl
+  inputs_any true key Text handed earlier = refl
+  inputs_any false key (Element element) handed earlier = refl
+  inputs_any false key Text handed earlier = refl
+
+  pub record SameFor (boxed : Bool) (trees : Forest (Keyed StyledNode)) (first second : Handed) : Type 0 where
+    pub past : DiffersInEarlier (past_trees table by_parent boxed first trees) (past_trees table by_parent boxed second trees)
+    pub records : records table by_parent boxed first trees ≡ records table by_parent boxed second trees
+    pub changes : changes table by_parent boxed first trees ≡ changes table by_parent boxed second trees
+    pub inputs : inputs table by_parent boxed first trees ≡ inputs table by_parent boxed second trees
+
+  pub same_for : (trees : Forest (Keyed StyledNode)) (boxed : Bool) (first second : Handed) → DiffersInEarlier first second → SameFor boxed trees first second
+  same_for Empty boxed first second differs = record { past = differs; records = refl; changes = refl; inputs = refl }
+  same_for (Tree node children after) boxed first second differs =
+      let has = is_boxed boxed node.label in
+      let key = node.key in
+      let inner = within table by_parent has key node.label first in
+      let inner_too = within table by_parent has key node.label second in
+      let inner_differs : DiffersInEarlier inner inner_too =
+      let any = within_any has key node.label first differs.0 in
+      (any.0, ap (within table by_parent has key node.label) differs.1 ∙ any.1) in
+      let below = same_for children has inner inner_too inner_differs in
+      let behind = past_trees table by_parent has inner children in
+      let behind_too = past_trees table by_parent has inner_too children in
+      let next = past_node table by_parent has key node.label first behind in
+      let next_too = past_node table by_parent has key node.label second behind_too in
+      let next_differs : DiffersInEarlier next next_too =
+      let any = next_any has key node.label first behind differs.0 below.past.0 in
+      (any.0, ap (λ handed. past_node table by_parent has key node.label handed behind_too) differs.1 ∙ ap (past_node table by_parent has key node.label (with_earlier first differs.0)) below.past.1 ∙ any.1) in
+      let rest = same_for after boxed next next_too next_differs in
+      let here : records_of table by_parent has key node.label first behind ≡ records_of table by_parent has key node.label second behind_too =
+      record_any has key node.label first behind differs.0 below.past.0
+      ∙ sym (ap (λ handed. records_of table by_parent has key node.label handed behind_too) differs.1 ∙ ap (records_of table by_parent has key node.label (with_earlier first differs.0)) below.past.1) in
+      record {
+        past = rest.past;
+        records = join_two (records table by_parent has inner children) (records table by_parent has inner_too children) _ _ below.records
+            (join_two (records_of table by_parent has key node.label first behind) (records_of table by_parent has key node.label second behind_too) _ _ here rest.records);
+        changes = join_two (first_changes table by_parent has key node.label first) (first_changes table by_parent has key node.label second) _ _
+            (first_any has key node.label first differs.0 ∙ sym (ap (first_changes table by_parent has key node.label) differs.1))
+            (join_two (changes table by_parent has inner children) (changes table by_parent has inner_too children) _ _ below.changes
+            (join_two (last_changes table by_parent has key node.label behind) (last_changes table by_parent has key node.label behind_too) _ _
+            (last_any has key node.label behind below.past.0 ∙ sym (ap (last_changes table by_parent has key node.label) below.past.1)) rest.changes));
+        inputs = join_two (inputs_of table by_parent boxed key node.label first) (inputs_of table by_parent boxed key node.label second) _ _
+            (inputs_any boxed key node.label first differs.0 ∙ sym (ap (inputs_of table by_parent boxed key node.label) differs.1))
+            (join_two (inputs table by_parent has inner children) (inputs table by_parent has inner_too children) _ _ below.inputs rest.inputs);
+      }

@@ -1,11 +1,11 @@
-mod ListLemmas
-mod BoxLemmas
-mod KeptLemmas
-mod Agreement
-mod CountedLemmas
-mod ContentLemmas
-mod OpLemmas
-mod ResetLemmas
-mod ElementLemmas
-mod EntryLemmas
-mod DocumentLemmas
+pub mod ListLemmas
+pub mod BoxLemmas
+pub mod KeptLemmas
+pub mod Agreement
+pub mod CountedLemmas
+pub mod ContentLemmas
+pub mod OpLemmas
+pub mod ResetLemmas
+pub mod ElementLemmas
+pub mod EntryLemmas
+pub mod DocumentLemmas

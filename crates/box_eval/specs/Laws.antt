@@ -58,3 +58,14 @@ pub record DoesParentTell (table : List CounterStyle) (document : Forest (Keyed 
   pub records : records table by_peers true at_root document ≡ records table by_parent true at_root document
   pub changes : changes table by_peers true at_root document ≡ changes table by_parent true at_root document
   pub inputs : inputs table by_peers true at_root document ≡ inputs table by_parent true at_root document
+
+-- And where the parent's set tells it, nothing depends on the sibling boxes before: it is the same with these as
+-- with those that are handed on.
+pub record ForgetsEarlier (table : List CounterStyle) (boxed : Bool) (handed : Handed) (earlier : List BoxId) (trees : Forest (Keyed StyledNode)) : Type 0 where
+  pub records : records table by_parent boxed handed trees ≡ records table by_parent boxed (record handed { earlier = earlier }) trees
+  pub changes : changes table by_parent boxed handed trees ≡ changes table by_parent boxed (record handed { earlier = earlier }) trees
+  pub inputs : inputs table by_parent boxed handed trees ≡ inputs table by_parent boxed (record handed { earlier = earlier }) trees
+
+abbrev pub ParentsNeedNoPeers : Type 0
+ParentsNeedNoPeers =
+    (table : List CounterStyle) (trees : Forest (Keyed StyledNode)) (boxed : Bool) (handed : Handed) (earlier : List BoxId) → ForgetsEarlier table boxed handed earlier trees

@@ -1,10 +1,12 @@
 //! Laws of the evaluation. The functions do nothing: each contract is a law, proved of every document.
 
-ghost use Rattle.box_eval.specs.Laws.{DoesParentTell, EachSetIsScoped, OfEachDocument};
+ghost use Rattle.box_eval.specs.Laws.{DoesParentTell, EachSetIsScoped, OfEachDocument, ParentsNeedNoPeers};
 
 /// Of the counters of a box, those that the set of its parent lacks are those that the box itself or a sibling
-/// box before it created. So the parent's set tells which counter a new one of its name replaces.
+/// box before it created. So the parent's set tells which counter a new one of its name replaces, and then
+/// nothing depends on the sibling boxes before.
 pub fn parents_tell_scopes()
     ensures scoped { OfEachDocument EachSetIsScoped }
     ensures told { OfEachDocument DoesParentTell }
+    ensures no_peers { ParentsNeedNoPeers }
 {}
