@@ -63,7 +63,7 @@ enum Part {
 /// Compounds, each but the first with the combinator before it, which does not count at the first.
 type Steps = &'static [(Join, &'static [Part])];
 
-static ROWS: [(Steps, &'static [usize]); 97] = [
+static NAMES: [(Steps, &'static [usize]); 16] = [
     // type selectors and `*`; case counts
     (
         &[(Join::Descendant, &[Part::Any])],
@@ -86,6 +86,9 @@ static ROWS: [(Steps, &'static [usize]); 97] = [
     (&[(Join::Descendant, &[Part::Root])], &[0]),
     (&[(Join::Descendant, &[Part::Empty])], &[4, 6, 13, 14]),
     (&[(Join::Descendant, &[Part::Never])], &[]),
+];
+
+static ATTRIBUTES: [(Steps, &'static [usize]); 15] = [
     // attributes
     (
         &[(
@@ -186,6 +189,9 @@ static ROWS: [(Steps, &'static [usize]); 97] = [
         )],
         &[6],
     ),
+];
+
+static MORE_ATTRIBUTES: [(Steps, &'static [usize]); 14] = [
     (
         &[(Join::Descendant, &[Part::Attr("class", AttrTest::Dash, "")])],
         &[14],
@@ -278,6 +284,9 @@ static ROWS: [(Steps, &'static [usize]); 97] = [
         )],
         &[],
     ),
+];
+
+static POSITIONS: [(Steps, &'static [usize]); 18] = [
     // positions, among elements alone
     (&[(Join::Descendant, &[Part::Only(false)])], &[0, 13]),
     (
@@ -351,6 +360,9 @@ static ROWS: [(Steps, &'static [usize]); 97] = [
         )],
         &[],
     ),
+];
+
+static LISTS: [(Steps, &'static [usize]); 9] = [
     // lists in brackets
     (
         &[(Join::Descendant, &[Part::Is(&["p", "ul"])])],
@@ -386,6 +398,9 @@ static ROWS: [(Steps, &'static [usize]); 97] = [
         &[(Join::Descendant, &[])],
         &[0, 2, 4, 6, 8, 9, 12, 13, 14, 15],
     ),
+];
+
+static COMBINATORS: [(Steps, &'static [usize]); 14] = [
     // combinators
     (
         &[
@@ -487,6 +502,9 @@ static ROWS: [(Steps, &'static [usize]); 97] = [
         ],
         &[],
     ),
+];
+
+static CHAINS: [(Steps, &'static [usize]); 11] = [
     // combinators in a row
     (
         &[
@@ -754,10 +772,50 @@ fn first_wrong(
 }
 
 #[test]
-fn selectors_match_what_the_standard_says(rt: HostRuntime) -> Result<(), Fail> {
-    let alloc = rt.alloc();
-    assert_eq!(rt; first_wrong(alloc, &DOCUMENT, &ROWS)?, None);
-    assert_eq!(rt; first_wrong(alloc, &SMALL, &SMALL_ROWS)?, None);
+fn names_ids_and_classes(rt: HostRuntime) -> Result<(), Fail> {
+    assert_eq!(rt; first_wrong(rt.alloc(), &DOCUMENT, &NAMES)?, None);
+    Ok(())
+}
+
+#[test]
+fn attributes(rt: HostRuntime) -> Result<(), Fail> {
+    assert_eq!(rt; first_wrong(rt.alloc(), &DOCUMENT, &ATTRIBUTES)?, None);
+    Ok(())
+}
+
+#[test]
+fn parts_of_attributes(rt: HostRuntime) -> Result<(), Fail> {
+    assert_eq!(rt; first_wrong(rt.alloc(), &DOCUMENT, &MORE_ATTRIBUTES)?, None);
+    Ok(())
+}
+
+#[test]
+fn positions(rt: HostRuntime) -> Result<(), Fail> {
+    assert_eq!(rt; first_wrong(rt.alloc(), &DOCUMENT, &POSITIONS)?, None);
+    Ok(())
+}
+
+#[test]
+fn lists_in_brackets(rt: HostRuntime) -> Result<(), Fail> {
+    assert_eq!(rt; first_wrong(rt.alloc(), &DOCUMENT, &LISTS)?, None);
+    Ok(())
+}
+
+#[test]
+fn combinators(rt: HostRuntime) -> Result<(), Fail> {
+    assert_eq!(rt; first_wrong(rt.alloc(), &DOCUMENT, &COMBINATORS)?, None);
+    Ok(())
+}
+
+#[test]
+fn combinators_in_a_row(rt: HostRuntime) -> Result<(), Fail> {
+    assert_eq!(rt; first_wrong(rt.alloc(), &DOCUMENT, &CHAINS)?, None);
+    Ok(())
+}
+
+#[test]
+fn a_small_document(rt: HostRuntime) -> Result<(), Fail> {
+    assert_eq!(rt; first_wrong(rt.alloc(), &SMALL, &SMALL_ROWS)?, None);
     Ok(())
 }
 
