@@ -586,6 +586,23 @@ fn shown_styles(alloc: Global, style: &ElementStyle) -> Result<Text, Memory> {
 }
 
 /// The styles of the element in the root, from those of the root.
+fn styles_between<L: Ledger>(
+    alloc: Global,
+    arena: &Arena,
+    agent: &Sheet,
+    author: &Sheet,
+    steps: &mut Steps<L>,
+) -> Result<Option<ElementStyle>, Memory> {
+    let root = arena.root();
+    let above = style_of(alloc, arena, agent, author, None, root, steps)?;
+    let Some(child) = arena.child(root, 0) else {
+        return Ok(None);
+    };
+    let parent = Some(&above.own);
+    Ok(Some(style_of(alloc, arena, agent, author, parent, child, steps)?))
+}
+
+/// The styles of the element in the root, under the rules of both sheets, as they are shown.
 fn styles_of_child<L: Ledger>(
     rt: &HostRuntime,
     blank: Blank,
@@ -600,14 +617,10 @@ fn styles_of_child<L: Ledger>(
     let mut steps = Steps::<L>::open(rt, blank);
     let agent = sheet_of(alloc, rules, true)?;
     let author = sheet_of(alloc, rules, false)?;
-    let root = arena.root();
-    let above = style_of(alloc, arena, &agent, &author, None, root, &mut steps)?;
-    let Some(child) = arena.child(root, 0) else {
-        return Ok(None);
-    };
-    let parent = Some(&above.own);
-    let styles = style_of(alloc, arena, &agent, &author, parent, child, &mut steps)?;
-    Ok(Some(shown_styles(alloc, &styles)?))
+    match styles_between(alloc, arena, &agent, &author, &mut steps)? {
+        Some(styles) => Ok(Some(shown_styles(alloc, &styles)?)),
+        None => Ok(None),
+    }
 }
 
 #[test]
