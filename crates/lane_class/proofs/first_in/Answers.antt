@@ -1,5 +1,5 @@
-use Rattle.std.proofs.Common.{◌≡◌, ◌+◌, ◌-◌, false, Some, None, take, drop, sym, ap, ◌∙◌, arith}
-use Rattle.std.specs.List.{list_any, position}
+use Rattle.std.proofs.Common.{◌≡◌, ◌+◌, ◌-◌, Some, None, take, drop, sym, ap, ◌∙◌, arith}
+use Rattle.std.specs.List.{position}
 use Rattle.std.proofs.lemmas.List.{take_rest}
 use Rattle.lane_class.specs.Ranges.{is_in}
 use Rattle.lane_class.proofs.PlaceLaws.{found_behind, none_by_ranges, none_further}
