@@ -8,16 +8,24 @@
 //! byte`, that the byte lies in one of the ranges. What `first_in` answers is the `position` of the first
 //! such byte, and `count_in` counts them by `count_by`; both are words of std.
 //!
+//! Both go over the bytes in one pass. `first_in` looks at several bytes at once, range by range and without
+//! an early end, which a processor does in a few instructions, and at single bytes where one of those is in
+//! the class.
+//!
 //! With the class of `<` and `&`, `first_in(b"ab&c<", &class)` is `Some(2)`, and `count_in` gives 2.
 #![tactic(auto)]
 
-ghost use Rattle.std.specs.Prelude.{◌≡◌, ◌≤◌, SomeIff, length, count_by, position};
+ghost use Rattle.std.specs.Prelude.{◌≡◌, ◌≤◌, ◌&&◌, nat_le, SomeIff, length, count_by, position};
+ghost use Rattle.std.specs.List.{list_any};
 ghost use Rattle.lane_class.specs.Ranges.{is_in};
 
 use std::marker::Model;
 
 /// How many ranges a class may have.
 const MOST: usize = 8;
+
+/// How many bytes are looked at at once.
+const AT_ONCE: usize = 32;
 
 /// A set of bytes: those that lie in one of at most eight ranges. Contracts see the list of its ranges.
 #[derive(Drop)]
@@ -61,13 +69,47 @@ impl ByteClass {
             .iter()
             .any(|(first, last)| *first <= byte && byte <= *last)
     }
+
+    /// Whether one of the bytes lies in one of the ranges, range by range.
+    fn has_any(&self, bytes: &[u8]) -> bool
+        ensures { result ≡ list_any (λ range. list_any (λ byte. nat_le range.0 byte && nat_le byte range.1) bytes.now) self.now }
+    {
+        self.ranges[..self.len]
+            .iter()
+            .any(|(first, last)| has_between(bytes, *first, *last))
+    }
+}
+
+/// Whether one of the bytes lies between these two.
+fn has_between(bytes: &[u8], first: u8, last: u8) -> bool
+    ensures { result ≡ list_any (λ byte. nat_le first byte && nat_le byte last) bytes.now }
+{
+    let mut found = false;
+    for byte in bytes {
+        found |= first <= *byte && *byte <= last;
+    }
+    found
+}
+
+/// The first place whose byte is in the class, byte by byte.
+fn first_near(bytes: &[u8], class: &ByteClass) -> Option<usize>
+    ensures { result ≡ position (is_in class.now) bytes.now }
+{
+    bytes.iter().position(|byte| class.contains(*byte))
 }
 
 /// The first place whose byte is in the class, in time linear in that place.
 pub fn first_in(bytes: &[u8], class: &ByteClass) -> Option<usize>
     ensures { result ≡ position (is_in class.now) bytes.now }
 {
-    bytes.iter().position(|byte| class.contains(*byte))
+    let mut start = 0;
+    'far: while bytes.len() - start >= AT_ONCE && !class.has_any(&bytes[start..start + AT_ONCE]) {
+        start += AT_ONCE;
+    }
+    match first_near(&bytes[start..], class) {
+        Some(place) => Some(start + place),
+        None => None,
+    }
 }
 
 /// How many bytes are in the class, in linear time.
@@ -89,6 +131,33 @@ mod tests {
         assert_eq!(rt; first_in(b"gz`", &class), None);
         assert_eq!(rt; count_in(b"fa<=;g", &class), 3);
         assert!(rt; ByteClass::of(&[(1, 0); 9]).is_none());
+        Ok(())
+    }
+
+    /// Whether the one byte of the class is found at each place of texts up to this long.
+    fn is_found(class: &ByteClass, bytes: &mut [u8; 70], place: usize, len: usize) -> bool {
+        if place >= bytes.len() || len > bytes.len() {
+            return false;
+        }
+        bytes[place] = b'<';
+        let wanted = if place < len { Some(place) } else { None };
+        let found = first_in(&bytes[..len], class);
+        bytes[place] = b'x';
+        found == wanted
+    }
+
+    #[test]
+    fn every_length(rt: HostRuntime) -> Result<(), Fail> {
+        let class = ByteClass::of(&[(b'<', b'<'), (0, 31), (0xef, 0xef)]).ok_or("three ranges")?;
+        let mut bytes = [b'x'; 70];
+        for len in 0..=70 {
+            for place in 0..70 {
+                assert!(rt;
+                    is_found(&class, &mut bytes, place, len),
+                    "{place} of {len}"
+                );
+            }
+        }
         Ok(())
     }
 }

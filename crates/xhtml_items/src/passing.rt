@@ -13,7 +13,7 @@ ghost use Rattle.xhtml_items.specs.Reading.{span};
 ghost use Rattle.xhtml_items.specs.StopBytes.{has_stop, is_straight, Tells, AreFirst};
 ghost use Rattle.xhtml_items.specs.Tokens.{two_texts};
 
-use crate::characters::Class;
+use crate::characters::{Class, is_plain};
 use crate::text::first_char;
 use lane_class::{ByteClass, first_in};
 
@@ -84,7 +84,10 @@ pub fn split_plain(text: &str) -> (&str, &str)
     ensures front { IsUtf8 result.0.now }
     ensures text { IsUtf8 result.1.now }
 {
-    split_run(&plain_stops(), Class::Plain, text)
+    match first_char(text) {
+        Some((c, _)) if is_plain(c) => split_run(&plain_stops(), Class::Plain, text),
+        _ => text.split_at(0),
+    }
 }
 
 /// Whether all characters of the text are characters of a document.
