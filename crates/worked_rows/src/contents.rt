@@ -17,7 +17,9 @@ use plain_types::duplicate::Duplicate;
 use plain_types::list::List;
 use plain_types::memory::Memory;
 use plain_types::style::Quotes;
+use plain_types::style_ref::StyleRef;
 use plain_types::text::Text;
+use representation::represent::represent_marker;
 use std::alloc::Global;
 use std::test::Fail;
 
@@ -148,5 +150,17 @@ fn a_name_without_a_counter_gets_one(rt: HostRuntime) -> Result<(), Fail> {
     assert!(rt; counter.creator.key == 3 && counter.creator.kind == BoxKind::Before);
     let copy = made.pieces.duplicate(alloc)?;
     assert_eq!(rt; copy.len(), 2);
+    Ok(())
+}
+
+/// A list marker has the prefix and the suffix of its style.
+#[test]
+fn a_marker_has_its_affixes(rt: HostRuntime) -> Result<(), Fail> {
+    let alloc = rt.alloc();
+    let table = build(alloc, &List::new(alloc))?;
+    let style = StyleRef::Name(Text::from_str(alloc, "decimal")?);
+    let mut out = Text::new(alloc);
+    represent_marker(alloc, &table, &style, 1, &mut out)?;
+    assert_eq!(rt; out.as_str(), "1. ");
     Ok(())
 }
