@@ -10,14 +10,12 @@
 //! | `.. to` | and makes a tree of the arena again |
 //! | `.. walk` | and goes over the arena's nodes by links, instead |
 //! | `.. precedes` | and asks a hundred times which of the first and the last node comes first, instead |
-//! | `styles N RULES` | gives N elements their styles by as many rules, one of which matches |
 //! | `tokens FILE` | reads the tokens of a style sheet |
 //! | `sheet FILE` | reads a style sheet, and answers how many rules and counter styles it has |
 //! | `show-tokens` | prints the tokens of the style sheet on standard input, one a line |
 #![tactic(auto)]
 
 mod arena;
-mod cascade;
 mod sheet;
 
 use std::env;
@@ -26,11 +24,6 @@ use std::process::ExitCode;
 /// What the words ask for, or nothing where they ask for nothing that is here.
 fn perform(rt: &HostRuntime, words: &[String]) -> Option<usize> {
     match words {
-        [work, elements, rules] if work.as_str() == "styles" => {
-            let elements = elements.as_str().parse::<usize>().ok()?;
-            let rules = rules.as_str().parse::<usize>().ok()?;
-            cascade::perform(rt, elements, rules)
-        }
         [shape, size, work] => {
             let size = size.as_str().parse::<usize>().ok()?;
             arena::perform(rt.alloc(), shape.as_str(), size, work.as_str())
