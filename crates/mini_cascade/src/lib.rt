@@ -29,6 +29,4 @@ pub mod hints;
 mod property;
 mod rank;
 pub mod style_of;
-#[cfg(test)]
-mod tests;
 mod texts;
