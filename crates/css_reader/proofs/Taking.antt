@@ -1,10 +1,10 @@
 -- Each rule and each part of a block takes a token.
-use Rattle.std.proofs.Common.{◌≡◌, Bool, true, false, cond, ◌||◌, List, [], ◌∷◌, Option, Some, None, refl, drop, ℕ}
-use Rattle.definitions.proofs.Following.{Follows, here, later, left, Follows-trans, follow_if, Leaves, leave_if, TakesOne}
+use Rattle.std.proofs.Common.{◌≡◌, ◌≤◌, ℕ, Bool, true, false, cond, ◌||◌, List, [], ◌∷◌, length, drop, Option, Some, None, refl, sym}
+use Rattle.definitions.proofs.Following.{Follows, here, later, left, Follows-trans, Follows-length, follow_if, Leaves, leave_if, TakesOne}
 use Rattle.css_tokens.specs.declared.token.Token.{Token}
 use Rattle.css_values.specs.Parts.{is_blank_kind}
 use Rattle.css_reader.specs.Blocks.{past_values, past_piece}
-use Rattle.css_reader.specs.Rules.{is_semicolon, is_opening, is_closing, is_semicolon_or_opening, block_after, style_rule_at, at_rule_at, at_name, rule_begun, rule_at, is_between_rules, is_between_declarations, part_begun, part_at}
+use Rattle.css_reader.specs.Rules.{Rule, is_semicolon, is_opening, is_closing, is_semicolon_or_opening, block_after, style_rule_at, at_rule_at, at_name, rule_begun, rule_at, is_between_rules, is_between_declarations, part_begun, part_at}
 use Rattle.css_reader.proofs.Cutting.{one_follows, piece_follows, piece_takes}
 
 block_follows : (tokens : List Token) → Follows tokens (drop 1 (past_piece is_closing tokens))
@@ -30,6 +30,13 @@ rule_follows : (name : Option (List ℕ)) (first : Token) (rest : List Token) �
 rule_follows None first rest = style_follows first rest (is_opening first.kind) refl
 rule_follows (Some name) first rest = at_follows name rest
 
+-- what is left of the tokens after an at-rule's name, after a style rule's first, and after a declaration's first
+pub at_rule_leaves : (name : List ℕ) (tokens : List Token) (read : Option Rule × List Token) → at_rule_at name tokens ≡ read → length read.1 ≤ length tokens
+at_rule_leaves name tokens read is = rw (sym is) (Follows-length (at_follows name tokens))
+
+pub style_rule_leaves : (first : Token) (rest : List Token) (read : Option Rule × List Token) → style_rule_at (first ∷ rest) ≡ read → length read.1 ≤ length rest
+style_rule_leaves first rest read is = rw (sym is) (Follows-length (style_follows first rest (is_opening first.kind) refl))
+
 pub rule_takes : TakesOne rule_at
 unfolding rule_at
 rule_takes = record { none = refl; leaves = λ first rest. leave_if (is_between_rules first.kind) _ _ (left _ here) (left _ (rule_follows (at_name first.kind) first rest)) }
@@ -41,6 +48,9 @@ second false b e = e
 part_follows : (name : Option (List ℕ)) (first : Token) (rest : List Token) → is_between_declarations first.kind ≡ false → Follows rest (part_begun name (first ∷ rest) rest).1
 part_follows None first rest e = piece_takes is_semicolon first rest (second (is_blank_kind first.kind) (is_semicolon first.kind) e)
 part_follows (Some name) first rest e = at_follows name rest
+
+pub declaration_leaves : (first : Token) (rest : List Token) → is_between_declarations first.kind ≡ false → length (past_piece is_semicolon (first ∷ rest)) ≤ length rest
+declaration_leaves first rest e = Follows-length (piece_takes is_semicolon first rest (second (is_blank_kind first.kind) (is_semicolon first.kind) e))
 
 pub part_takes : TakesOne part_at
 unfolding part_at

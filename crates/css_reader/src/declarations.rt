@@ -102,9 +102,12 @@ fn importance(tokens: &[Token]) -> Option<bool>
     }
 }
 
-/// The name and the value of a declaration, and whether it is important.
+/// The name of a declaration, the tokens of its value, and whether it is important; `None` where the tokens
+/// are no declaration, whatever its property. The tokens begin at the name and are all of the declaration,
+/// without a `;`. The value is what stands between `:` and `!`, with the blanks at its ends, and may be empty.
+/// Linear in the tokens (CSS Syntax 3, 5.4.6).
 #[tactic(auto, unfolding(crate::specs::Declarations::cut))]
-fn cut<'a>(
+pub fn cut<'a>(
     alloc: Global,
     tokens: &'a [Token],
 ) -> Result<Option<(&'a Text, &'a [Token], bool)>, Memory>

@@ -7,7 +7,8 @@
 //!
 //! Below them `pieces` cuts tokens where no block is open, `rules` cuts a sheet into rules and a block into
 //! what may be declarations, and `declarations` reads these. Nothing recurses on brackets: a piece is cut by
-//! one pass that keeps the closing brackets that it waits for.
+//! one pass that keeps the closing brackets that it waits for. What is cut can be had by itself, before it is
+//! read: `rules::rule`, `rules::part` and `declarations::cut`.
 //!
 //! The layers above know this crate by the words `sheet` (`specs/Sheets.antt`) and `features`
 //! (`specs/Features.antt`). A sheet is told from its text in four steps, a file of `specs/` each: `Blocks` (what
@@ -20,11 +21,11 @@
 //! ```
 #![tactic(auto)]
 
-mod declarations;
+pub mod declarations;
 pub mod features;
 pub mod laws;
 mod pieces;
-mod rules;
+pub mod rules;
 pub mod sheet;
 #[cfg(test)]
 mod tests;

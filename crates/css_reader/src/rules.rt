@@ -1,6 +1,6 @@
 //! Rules of a sheet and parts of a block, cut out of tokens and not read yet (CSS Syntax 3, 5.4.1 to 5.4.4).
 
-ghost use Rattle.std.specs.Prelude.{◌≡◌, IfOk};
+ghost use Rattle.std.specs.Prelude.{◌≡◌, ◌<◌, length, IfOk, IfSome};
 ghost use Rattle.definitions.specs.Reading.{Reads};
 ghost use Rattle.css_values.specs.Parts.{is_blank_kind};
 ghost use Rattle.css_reader.specs.Rules.{is_between_rules, is_between_declarations, block_after, style_rule_at, at_rule_at, rule_at, part_at};
@@ -12,9 +12,10 @@ use plain_types::memory::Memory;
 use plain_types::text::Text;
 use std::alloc::Global;
 
-/// A rule with its prelude and the content of its block.
+/// A rule with the tokens of its prelude and those of its block, without the brackets of the block.
 #[derive(Clone, Copy)]
-pub(crate) enum FoundRule<'a> {
+pub enum FoundRule<'a> {
+    /// What CSS Syntax calls a qualified rule, whatever its prelude is.
     Style {
         prelude: &'a [Token],
         block: &'a [Token],
@@ -106,13 +107,17 @@ fn at_rule<'a>(
     }
 }
 
-/// What stands at the front of a sheet, a rule or something that gives none, and the tokens after it.
+/// What stands at the front of a sheet, and the tokens after it: a rule, or something that gives none, as
+/// what stands between rules and a rule without a block; `None` at the end of the tokens, and nowhere else.
+/// The rules of a sheet are those of one call after the other, each over what the one before left. Linear in
+/// the tokens that it takes (CSS Syntax 3, 5.4.1 to 5.4.3).
 #[tactic(auto, unfolding(crate::specs::Rules::rule_at))]
-pub(crate) fn rule<'a>(
+pub fn rule<'a>(
     alloc: Global,
     tokens: &'a [Token],
 ) -> Result<Option<(Option<FoundRule<'a>>, &'a [Token])>, Memory>
-    ensures { IfOk result (λ r. Reads (λ x. (rule_seen_if x.0, x.1.now)) r (rule_at tokens.now)) }
+    ensures rule { IfOk result (λ r. Reads (λ x. (rule_seen_if x.0, x.1.now)) r (rule_at tokens.now)) }
+    ensures fewer { IfOk result (λ r. IfSome r (λ x. length x.1.now < length tokens.now)) }
 {
     let Some((first, after)) = tokens.split_first() else {
         return Ok(None);
@@ -126,14 +131,16 @@ pub(crate) fn rule<'a>(
     }
 }
 
-/// What stands at the front of a block's content, what may be a declaration or something that gives none,
-/// and the tokens after it.
+/// What stands at the front of a block's content, and the tokens after it: the tokens of what may be a
+/// declaration, or something that gives none, as a blank, a `;` or an at-rule; `None` at the end of the
+/// tokens, and nowhere else. Linear in the tokens that it takes (CSS Syntax 3, 5.4.4).
 #[tactic(auto, unfolding(crate::specs::Rules::part_at))]
-pub(crate) fn part<'a>(
+pub fn part<'a>(
     alloc: Global,
     tokens: &'a [Token],
 ) -> Result<Option<(Option<&'a [Token]>, &'a [Token])>, Memory>
-    ensures { IfOk result (λ r. Reads (λ x. (tokens_seen_if x.0, x.1.now)) r (part_at tokens.now)) }
+    ensures part { IfOk result (λ r. Reads (λ x. (tokens_seen_if x.0, x.1.now)) r (part_at tokens.now)) }
+    ensures fewer { IfOk result (λ r. IfSome r (λ x. length x.1.now < length tokens.now)) }
 {
     let Some((first, after)) = tokens.split_first() else {
         return Ok(None);

@@ -172,7 +172,7 @@ front_of (x ∷ xs) (s ∷ stop) rest w e le =
 abbrev pub IsFirst : List ℕ → List ℕ → Type 0
 IsFirst stop inside = (before after : List ℕ) → inside ++ stop ≡ before ++ stop ++ after → after ≡ []
 
-split_takes : (stop cs : List ℕ) (x : List ℕ × List ℕ) → split_once stop cs ≡ Some x → IsFirst stop x.0 × (cs ≡ x.0 ++ (stop ++ x.1))
+pub split_takes : (stop cs : List ℕ) (x : List ℕ × List ℕ) → split_once stop cs ≡ Some x → IsFirst stop x.0 × (cs ≡ x.0 ++ (stop ++ x.1))
 unfolding split_once
 split_takes stop [] x e = absurd cc
 split_takes stop (c ∷ cs) x e = elim (either_cases (past_word stop (c ∷ cs)) (λ (rest : List ℕ). Some ([], rest)) _ _ e) [

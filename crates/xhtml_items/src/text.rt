@@ -31,7 +31,7 @@ pub(crate) fn past(wanted: char, text: &str) -> Option<&str>
 }
 
 /// The text after this word.
-pub(crate) fn past_word<'a>(word: &str, text: &'a str) -> Option<&'a str>
+pub fn past_word<'a>(word: &str, text: &'a str) -> Option<&'a str>
     requires { IsTrue (is_ascii word.now) }
     ensures reads { Reads text_view result (past_word word.now (chars text.now)) }
     ensures text { IfSome result (λ rest. IsUtf8 rest.now) }
@@ -117,7 +117,7 @@ pub fn split_name(text: &str) -> Option<(&str, &str)>
 }
 
 /// What stands before the first of these words, and what stands after it.
-fn split_once<'a>(word: &str, text: &'a str) -> Option<(&'a str, &'a str)>
+pub fn split_once<'a>(word: &str, text: &'a str) -> Option<(&'a str, &'a str)>
     requires ascii { IsTrue (is_ascii word.now) }
     requires filled { word.now ≢ [] }
     ensures reads { Reads two_texts result (split_once word.now (chars text.now)) }

@@ -5,8 +5,9 @@ use Rattle.forest.specs.Forest.{Forest}
 use Rattle.plain_types.specs.declared.node.Node.{Node}
 use Rattle.definitions.specs.Faults.{IsSound, IsFaultPlace}
 use Rattle.definitions.specs.Items.{Item, ArePieces}
+use Rattle.definitions.specs.Prepared.{prepared}
 use Rattle.definitions.specs.Spelling.{Spells}
-use Rattle.definitions.specs.Texts.{HasTree}
+use Rattle.definitions.specs.Texts.{HasTree, IsFragmentText}
 use Rattle.xhtml_items.specs.Reading.{item_at}
 use Rattle.xhtml_items.proofs.ItemLaws.{item_again, item_takes}
 use Rattle.xhtml_reader.specs.declared.kind.Kind.{Kind}
@@ -220,3 +221,6 @@ only_tree kind whole tree other d e =
     one (in_text cs) tree other p q = p ∙ sym q
     one (inside f frames here) tree other p q = absurd p
     one (at_end root) tree other p q = p ∙ sym q
+
+pub only_fragment : (text : List ℕ) (tree other : Forest Node) → IsFragmentText text tree → IsFragmentText text other → tree ≡ other
+only_fragment text tree other first second = only_tree Fragment (prepared text) tree other first second

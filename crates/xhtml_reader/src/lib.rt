@@ -41,6 +41,7 @@ use fault::DocFault;
 use kind::Kind;
 pub use name::is_name;
 use plain_types::tree::Tree;
+pub use prepare::without_mark;
 use read::read;
 use std::alloc::Global;
 pub use thin::is_thin;

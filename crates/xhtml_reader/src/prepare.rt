@@ -11,8 +11,8 @@ use plain_types::text::Text;
 use std::alloc::Global;
 use xhtml_items::text::first_char;
 
-/// The text after a byte order mark.
-pub(crate) fn without_mark(text: &str) -> &str
+/// The text without a byte order mark at its front, which is no part of it. It takes no memory.
+pub fn without_mark(text: &str) -> &str
     ensures characters { chars result.now ≡ without_mark (chars text.now) }
     ensures text { IsUtf8 result.now }
 {

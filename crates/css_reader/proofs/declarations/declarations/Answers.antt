@@ -8,12 +8,9 @@ use Rattle.css_reader.proofs.declarations.declarations.Goals as goal
 pub parts-init : goal.parts-init
 parts-init c = Gathers-start part_at declaration c.args.content.now _ c.new-found.ensures.empty
 
-pub parts-smaller : goal.parts-smaller
-parts-smaller c = let gives = rw c.in-Some.is at c.in_ok-entry.ensures in takes_shorter part_at part_takes c.parts.rest.now _ gives
-
 pub parts-preserved : goal.parts-preserved
-parts-preserved c = let gives = rw c.in-Some.is at c.in_ok-entry.ensures in Gathers-more part_at declaration _ _ _ _ _ _ c.parts.invariant gives c.in_ok-push_declaration.ensures.ok
+parts-preserved c = let gives = rw c.in-Some.is at c.in_ok-entry.ensures.part in Gathers-more part_at declaration _ _ _ _ _ _ c.parts.invariant gives c.in_ok-push_declaration.ensures.ok
 
 pub returns : goal.returns
 unfolding declarations parts
-returns c = let gives = rw c.in_default.is at c.in_ok-entry.ensures in Gathers-read part_at declaration (takes_shorter part_at part_takes) _ _ _ c.parts.invariant gives
+returns c = let gives = rw c.in_default.is at c.in_ok-entry.ensures.part in Gathers-read part_at declaration (takes_shorter part_at part_takes) _ _ _ c.parts.invariant gives

@@ -19,12 +19,9 @@ rules-init c = record {
   styles = Gathers-start rule_at style_def_of c.args.tokens.now _ c.new-2.ensures.empty;
 }
 
-pub rules-smaller : goal.rules-smaller
-rules-smaller c = let gives = rw c.in-Some.is at c.in_ok-found.ensures in takes_shorter rule_at rule_takes c.rules.rest.now _ gives
-
 pub rules-preserved : goal.rules-preserved
 rules-preserved c =
-    let gives = rw c.in-Some.is at c.in_ok-found.ensures in
+    let gives = rw c.in-Some.is at c.in_ok-found.ensures.rule in
     record {
       rules = Gathers-more rule_at (style_rule_of c.args.text.now) _ _ _ _ _ _ c.rules.invariant.rules gives c.in_ok-push_rule.ensures.rules;
       styles = Gathers-more rule_at style_def_of _ _ _ _ _ _ c.rules.invariant.styles gives c.in_ok-push_rule.ensures.styles;
@@ -33,7 +30,7 @@ rules-preserved c =
 pub returns : goal.returns
 unfolding rules
 returns c =
-    let gives = rw c.in_default.is at c.in_ok-found.ensures in
+    let gives = rw c.in_default.is at c.in_ok-found.ensures.rule in
     let rules_are = Gathers-read rule_at (style_rule_of c.args.text.now) (takes_shorter rule_at rule_takes) _ _ _ c.rules.invariant.rules gives in
     let styles_are = Gathers-read rule_at style_def_of (takes_shorter rule_at rule_takes) _ _ _ c.rules.invariant.styles gives in
     sheet_by c.rules.sheet _ _ rules_are styles_are
