@@ -25,8 +25,16 @@ pub mod agent_sheet;
 mod applicable;
 mod candidate;
 mod defaulting;
+#[cfg(test)]
+mod documents;
+#[cfg(test)]
+mod hint_rows;
 pub mod hints;
 mod property;
 mod rank;
+#[cfg(test)]
+mod shown;
 pub mod style_of;
+#[cfg(test)]
+mod style_rows;
 mod texts;

@@ -1,0 +1,138 @@
+//! Hints, worked out by hand from the rules of HTML.
+
+use crate::documents::arena_of;
+use crate::hints::{hints, start_reset};
+use crate::shown::{show_resets, shown_hints};
+use plain_types::memory::Memory;
+use plain_types::text::Text;
+use std::alloc::Global;
+use std::test::Fail;
+
+/// An element, an attribute with its value, and what it says.
+type Hint = (&'static str, &'static str, &'static str, &'static str);
+
+/// `start`: white space, a sign and digits, whatever follows.
+static STARTS: [Hint; 18] = [
+    ("ol", "start", "3", "reset list-item 2; "),
+    ("ol", "start", "x", ""),
+    ("ol", "start", "", ""),
+    ("ol", "start", " ", ""),
+    ("ol", "start", " +3z", "reset list-item 2; "),
+    ("ol", "start", "\t\n\u{c}\r 5", "reset list-item 4; "),
+    ("ol", "start", "\u{b}5", ""),
+    ("ol", "start", "\u{a0}5", ""),
+    ("ol", "start", "-3", "reset list-item -4; "),
+    ("ol", "start", "- 3", ""),
+    ("ol", "start", "+-3", ""),
+    ("ol", "start", "--3", ""),
+    ("ol", "start", "+", ""),
+    ("ol", "start", "0", "reset list-item -1; "),
+    ("ol", "start", "007", "reset list-item 6; "),
+    ("ol", "start", "1.9", "reset list-item 0; "),
+    ("ol", "start", "1e3", "reset list-item 0; "),
+    ("ol", "start", "\u{ff13}", ""),
+];
+
+/// The ends of counts.
+static ENDS: [Hint; 5] = [
+    ("ol", "start", "2147483647", "reset list-item 2147483646; "),
+    ("ol", "start", "2147483648", "reset list-item 2147483646; "),
+    (
+        "ol",
+        "start",
+        "99999999999999999999",
+        "reset list-item 2147483646; ",
+    ),
+    (
+        "ol",
+        "start",
+        "-2147483648",
+        "reset list-item -2147483648; ",
+    ),
+    (
+        "ol",
+        "start",
+        "-99999999999999999999",
+        "reset list-item -2147483648; ",
+    ),
+];
+
+static OTHERS: [Hint; 11] = [
+    // `reversed`, whatever its value
+    ("ol", "reversed", "reversed", "reset reversed list-item; "),
+    ("ol", "reversed", "", "reset reversed list-item; "),
+    ("ol", "reversed", "false", "reset reversed list-item; "),
+    ("ul", "reversed", "", ""),
+    ("ul", "start", "3", ""),
+    ("li", "start", "3", ""),
+    // `value`
+    ("li", "value", "10", "set list-item 10; "),
+    ("li", "value", " -7 apples", "set list-item -7; "),
+    ("li", "value", "ten", ""),
+    ("li", "value", "2147483648", "set list-item 2147483647; "),
+    ("ol", "value", "10", ""),
+];
+
+/// `type`: numbers as written, others in any ASCII case.
+static TYPES: [Hint; 13] = [
+    ("ol", "type", "1", "type decimal; "),
+    ("ol", "type", "a", "type lower-alpha; "),
+    ("ol", "type", "A", "type upper-alpha; "),
+    ("li", "type", "i", "type lower-roman; "),
+    ("li", "type", "I", "type upper-roman; "),
+    ("ol", "type", "disc", ""),
+    ("ul", "type", "A", ""),
+    ("ul", "type", "Square", "type square; "),
+    ("ul", "type", "NONE", "type none; "),
+    ("li", "type", "Circle", "type circle; "),
+    ("li", "type", " disc", ""),
+    ("menu", "type", "disc", ""),
+    ("OL", "type", "1", ""),
+];
+
+/// The start of a reversed list, and what its counter is reset to.
+static REVERSED_STARTS: [(Option<i32>, &str); 4] = [
+    (Some(3), "reset reversed list-item 4; "),
+    (Some(2147483647), "reset reversed list-item 2147483647; "),
+    (Some(-1), "reset reversed list-item 0; "),
+    (None, "reset reversed list-item; "),
+];
+
+/// The place of the first row whose hints are others; none where each is as it says.
+fn first_wrong(alloc: Global, table: &[Hint]) -> Result<Option<usize>, Memory> {
+    for (place, (name, attr, value, expected)) in table.iter().enumerate() {
+        let Some(arena) = arena_of(alloc, name, (attr, value))? else {
+            return Ok(Some(place));
+        };
+        let Some(item) = arena.child(arena.root(), 0) else {
+            return Ok(Some(place));
+        };
+        let found = hints(alloc, &arena, item)?;
+        if shown_hints(alloc, found.as_slice())?.as_str() != *expected {
+            return Ok(Some(place));
+        }
+    }
+    Ok(None)
+}
+
+#[test]
+fn hints_are_those_of_the_attributes(rt: HostRuntime) -> Result<(), Fail> {
+    let alloc = rt.alloc();
+    assert_eq!(rt; first_wrong(alloc, &STARTS)?, None);
+    assert_eq!(rt; first_wrong(alloc, &ENDS)?, None);
+    assert_eq!(rt; first_wrong(alloc, &OTHERS)?, None);
+    assert_eq!(rt; first_wrong(alloc, &TYPES)?, None);
+    Ok(())
+}
+
+#[test]
+fn reversed_lists_start_one_higher(rt: HostRuntime) -> Result<(), Fail> {
+    let alloc = rt.alloc();
+    for (start, expected) in &REVERSED_STARTS {
+        let reset = start_reset(alloc, true, *start)?.ok_or("no reset")?;
+        let mut shown = Text::new(alloc);
+        show_resets(&[reset], alloc, &mut shown)?;
+        assert_eq!(rt; shown.as_str(), *expected);
+    }
+    Ok(())
+}
