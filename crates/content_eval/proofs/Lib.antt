@@ -1,1 +1,3 @@
 pub mod JoinLemmas
+pub mod ReferenceLemmas
+pub mod TargetIdLemmas

@@ -1,1 +1,4 @@
 pub mod Contents
+pub mod Targets
+pub mod TargetLaws
+pub mod Layers

@@ -7,12 +7,20 @@
 //! elements decide what it reads. Beside the pieces come the set and the depth as the items leave them: a
 //! `counter()` of a name that has no counter creates one, and quotes change the depth.
 //!
-//! The layer above knows this crate by `generated` of `specs/Contents.antt`.
+//! Once the other elements are known, [`texts`] turns the pieces into text. It has two layers, so that no
+//! reference is circular: in a flat text `target-text()` of a `::before` or `::after` box writes nothing, in a
+//! full text it writes that box's flat text. [`targets::Targets`] is what the caller tells of the elements that
+//! urls name; [`laws`] has what the texts depend on.
+//!
+//! The layers above know this crate by `generated` of `specs/Contents.antt`, and by `Known`, `flat_text` and
+//! `full_text` of `specs/Targets.antt`.
 //!
 //! ```text
 //! // content: counter(s) ". " open-quote, in a box whose innermost counter `s` has the value 2
 //! let made = eval_items(alloc, &table, &items, attrs, &Quotes::Auto, &place)?;
 //! // the pieces "2", ". " and "“"; the same set; the depth is one more
+//! let text = full_text(alloc, &table, &made.pieces, &targets)?;
+//! // "2. “", whatever the targets are
 //! ```
 #![tactic(auto)]
 
@@ -20,4 +28,7 @@ mod attributes;
 mod counters;
 pub mod eval_items;
 pub mod generated;
+pub mod laws;
 pub mod place;
+pub mod targets;
+pub mod texts;
