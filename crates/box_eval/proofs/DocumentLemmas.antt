@@ -21,7 +21,8 @@ use Rattle.box_eval.specs.declared.made.Made.{Made}
 use Rattle.box_eval.specs.Boxes.{box_of, has_marker, has_pseudo_box}
 use Rattle.box_eval.specs.Elements.{Handed, Styled, after_of, at_root, before_of, behind_marker, by_parent, by_peers, children_handed, closing_of, content_of, entry_of, formed_box, inherited_by, inside, marker_content, marker_of, no_box, own_counted, past, past_formed, pseudo_counted}
 use Rattle.box_eval.specs.Laws.{AreBoxesScoped, AreScoped, IsMadeScoped, IsNodeScoped, IsScoped}
-use Rattle.box_eval.specs.Evaluation.{Element, ElementRecord, StyledNode, Text, changes, changes_in, first_changes, inputs, inputs_of, is_boxed, last_changes, past_node, past_trees, record_of, records, records_of, within}
+use Rattle.box_eval.specs.declared.element_record.ElementRecord.{ElementRecord}
+use Rattle.box_eval.specs.Evaluation.{Element, StyledNode, Text, changes, changes_in, first_changes, inputs, inputs_of, is_boxed, last_changes, past_node, past_trees, record_of, records, records_of, within}
 use Rattle.box_eval.specs.Scopes.{AreEarlier, AreNew, HasNoneOf, first_boxes, last_boxes}
 use Rattle.box_eval.proofs.Agreement.{AllAgree}
 use Rattle.box_eval.proofs.ElementLemmas.{Holds, IsReady, holds_if, marker_agrees, marker_good, new_after, new_element, own_agrees, own_good, pseudo_agrees, pseudo_good, pseudo_same}
@@ -378,7 +379,7 @@ module _ (table : List CounterStyle) (Good : Counter → Type 0) (steady : (coun
 
 -- All trees.
 
-join_two : {A : Type 0} (a b c d : List A) → a ≡ b → c ≡ d → a ++ c ≡ b ++ d
+pub join_two : {A : Type 0} (a b c d : List A) → a ≡ b → c ≡ d → a ++ c ≡ b ++ d
 join_two a b c d e f = ap (λ xs. xs ++ c) e ∙ ap (λ ys. b ++ ys) f
 
 pub record Told (table : List CounterStyle) (boxed : Bool) (handed : Handed) (trees : Forest (Keyed StyledNode)) : Type 0 where

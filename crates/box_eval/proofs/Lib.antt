@@ -9,3 +9,6 @@ pub mod ResetLemmas
 pub mod ElementLemmas
 pub mod EntryLemmas
 pub mod DocumentLemmas
+pub mod GroupLemmas
+pub mod ValueLemmas
+pub mod StartLemmas

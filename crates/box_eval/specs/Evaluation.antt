@@ -1,11 +1,10 @@
 -- The evaluation of a whole document: CSS Lists 3, 4, and CSS Generated Content 3, 1 to 3.
-use Rattle.std.specs.Prelude.{ℕ, ℤ, Bool, true, false, ◌&&◌, List, [], ◌∷◌, ◌++◌, Option, None, map, filter, is_some, not, cond}
+use Rattle.std.specs.Prelude.{ℕ, ℤ, Bool, true, false, ◌&&◌, List, [], ◌∷◌, ◌++◌, Option, Some, None, map, filter, is_some, not, cond}
 use Rattle.std.specs.Option.{option_map_or}
-use Rattle.forest.specs.Forest.{Forest, Empty, Tree, map_labels}
+use Rattle.forest.specs.Forest.{Forest, Empty, Tree}
 use Rattle.forest.specs.Keys.{Keyed}
 use Rattle.plain_types.specs.declared.box_id.BoxId.{BoxId}
 use Rattle.plain_types.specs.declared.box_kind.BoxKind.TheVariants as kind
-use Rattle.plain_types.specs.declared.counter.Counter.{Counter}
 use Rattle.plain_types.specs.declared.counter_style.CounterStyle.{CounterStyle}
 use Rattle.plain_types.specs.declared.node.Node.{Node}
 use Rattle.plain_types.specs.declared.node.Node.TheVariants as node
@@ -15,6 +14,7 @@ use Rattle.plain_types.specs.declared.style.Style.{Style}
 use Rattle.box_eval.specs.declared.change.Change.{Change}
 use Rattle.box_eval.specs.declared.inputs.Inputs.{Inputs}
 use Rattle.box_eval.specs.declared.inputs.Start.{Start}
+use Rattle.box_eval.specs.declared.element_record.ElementRecord.{ElementRecord}
 use Rattle.box_eval.specs.declared.made.Made.{Made}
 use Rattle.box_eval.specs.Boxes.{box_of, generates_box, has_pseudo_box}
 use Rattle.box_eval.specs.Elements.{Handed, Replacing, Styled, at_root, children_handed, closing_of, entry_of, by_peers, past}
@@ -41,28 +41,32 @@ element_starts start key style =
     ++ cond (has_pseudo_box style.after) (box_starts start (box_of key kind.After) style.after) []))
     []
 
-abbrev pub styled_node : (ℕ → ElementStyle) → (BoxId → List ℕ → ℤ) → ℕ → Node → StyledNode
-styled_node style start key (node.Element name attrs) = Element (record { attrs = attrs; style = style key; starts = element_starts start key (style key) })
-styled_node style start key (node.Text characters) = Text
+-- Each element with its styles and starts. `style` gives the styles of an element whose parent has this style, and
+-- `start` the start of the reversed counter of a name that a box creates.
+module _ (style : ℕ → Option Style → ElementStyle) (start : BoxId → List ℕ → ℤ) where
+  abbrev pub styled_node : Option Style → ℕ → Node → StyledNode
+  styled_node parent key (node.Element name attrs) =
+      Element (record { attrs = attrs; style = style key parent; starts = element_starts start key (style key parent) })
+  styled_node parent key (node.Text characters) = Text
 
--- the document where each element has this style, and each reversed counter without a number this start
-abbrev pub styled : (ℕ → ElementStyle) → (BoxId → List ℕ → ℤ) → Forest (Keyed Node) → Forest (Keyed StyledNode)
-styled style start document =
-    map_labels (λ (node : Keyed Node). record { key = node.key; label = styled_node style start node.key node.label }) document
+  -- the style that a node hands on to its children; a text has none
+  abbrev pub style_within : Option Style → ℕ → Node → Option Style
+  style_within parent key (node.Element name attrs) = Some (style key parent).own
+  style_within parent key (node.Text characters) = parent
+
+  -- trees side by side, whose parent has this style
+  abbrev pub styled_trees : Option Style → Forest (Keyed Node) → Forest (Keyed StyledNode)
+  styled_trees parent Empty = Empty
+  styled_trees parent (Tree node children after) =
+      Tree (record { key = node.key; label = styled_node parent node.key node.label })
+      (styled_trees (style_within parent node.key node.label) children)
+      (styled_trees parent after)
+
+  -- a document, whose root has no parent
+  abbrev pub styled : Forest (Keyed Node) → Forest (Keyed StyledNode)
+  styled document = styled_trees None document
 
 -- What the evaluation says of an element. One without a box has no counters and no boxes.
-pub record ElementRecord : Type 0 where
-  pub has_box : Bool
-  -- its own counters, and those with which it is left
-  pub own : List Counter
-  pub exit : List Counter
-  -- the quote depth before its first box and behind its last
-  pub depth_before : ℕ
-  pub depth_after : ℕ
-  pub marker : Option Made
-  pub before : Option Made
-  pub after : Option Made
-
 abbrev pub without_box : ElementRecord
 without_box =
     record { has_box = false; own = []; exit = []; depth_before = 0; depth_after = 0; marker = None; before = None; after = None }

@@ -1,5 +1,5 @@
 -- Laws of the evaluation of whole documents.
-use Rattle.std.specs.Prelude.{◌≡◌, ℕ, Bool, true, List, ◌∷◌, Option, Some, None}
+use Rattle.std.specs.Prelude.{◌≡◌, ℕ, ℤ, Bool, true, List, ◌∷◌, Option, Some, None}
 use Rattle.std.specs.List.{AllByRecursion}
 use Rattle.forest.specs.Forest.{Forest, Empty, Tree}
 use Rattle.forest.specs.Keys.{Keyed, HasDistinctKeys}
@@ -7,11 +7,15 @@ use Rattle.plain_types.specs.declared.box_id.BoxId.{BoxId}
 use Rattle.plain_types.specs.declared.box_kind.BoxKind.TheVariants as kind
 use Rattle.plain_types.specs.declared.counter.Counter.{Counter}
 use Rattle.plain_types.specs.declared.counter_style.CounterStyle.{CounterStyle}
+use Rattle.plain_types.specs.declared.node.Node.{Node}
+use Rattle.plain_types.specs.declared.style.ElementStyle.{ElementStyle}
+use Rattle.plain_types.specs.declared.style.Style.{Style}
 use Rattle.counter_sets.specs.Sets.{is_by_peer, is_missing_in}
 use Rattle.box_eval.specs.declared.made.Made.{Made}
 use Rattle.box_eval.specs.Boxes.{box_of}
 use Rattle.box_eval.specs.Elements.{Handed, Replacing, Styled, after_of, at_root, before_of, behind_marker, by_parent, by_peers, inside, marker_of, own_counted}
-use Rattle.box_eval.specs.Evaluation.{Element, StyledNode, changes, inputs, is_boxed, past_node, past_trees, records, within}
+use Rattle.box_eval.specs.Evaluation.{Element, StyledNode, all_changes, changes, inputs, is_boxed, past_node, past_trees, records, styled, within}
+use Rattle.box_eval.specs.Starts.{document_starts, no_starts, started, starts_by}
 
 -- Of a box's counters, those that the parent's set lacks were created by the box itself or by a sibling box
 -- before it, and no others were: what its peers created is what the parent's set lacks.
@@ -69,3 +73,13 @@ pub record ForgetsEarlier (table : List CounterStyle) (boxed : Bool) (handed : H
 abbrev pub ParentsNeedNoPeers : Type 0
 ParentsNeedNoPeers =
     (table : List CounterStyle) (trees : Forest (Keyed StyledNode)) (boxed : Bool) (handed : Handed) (earlier : List BoxId) → ForgetsEarlier table boxed handed earlier trees
+
+-- What boxes do to counters does not depend on the starts of reversed counters, which change values alone.
+abbrev pub StartsKeepChanges : Type 0
+StartsKeepChanges =
+    (table : List CounterStyle) (style : ℕ → Option Style → ElementStyle) (start : BoxId → List ℕ → ℤ) (document : Forest (Keyed Node)) → all_changes table (styled style start document) ≡ all_changes table (styled style no_starts document)
+
+-- So the starts with which a document is evaluated are those that the changes of this very evaluation give.
+abbrev pub StartsAreOwn : Type 0
+StartsAreOwn =
+    (table : List CounterStyle) (style : ℕ → Option Style → ElementStyle) (document : Forest (Keyed Node)) → document_starts table style document ≡ starts_by (all_changes table (started table style document))

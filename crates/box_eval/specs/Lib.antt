@@ -2,6 +2,8 @@ pub mod Boxes
 pub mod Properties
 pub mod Elements
 pub mod Evaluation
+pub mod Starts
+pub mod Groups
 pub mod Scopes
 pub mod Forming
 pub mod Laws

@@ -1,0 +1,10 @@
+use Rattle.std.proofs.Common.{ap, sym}
+use Rattle.box_eval.specs.Starts.{document_starts, no_starts, starts_by}
+use Rattle.box_eval.proofs.StartLemmas.{same_changes_with}
+use Rattle.box_eval.proofs.laws.starts_keep_changes.Goals as goal
+
+pub returns : goal.returns
+returns c = record {
+  changes = λ table style start document. same_changes_with table style start no_starts document;
+  own = λ table style document. ap starts_by (sym (same_changes_with table style (document_starts table style document) no_starts document));
+}
