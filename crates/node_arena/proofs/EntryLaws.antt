@@ -65,7 +65,7 @@ unfolding tree_in
 tree_in-is nodes root f h = rw (← h.roots) (grown-is (links_in nodes) (slab_len nodes) f None 0 h.entries h.small)
 
 -- in an open arena
-pub opened : (nodes : Slab Entry) (root : ℕ) (document : Document) → IsArena nodes root → record { tree = tree_in nodes root } ≡ document → Holds nodes root document.tree × IsKeyedDocument document.tree
+pub opened : (nodes : Slab Entry) (root : ℕ) (document : Document) → IsArena nodes root → record { tree = tree_in nodes root; entries = nodes } ≡ document → Holds nodes root document.tree × IsKeyedDocument document.tree
 opened nodes root document h e =
     subst (λ (d : Document). Holds nodes root d.tree × IsKeyedDocument d.tree) e (h.holds, h.document)
 

@@ -1,8 +1,8 @@
 -- A tree that is put into entries from its first node to its last.
-use Rattle.std.proofs.Common.{◌≡◌, ◌==◌, ◌<◌, ◌≤◌, ◌+◌, ◌^◌, ℕ, zero, suc, true, false, cond, List, [], ◌∷◌, ◌++◌, length, map, take, get_or, Some, None, option_map, slice_get, refl, sym, ap, ap₂, subst, ◌∙◌, arith, take_all, Bor}
+use Rattle.std.proofs.Common.{◌≡◌, ◌==◌, ◌<◌, ◌≤◌, ◌+◌, ℕ, zero, suc, true, false, cond, List, [], ◌∷◌, ◌++◌, length, map, take, get_or, Some, None, option_map, slice_get, refl, sym, ap, ap₂, subst, ◌∙◌, arith, take_all, Bor}
 use Rattle.std.proofs.lemmas.List.{map-append, length-map, take_more, take-map}
-use Rattle.forest.specs.Forest.{Forest, Empty, Tree, size}
-use Rattle.forest.specs.Keys.{Keyed, without_keys}
+use Rattle.forest.specs.Forest.{Forest, Empty, Tree}
+use Rattle.forest.specs.Keys.{Keyed, without_keys, keys, times}
 use Rattle.forest.specs.Spots.{keyed}
 use Rattle.forest.proofs.StandLaws.{with_depths}
 use Rattle.forest.proofs.GrowLaws.{grow, spine, depths-grow, spine-grow, grow-under}
@@ -19,20 +19,24 @@ use Rattle.plain_types.specs.declared.row.Row.{Row}
 use Rattle.plain_types.proofs.ForestLemmas.{rows_same}
 use Rattle.node_arena.specs.declared.entry.Entry.{Entry}
 use Rattle.node_arena.specs.Copies.{shown_node}
-use Rattle.node_arena.specs.Document.{HasElementRoot, IsKeyedDocument}
+use Rattle.node_arena.specs.Document.{HasElementRoot}
 use Rattle.node_arena.specs.Entries.{links_of, links_in, Holds, Appends}
 use Rattle.node_arena.proofs.EntryLaws.{holds-appended, entry-there}
-use Rattle.node_arena.proofs.RowFacts.{row_of, rows-with_depths, not-root-row, row-within, length-spine, length-rows, size-without_keys}
+use Rattle.node_arena.proofs.RowFacts.{row_of, rows-with_depths, not-root-row, row-within, length-spine}
+use Rattle.forest.proofs.WalkLaws.{names, names-with_depths}
+use Rattle.forest.proofs.SpotLaws.{spot-counted}
+use Rattle.node_arena.proofs.CountLaws.{found, found-keys}
 
 abbrev pub keys_of : List (Keyed Node) → List ℕ
 keys_of nodes = map (λ (node : Keyed Node). node.key) nodes
 
--- the nodes before this place are in, and these keys are those on the way to the last
-pub record IsSoFar (nodes : Slab Entry) (root : ℕ) (open_keys : List ℕ) (place : ℕ) (tree : Forest Node) : Type 0 where
+-- the nodes before this place are in, under these keys, and the open keys are those on the way to the last
+pub record IsSoFar (nodes : Slab Entry) (root : ℕ) (open_keys all_keys : List ℕ) (place : ℕ) (tree : Forest Node) : Type 0 where
   pub so_far : Forest (Keyed Node)
   pub holds : Holds nodes root so_far
   pub shown : rows 0 (without_keys so_far) ≡ take place (rows 0 tree)
   pub way : open_keys ≡ keys_of (spine so_far)
+  pub listed : all_keys ≡ keys so_far
 
 -- what a view shows
 pub shown-is : (node : Node) (view : NodeView) → Shows node view → shown_node view ≡ node
@@ -49,8 +53,8 @@ on-way (n ∷ rest) (suc d) zero parent is long e = (n, refl, sym e)
 on-way (n ∷ rest) (suc d) (suc k) parent is long e = on-way rest d k parent (omega arith) (omega arith) e
 
 -- a place behind the root is in a node on the way
-pub deep : (nodes : Slab Entry) (root : ℕ) (open_keys : List ℕ) (place : ℕ) (tree : Forest Node) (d : ℕ) (one : Row) → (s : IsSoFar nodes root open_keys place tree) → IsTree tree → 1 ≤ place → place < length (rows 0 tree) → d ≡ (get_or (rows 0 tree) place one).depth → (1 ≤ d) × (d ≤ length open_keys) × (d ≤ length (spine s.so_far))
-deep nodes root open_keys place tree d one s is some within depth =
+pub deep : (nodes : Slab Entry) (root : ℕ) (open_keys all_keys : List ℕ) (place : ℕ) (tree : Forest Node) (d : ℕ) (one : Row) → (s : IsSoFar nodes root open_keys all_keys place tree) → IsTree tree → 1 ≤ place → place < length (rows 0 tree) → d ≡ (get_or (rows 0 tree) place one).depth → (1 ≤ d) × (d ≤ length open_keys) × (d ≤ length (spine s.so_far))
+deep nodes root open_keys all_keys place tree d one s is some within depth =
     let low : 1 ≤ (get_or (rows 0 tree) place one).depth = not-root-row tree place one is.one some within in
     let high : (get_or (rows 0 tree) place one).depth ≤ length (spine (without_keys s.so_far)) = row-within tree (without_keys s.so_far) place one s.shown within in
     (omega arith, omega (arith, length-spine s.so_far, ap length s.way, length-map (spine s.so_far) (λ (node : Keyed Node). node.key)), omega (arith, length-spine s.so_far))
@@ -59,8 +63,16 @@ pub rows-some : (tree : Forest Node) → IsTree tree → 0 < length (rows 0 tree
 rows-some Empty is = absurd is.one
 rows-some (Tree n c r) is = omega arith
 
+-- the keys of a tree with one leaf more
+keys-grow : (k : ℕ) (x : Keyed Node) (f : Forest (Keyed Node)) → k ≤ length (spine f) → keys (grow k x f) ≡ keys f ++ x.key ∷ []
+keys-grow k x f fits =
+    sym (names-with_depths 0 (grow k x f))
+    ∙ ap names (depths-grow 0 k k x f fits (omega arith))
+    ∙ map-append (λ (one : ℕ × Keyed Node). one.1.key) (with_depths 0 f) ((k, x) ∷ [])
+    ∙ ap (λ ks. ks ++ x.key ∷ []) (names-with_depths 0 f)
+
 -- the root is in
-pub started : (nodes new : Slab Entry) (root : ℕ) (entry : Entry) (tree : Forest Node) → Updates nodes new root (Some entry) → slab_len new ≡ slab_len nodes + 1 → entry.parent ≡ None → entry.position ≡ 0 → entry.children.items ≡ [] → 0 < length (rows 0 tree) → ((one : Row) → entry.node ≡ (get_or (rows 0 tree) 0 one).node) → IsSoFar new root (root ∷ []) 1 tree
+pub started : (nodes new : Slab Entry) (root : ℕ) (entry : Entry) (tree : Forest Node) → Updates nodes new root (Some entry) → slab_len new ≡ slab_len nodes + 1 → entry.parent ≡ None → entry.position ≡ 0 → entry.children.items ≡ [] → 0 < length (rows 0 tree) → ((one : Row) → entry.node ≡ (get_or (rows 0 tree) 0 one).node) → IsSoFar new root (root ∷ []) (root ∷ []) 1 tree
 started nodes new root entry Empty updates len parent position children some node = absurd (omega arith)
 started nodes new root entry (Tree n c r) updates len parent position children some node =
     record {
@@ -73,27 +85,40 @@ started nodes new root entry (Tree n c r) updates len parent position children s
       };
       shown = ap (λ m. row 0 m ∷ []) (node (row 0 n));
       way = refl;
+      listed = refl;
     }
 
 -- the parent of the next node is in
-pub parent-there : (nodes : Slab Entry) (root : ℕ) (open_keys : List ℕ) (place : ℕ) (tree : Forest Node) (d k parent : ℕ) (one : Row)
-    → (s : IsSoFar nodes root open_keys place tree) → IsTree tree → 1 ≤ place → place < length (rows 0 tree) → d ≡ (get_or (rows 0 tree) place one).depth → d ≡ k + 1 → parent ≡ get_or (take d open_keys) k parent
+pub parent-there : (nodes : Slab Entry) (root : ℕ) (open_keys all_keys : List ℕ) (place : ℕ) (tree : Forest Node) (d k parent : ℕ) (one : Row)
+    → (s : IsSoFar nodes root open_keys all_keys place tree) → IsTree tree → 1 ≤ place → place < length (rows 0 tree) → d ≡ (get_or (rows 0 tree) place one).depth → d ≡ k + 1 → parent ≡ get_or (take d open_keys) k parent
     → ContainsKey nodes parent
-parent-there nodes root open_keys place tree d k parent one s is some within depth next above =
-    let low = deep nodes root open_keys place tree d one s is some within depth in
+parent-there nodes root open_keys all_keys place tree d k parent one s is some within depth next above =
+    let low = deep nodes root open_keys all_keys place tree d one s is some within depth in
     let n = on-way (spine s.so_far) d k parent next low.2 (above ∙ ap (λ ks. get_or (take d ks) k parent) s.way) in
     let g = grow-under s.so_far None [] k n.0 n.0 s.holds.distinct n.1 in
     subst (ContainsKey nodes) n.2 (entry-there nodes root s.so_far n.0.key s.holds (rw g.spot refl))
 
+-- under one of these keys
+pub parent-listed : (nodes : Slab Entry) (root : ℕ) (open_keys all_keys : List ℕ) (place : ℕ) (tree : Forest Node) (d k parent : ℕ) (one : Row)
+    → (s : IsSoFar nodes root open_keys all_keys place tree) → IsTree tree → 1 ≤ place → place < length (rows 0 tree) → d ≡ (get_or (rows 0 tree) place one).depth → d ≡ k + 1 → parent ≡ get_or (take d open_keys) k parent
+    → 0 < found parent all_keys
+parent-listed nodes root open_keys all_keys place tree d k parent one s is some within depth next above =
+    let low = deep nodes root open_keys all_keys place tree d one s is some within depth in
+    let n = on-way (spine s.so_far) d k parent next low.2 (above ∙ ap (λ ks. get_or (take d ks) k parent) s.way) in
+    let g = grow-under s.so_far None [] k n.0 n.0 s.holds.distinct n.1 in
+    let there : 0 < times n.0.key s.so_far = spot-counted s.so_far None [] n.0.key g.above g.spot in
+    let same : times parent s.so_far ≡ times n.0.key s.so_far = ap (λ x. times x s.so_far) (sym n.2) in
+    omega (arith, found-keys parent s.so_far, ap (found parent) s.listed)
+
 -- one node more is in
-pub goes-on : (nodes new : Slab Entry) (root : ℕ) (open_keys : List ℕ) (place : ℕ) (tree : Forest Node) (d k parent key : ℕ) (node : Node) (one : Row)
-    → (s : IsSoFar nodes root open_keys place tree) → IsTree tree → 1 ≤ place → place < length (rows 0 tree) → d ≡ (get_or (rows 0 tree) place one).depth → d ≡ k + 1 → parent ≡ get_or (take d open_keys) k parent → node ≡ (get_or (rows 0 tree) place one).node
+pub goes-on : (nodes new : Slab Entry) (root : ℕ) (open_keys all_keys : List ℕ) (place : ℕ) (tree : Forest Node) (d k parent key : ℕ) (node : Node) (one : Row)
+    → (s : IsSoFar nodes root open_keys all_keys place tree) → IsTree tree → 1 ≤ place → place < length (rows 0 tree) → d ≡ (get_or (rows 0 tree) place one).depth → d ≡ k + 1 → parent ≡ get_or (take d open_keys) k parent → node ≡ (get_or (rows 0 tree) place one).node
     → Appends (links_in nodes) (links_in new) parent node key → slab_len new ≡ slab_len nodes + 1
-    → IsSoFar new root (take d open_keys ++ key ∷ []) (place + 1) tree
-goes-on nodes new root open_keys place tree d k parent key node one s is some within depth next above shows adds len =
+    → IsSoFar new root (take d open_keys ++ key ∷ []) (all_keys ++ key ∷ []) (place + 1) tree
+goes-on nodes new root open_keys all_keys place tree d k parent key node one s is some within depth next above shows adds len =
     let f : Forest (Keyed Node) = s.so_far in
     let x : Keyed Node = keyed key node in
-    let low = deep nodes root open_keys place tree d one s is some within depth in
+    let low = deep nodes root open_keys all_keys place tree d one s is some within depth in
     let n = on-way (spine f) d k parent next low.2 (above ∙ ap (λ ks. get_or (take d ks) k parent) s.way) in
     let g = grow-under f None [] k x n.0 s.holds.distinct n.1 in
     let adds_n : Appends (links_in nodes) (links_in new) n.0.key node key = subst (λ p. Appends (links_in nodes) (links_in new) p node key) (sym n.2) adds in
@@ -114,22 +139,13 @@ goes-on nodes new root open_keys place tree d k parent key node one s is some wi
           ∙ ap (λ m. take m (keys_of (spine f)) ++ key ∷ []) same_depth
           ∙ ap (λ ks. ks ++ key ∷ []) (take-map (λ (m : Keyed Node). m.key) (suc k) (spine f))
           ∙ sym (ap keys_of (spine-grow (suc k) x f fits) ∙ map-append (λ (m : Keyed Node). m.key) (take (suc k) (spine f)) (x ∷ []));
+      listed = ap (λ ks. ks ++ key ∷ []) s.listed ∙ sym (keys-grow (suc k) x f fits);
     }
 
 -- all nodes are in
-pub whole : (nodes : Slab Entry) (root : ℕ) (open_keys : List ℕ) (place : ℕ) (tree : Forest Node) → (s : IsSoFar nodes root open_keys place tree) → length (rows 0 tree) ≤ place → without_keys s.so_far ≡ tree
-whole nodes root open_keys place tree s all =
+pub whole : (nodes : Slab Entry) (root : ℕ) (open_keys all_keys : List ℕ) (place : ℕ) (tree : Forest Node) → (s : IsSoFar nodes root open_keys all_keys place tree) → length (rows 0 tree) ≤ place → without_keys s.so_far ≡ tree
+whole nodes root open_keys all_keys place tree s all =
     rows_same (without_keys s.so_far) tree (s.shown ∙ take_all place (rows 0 tree) all)
-
-pub whole-document : (nodes : Slab Entry) (root : ℕ) (open_keys : List ℕ) (place : ℕ) (tree : Forest Node) → (s : IsSoFar nodes root open_keys place tree) → length (rows 0 tree) ≤ place → IsTree tree → HasElementRoot tree → length (rows 0 tree) < 2 ^ 64 → IsKeyedDocument s.so_far
-whole-document nodes root open_keys place tree s all is element few =
-    let same : tree ≡ without_keys s.so_far = sym (whole nodes root open_keys place tree s all) in
-    record {
-      distinct = s.holds.distinct;
-      is_tree = subst IsTree same is;
-      element = subst HasElementRoot same element;
-      few = omega (arith, few, size-without_keys s.so_far, ap size same, length-rows 0 tree);
-    }
 
 -- the first node of a tree is its root
 pub shown-element : (tree : Forest Node) (name : Bor (List ℕ)) (attrs : Bor (List Attr)) (one : Row) → IsTree tree → Shows (get_or (rows 0 tree) 0 one).node (view.Element name attrs) → HasElementRoot tree

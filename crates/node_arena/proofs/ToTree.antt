@@ -32,11 +32,11 @@ no-labels : (f : Forest (Keyed Node)) → without_keys f ≡ Empty → f ≡ Emp
 no-labels Empty e = refl
 no-labels (Tree n c r) e = absurd (let e' : Tree n.label (without_keys c) (without_keys r) ≡ Empty = e in cc)
 
-sound-root : (node : Node) (c : Forest (Keyed Node)) (r : Forest Node) → AreSound (Tree node (without_keys c) r) → IsSoundAt node c × AreSound (without_keys c) × AreSound r
+pub sound-root : (node : Node) (c : Forest (Keyed Node)) (r : Forest Node) → AreSound (Tree node (without_keys c) r) → IsSoundAt node c × AreSound (without_keys c) × AreSound r
 sound-root (Element name attrs) c r h = (h.0, h.1, h.2)
 sound-root (Text characters) c r h = (no-labels c h.0, subst AreSound (sym h.0) tt, h.1)
 
-sound-spot : (f : Forest (Keyed Node)) (p : Option ℕ) (e : List (Keyed Node)) (q : ℕ) (s : Spot Node) → AreSound (without_keys f) → spot p e f q ≡ Some s → IsSoundAt s.label s.children
+pub sound-spot : (f : Forest (Keyed Node)) (p : Option ℕ) (e : List (Keyed Node)) (q : ℕ) (s : Spot Node) → AreSound (without_keys f) → spot p e f q ≡ Some s → IsSoundAt s.label s.children
 sound-spot Empty p e q s h is = absurd (none-some s is)
 sound-spot (Tree n c r) p e q s h is =
     let parts = sound-root n.label c (without_keys r) h in

@@ -1,18 +1,27 @@
 -- Documents whose nodes have keys.
 use Rattle.std.specs.Prelude.{◌<◌, ◌^◌, refl}
-use Rattle.std.specs.Coded.{Coded, code_by}
+use Rattle.std.specs.Coded.{Coded, code_by, coded×}
 use Rattle.forest.specs.Forest.{Forest, Empty, Tree, size, coded_forest}
 use Rattle.forest.specs.Keys.{Keyed, HasDistinctKeys, without_keys, coded_keyed}
 use Rattle.plain_types.specs.Tree.{IsTree}
 use Rattle.plain_types.specs.declared.node.Node.{Node}
 use Rattle.plain_types.specs.declared.node.Node.TheVariants.{Element, Text}
+use Rattle.slab.specs.Slab.{Slab, slab_code}
+use Rattle.node_arena.specs.declared.entry.Entry.{Entry}
 
--- what an arena stands for
+-- what an arena stands for; and all its entries, which only the conditions of edits look at
 pub record Document : Type 0 where
   pub tree : Forest (Keyed Node)
+  pub entries : Slab Entry
 
-abbrev pub coded_document : Coded Node → Coded Document
-coded_document coded = code_by (Forest (Keyed Node)) (coded_forest (coded_keyed coded)) (λ document. document.tree) (λ tree. record { tree = tree }) (λ _. refl)
+abbrev pub coded_document : Coded Node → Coded Entry → Coded Document
+coded_document node entry =
+    code_by
+    (Forest (Keyed Node) × Slab Entry)
+    (coded× (coded_forest (coded_keyed node)) (slab_code entry))
+    (λ document. (document.tree, document.entries))
+    (λ pair. record { tree = pair.0; entries = pair.1 })
+    (λ _. refl)
 
 -- the root is an element
 abbrev pub HasElementRoot : Forest Node → Type 0

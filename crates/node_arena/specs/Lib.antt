@@ -4,3 +4,9 @@ pub mod Entries
 pub mod Levels
 pub mod Copies
 pub mod Laws
+pub mod AtPaths
+pub mod Edits
+pub mod Children
+pub mod Changes
+pub mod Added
+pub mod Reversals

@@ -13,8 +13,8 @@ ghost use Rattle.node_arena.specs.Document.{IsKeyedDocument, HasElementRoot};
 ghost use Rattle.node_arena.specs.Nodes.{name_of, characters_of, attrs_of, attr_of};
 ghost use Rattle.node_arena.specs.Entries.{IsEntryOf};
 
-use crate::copies::copied_node;
-use crate::entry::{Entry, append};
+use crate::add_tree::add_tree;
+use crate::entry::Entry;
 use plain_types::attr::Attr;
 use plain_types::duplicate::Duplicate;
 use plain_types::memory::Memory;
@@ -29,20 +29,21 @@ use std::marker::Model;
 /// A document whose nodes are named by keys that stay.
 #[derive(Drop)]
 pub struct Arena {
-    nodes: Slab<Entry>,
-    root: usize,
+    pub(crate) nodes: Slab<Entry>,
+    pub(crate) root: usize,
 }
 
 impl Model for Arena {
     ghost use Rattle.plain_types.specs.contracts.node.Node as node;
+    ghost use Rattle.node_arena.specs.contracts.entry.Entry as entry;
     ghost use Rattle.node_arena.specs.Document.{Document, coded_document};
     ghost use Rattle.node_arena.specs.Entries.{tree_in, IsArena};
 
     ghost Value = { Document };
 
-    ghost coded = { coded_document node.the_row.coded };
+    ghost coded = { coded_document node.the_row.coded entry.the_row.coded };
 
-    ghost view = { λ arena. record { tree = tree_in arena.nodes arena.root } };
+    ghost view = { λ arena. record { tree = tree_in arena.nodes arena.root; entries = arena.nodes } };
 
     ghost invariant = { λ arena. IsArena arena.nodes arena.root };
 }
@@ -65,23 +66,8 @@ impl Arena {
         requires element { HasElementRoot tree.now }
         ensures tree { IfOk result (λ arena. without_keys arena.tree ≡ tree.now) }
     {
-        let count = tree.len();
-        let mut nodes = Slab::with_capacity(alloc, count)?;
-        let root = nodes.insert(Entry {
-            parent: None,
-            position: 0,
-            children: Vec::new(alloc),
-            node: copied_node(alloc, tree.node(0))?,
-        })?;
-        let mut open = Vec::new(alloc);
-        open.push(root)?;
-        for place in 1..count {
-            open.truncate(tree.depth(place));
-            let parent = open[open.len() - 1];
-            let node = copied_node(alloc, tree.node(place))?;
-            let key = append(alloc, &mut nodes, parent, node)?;
-            open.push(key)?;
-        }
+        let mut nodes = Slab::with_capacity(alloc, tree.len())?;
+        let (root, _keys) = add_tree(alloc, &mut nodes, tree)?;
         Ok(Arena { nodes, root })
     }
 
@@ -146,7 +132,7 @@ impl Arena {
         self.root
     }
 
-    fn entry(&self, key: usize) -> &Entry
+    pub(crate) fn entry(&self, key: usize) -> &Entry
         requires { IsLive self.now.tree key }
         ensures says { IsEntryOf self.now.tree key result.now }
         ensures document { IsKeyedDocument self.now.tree }

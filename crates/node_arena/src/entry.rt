@@ -1,9 +1,11 @@
 //! The entries of an arena.
 
-ghost use Rattle.std.specs.Prelude.{◌≡◌, ◌+◌, OnOk, IfOk};
-ghost use Rattle.slab.specs.Slab.{ContainsKey, slab_len};
+ghost use Rattle.std.specs.Prelude.{◌≡◌, ◌≢◌, ◌+◌, ℕ, OnOk, OnErr, IfOk};
+ghost use Rattle.slab.specs.Slab.{get, ContainsKey, slab_len};
+ghost use Rattle.node_arena.specs.Children.{HasRoom};
 ghost use Rattle.node_arena.specs.Entries.{links_in, AddsChild, Appends};
 
+use crate::children::make_room;
 use plain_types::memory::Memory;
 use plain_types::node::Node;
 use slab::Slab;
@@ -20,18 +22,19 @@ pub(crate) struct Entry {
     pub(crate) node: Node,
 }
 
-/// Puts a key at the end of a node's children.
-pub(crate) fn push_child(nodes: &mut Slab<Entry>, parent: usize, child: usize) -> Result<(), Memory>
-    ensures adds { OnOk result (AddsChild (links_in nodes.old) (links_in nodes.new) parent child) }
+/// Puts a key at the end of a node's children, whose list has room for it.
+fn push_child(nodes: &mut Slab<Entry>, parent: usize, child: usize)
+    requires { HasRoom nodes.old parent }
+    ensures adds { AddsChild (links_in nodes.old) (links_in nodes.new) parent child }
+    ensures others { (key : ℕ) → key ≢ parent → get nodes.new key ≡ get nodes.old key }
     ensures len { slab_len nodes.new ≡ slab_len nodes.old }
 {
     if let Some(entry) = nodes.get_mut(parent) {
-        entry.children.push(child)?;
+        entry.children.push_reserved(child);
     }
-    Ok(())
 }
 
-/// Puts a new node behind the children of a node.
+/// Puts a new node behind the children of a node. After `Memory` nothing is put.
 pub(crate) fn append(
     alloc: Global,
     nodes: &mut Slab<Entry>,
@@ -40,8 +43,11 @@ pub(crate) fn append(
 ) -> Result<usize, Memory>
     requires parent { ContainsKey nodes.old parent }
     ensures appends { IfOk result (Appends (links_in nodes.old) (links_in nodes.new) parent node) }
+    ensures others { IfOk result (λ key. (other : ℕ) → other ≢ key → other ≢ parent → get nodes.new other ≡ get nodes.old other) }
     ensures len { OnOk result (slab_len nodes.new ≡ slab_len nodes.old + 1) }
+    ensures err { OnErr result ((other : ℕ) → other ≢ parent → get nodes.new other ≡ get nodes.old other) }
 {
+    make_room(nodes, parent)?;
     let position = nodes[parent].children.len();
     let entry = Entry {
         parent: Some(parent),
@@ -50,6 +56,6 @@ pub(crate) fn append(
         node,
     };
     let key = nodes.insert(entry)?;
-    push_child(nodes, parent, key)?;
+    push_child(nodes, parent, key);
     Ok(key)
 }
