@@ -1,0 +1,5 @@
+pub mod Pairs
+pub mod Views
+pub mod Counts
+pub mod Holders
+pub mod Changes
