@@ -1,0 +1,12 @@
+pub mod NameLemmas
+pub mod OpLemmas
+pub mod CountLemmas
+pub mod ToldLemmas
+pub mod ScopeLemmas
+pub mod OrderLemmas
+pub mod EventLemmas
+pub mod ValueLemmas
+pub mod BoxesLemmas
+pub mod KeyLemmas
+pub mod ChangeLemmas
+pub mod LawLemmas

@@ -1,0 +1,5 @@
+pub mod Boxes
+pub mod Counting
+pub mod Scopes
+pub mod Values
+pub mod Laws
