@@ -1,0 +1,34 @@
+-- Laws of generated texts: keys do not matter.
+use Rattle.std.specs.Prelude.{◌≡◌, ℕ, List}
+use Rattle.forest.specs.Forest.{Forest}
+use Rattle.forest.specs.Keys.{Keyed, HasDistinctKeys, numbered, without_keys}
+use Rattle.plain_types.specs.declared.node.Node.{Node}
+use Rattle.plain_types.specs.declared.sheet.Sheet.{Sheet}
+use Rattle.generated_texts.specs.Entries.{document_entries}
+use Rattle.generated_texts.specs.Keyings.{KeepsApart, rekeyed, rekeyed_entries}
+use Rattle.generated_texts.specs.Lines.{document_lines, keyed_lines}
+
+-- Each document whose nodes have distinct keys is the one with the places in tree order as its keys, under
+-- other keys.
+abbrev pub EachKeyingIsAnother : Type 0
+EachKeyingIsAnother =
+    (document : Forest (Keyed Node)) → HasDistinctKeys document
+    → (rekey : ℕ → ℕ) × KeepsApart rekey × (document ≡ rekeyed rekey (numbered 0 (without_keys document)))
+
+-- Under other keys what is kept of a document's elements is the same, but for the keys.
+abbrev pub EntriesFollowKeys : Type 0
+EntriesFollowKeys =
+    (author : Sheet) (document : Forest (Keyed Node)) (rekey : ℕ → ℕ) → KeepsApart rekey
+    → document_entries author (rekeyed rekey document) ≡ rekeyed_entries rekey (document_entries author document)
+
+-- The lines of its dump are the same.
+abbrev pub LinesKeepNoKeys : Type 0
+LinesKeepNoKeys =
+    (sheet_text : List ℕ) (document : Forest (Keyed Node)) (rekey : ℕ → ℕ) → KeepsApart rekey
+    → keyed_lines sheet_text (rekeyed rekey document) ≡ keyed_lines sheet_text document
+
+-- So a document whose nodes have distinct keys has the lines of its tree.
+abbrev pub LinesAreThoseOfTheTree : Type 0
+LinesAreThoseOfTheTree =
+    (sheet_text : List ℕ) (document : Forest (Keyed Node)) → HasDistinctKeys document
+    → keyed_lines sheet_text document ≡ document_lines sheet_text (without_keys document)

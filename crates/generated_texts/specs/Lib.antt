@@ -1,0 +1,6 @@
+pub mod Documents
+pub mod References
+pub mod Entries
+pub mod Lines
+pub mod Keyings
+pub mod Laws

@@ -1,0 +1,13 @@
+//! Laws of generated texts. The functions do nothing: each contract is a law, proved of every document.
+
+ghost use Rattle.generated_texts.specs.Laws.{EachKeyingIsAnother, EntriesFollowKeys, LinesAreThoseOfTheTree, LinesKeepNoKeys};
+
+/// Whichever distinct keys the nodes of a document have, its generated texts are the same. Each keying is that by
+/// places in tree order under other keys, and under other keys all that is kept of elements is the same but for
+/// the keys.
+pub fn keys_do_not_matter()
+    ensures keyings { EachKeyingIsAnother }
+    ensures entries { EntriesFollowKeys }
+    ensures lines { LinesKeepNoKeys }
+    ensures tree { LinesAreThoseOfTheTree }
+{}

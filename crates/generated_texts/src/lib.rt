@@ -1,0 +1,19 @@
+//! The generated texts of a document under a style sheet: what they are, and what is kept of them.
+//!
+//! This crate says what all the others are for. `specs/` goes from a tree of nodes and the text of a sheet to the
+//! lines of a dump, and knows nothing of how that is computed:
+//!
+//! | File | It says |
+//! |---|---|
+//! | `Documents.antt` | which styles and counter styles a document has under a sheet, and what its evaluation says of its elements |
+//! | `References.antt` | which element an id names, and what is known of it |
+//! | `Entries.antt` | what is kept of an element: its counters, depths, and the texts of its boxes |
+//! | `Lines.antt` | the lines of a dump, in tree order |
+//! | `Keyings.antt` | the same under other keys |
+//!
+//! An [`entry::NodeEntry`] is what is kept of an element. Nodes are named by keys, and whichever distinct keys they
+//! have, the texts are the same: that is the law of [`laws`].
+#![tactic(auto)]
+
+pub mod entry;
+pub mod laws;
