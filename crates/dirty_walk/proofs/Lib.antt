@@ -1,0 +1,7 @@
+pub mod BookLemmas
+pub mod CharacterTurns
+pub mod HolderLemmas
+pub mod IdLemmas
+pub mod KeptLemmas
+pub mod KnownLemmas
+pub mod PlanLemmas

@@ -1,0 +1,45 @@
+use Rattle.std.proofs.Common.{◌∙◌, Option, IfSome, ap, sym, subst, unwrap_or}
+use Rattle.node_arena.specs.declared.reversal.Reversal.{Reversal}
+use Rattle.node_arena.specs.Reversals.{IsReversal}
+use Rattle.dirty_walk.specs.Books.{StyledDocument}
+use Rattle.dirty_walk.specs.Plans.{settled_after, IsPlannedBy}
+use Rattle.dirty_walk.proofs.PlanLemmas.{kept_where, is_settled_on}
+use Rattle.dirty_walk.proofs.book.Book.commit.Goals as goal
+
+pub invariant_of-self : goal.invariant_of-self
+unfolding IsPlannedBy settled_after
+invariant_of-self g c = record {
+  kept = λ _.
+      kept_where c.args.self.now.tree c.settle.new.self.tree (unwrap_or c.args.plan.sheet c.args.self.now.sheet) c.replace_sheet.new.sheet c.args.plan.entries
+      (c.settle.ensures.tree ∙ ap (λ (styled : StyledDocument). styled.tree) c.self.view_is)
+      (c.replace_sheet.ensures ∙ ap (λ (styled : StyledDocument). unwrap_or c.args.plan.sheet styled.sheet) c.self.view_is)
+      c.requires.planned.1;
+  back = subst (λ (planned : Option Reversal). IfSome planned (λ reversal. IsReversal c.settle.new.self reversal)) (sym c.take.ensures.after) tt;
+}
+
+pub invariant_of-self-in_default : goal.invariant_of-self-in_default
+unfolding IsPlannedBy settled_after
+invariant_of-self-in_default g c = record {
+  kept = λ _.
+      kept_where c.args.self.now.tree c.self.inside.arena.tree (unwrap_or c.args.plan.sheet c.args.self.now.sheet) c.replace_sheet.new.sheet c.args.plan.entries
+      (ap (λ (styled : StyledDocument). styled.tree) c.self.view_is)
+      (c.replace_sheet.ensures ∙ ap (λ (styled : StyledDocument). unwrap_or c.args.plan.sheet styled.sheet) c.self.view_is)
+      c.requires.planned.1;
+  back = subst (λ (planned : Option Reversal). IfSome planned (λ reversal. IsReversal c.self.inside.arena reversal)) (sym c.take.ensures.after) tt;
+}
+
+pub returns-in-Some-clause-settled : goal.returns-in-Some-clause-settled
+unfolding settled_after
+returns-in-Some-clause-settled g c =
+    is_settled_on c.args.self.now.tree c.settle.new.self.tree (unwrap_or c.args.plan.sheet c.args.self.now.sheet) c.replace_sheet.new.sheet c.take.new.self
+    (c.settle.ensures.tree ∙ ap (λ (styled : StyledDocument). styled.tree) c.self.view_is)
+    (c.replace_sheet.ensures ∙ ap (λ (styled : StyledDocument). unwrap_or c.args.plan.sheet styled.sheet) c.self.view_is)
+    c.take.ensures.after
+
+pub returns-in_default-clause-settled : goal.returns-in_default-clause-settled
+unfolding settled_after
+returns-in_default-clause-settled g c =
+    is_settled_on c.args.self.now.tree c.self.inside.arena.tree (unwrap_or c.args.plan.sheet c.args.self.now.sheet) c.replace_sheet.new.sheet c.take.new.self
+    (ap (λ (styled : StyledDocument). styled.tree) c.self.view_is)
+    (c.replace_sheet.ensures ∙ ap (λ (styled : StyledDocument). unwrap_or c.args.plan.sheet styled.sheet) c.self.view_is)
+    c.take.ensures.after

@@ -1,0 +1,70 @@
+use Rattle.std.proofs.Common.{◌≡◌, ◌∙◌, true, refl, List, Option, unwrap_or, ℕ, ap, sym, subst, arith}
+use Rattle.std.specs.Borrow.{Bor}
+use Rattle.std.specs.Option.{is_none}
+use Rattle.std.specs.Str.{chars}
+use Rattle.forest.specs.Forest.{Forest, size}
+use Rattle.forest.specs.Keys.{Keyed, without_keys}
+use Rattle.plain_types.specs.declared.node.Node.{Node}
+use Rattle.node_arena.proofs.RowFacts.{size-without_keys}
+use Rattle.node_arena.specs.Edits.{edited, edited_sheet, IsEdited}
+use Rattle.dirty_walk.specs.Books.{StyledDocument}
+use Rattle.dirty_walk.specs.Plans.{settled_after, IsPlannedBy}
+use Rattle.dirty_walk.proofs.PlanLemmas.{kept_where, now-unwrap_or, same_document}
+use Rattle.dirty_walk.proofs.book.Book.plan.Goals as goal
+
+pub invariant_of-self : goal.invariant_of-self
+invariant_of-self g c =
+    let none : is_none c.self.inside.planned ≡ true = ap (λ (styled : StyledDocument). styled.settled) c.self.view_is ∙ c.requires.settled in
+    same_document _ _ _ _ _ none c.prepare.ensures.tree c.self.invariant
+
+pub invariant_of-self-in-Err : goal.invariant_of-self-in-Err
+invariant_of-self-in-Err g c =
+    let none : is_none c.self.inside.planned ≡ true = ap (λ (styled : StyledDocument). styled.settled) c.self.view_is ∙ c.requires.settled in
+    same_document _ _ _ _ _ none (c.revert.ensures.tree ∙ c.commit-reversal.ensures.before ∙ c.prepare.ensures.tree) c.self.invariant
+
+pub invariant_of-self-in-Err-2 : goal.invariant_of-self-in-Err-2
+invariant_of-self-in-Err-2 g c =
+    let none : is_none c.self.inside.planned ≡ true = ap (λ (styled : StyledDocument). styled.settled) c.self.view_is ∙ c.requires.settled in
+    same_document _ _ _ _ _ none (c.revert.ensures.tree ∙ c.commit-reversal.ensures.before ∙ c.prepare.ensures.tree) c.self.invariant
+
+pub returns-in-Ok-clause-planned : goal.returns-in-Ok-clause-planned
+unfolding IsPlannedBy settled_after
+returns-in-Ok-clause-planned g c =
+    let old = c.self.inside.sheet in
+    let text : chars c.as_str.result.now ≡ unwrap_or c.in_ok-sheet.sheet old =
+    c.as_str.ensures.characters
+    ∙ ap (λ (text : Bor (List ℕ)). text.now) c.unwrap_or-text.ensures
+    ∙ now-unwrap_or c.as_ref.result _
+    ∙ ap (λ (sheet : Option (List ℕ)). unwrap_or sheet old) c.as_ref.ensures.value in
+    let tree = c.commit-reversal.new.self.tree in
+    (refl, kept_where tree tree (chars c.as_str.result.now) (unwrap_or c.in_ok-sheet.sheet old) c.in-Ok.entries refl (sym text) c.in-Ok.ensures.entries)
+
+pub returns-in-Ok-clause-document : goal.returns-in-Ok-clause-document
+unfolding settled_after
+returns-in-Ok-clause-document g c =
+    let was = ap (λ (styled : StyledDocument). styled.tree) c.self.view_is in
+    subst (λ (old : Forest (Keyed Node)). IsEdited c.args.edit.now old c.commit-reversal.new.self.tree) was
+    (subst (λ (new : Forest (Keyed Node)). IsEdited c.args.edit.now c.self.inside.arena.tree new) (sym c.commit-reversal.ensures.tree) c.in_ok-prepared.ensures.edits)
+
+pub returns-in-Ok-clause-sheet : goal.returns-in-Ok-clause-sheet
+unfolding settled_after
+returns-in-Ok-clause-sheet g c =
+    c.in_ok-sheet.ensures.sheet c.self.inside.sheet ∙ ap (λ (styled : StyledDocument). edited_sheet c.args.edit.now styled.sheet) c.self.view_is
+
+pub returns-in-Ok-clause-steps : goal.returns-in-Ok-clause-steps
+returns-in-Ok-clause-steps g c =
+    let same : size c.commit-reversal.new.self.tree ≡ size (edited c.args.edit.now (without_keys c.args.self.now.tree)) =
+    ap size c.commit-reversal.ensures.tree
+    ∙ sym (size-without_keys _)
+    ∙ ap size c.in_ok-prepared.ensures.edits.tree
+    ∙ ap (λ (styled : StyledDocument). size (edited c.args.edit.now (without_keys styled.tree))) c.self.view_is in
+    omega (arith, same, c.fresh_entries.ensures.steps)
+
+pub returns-in-Err-clause-steps : goal.returns-in-Err-clause-steps
+returns-in-Err-clause-steps g c =
+    let same : size c.commit-reversal.new.self.tree ≡ size (edited c.args.edit.now (without_keys c.args.self.now.tree)) =
+    ap size c.commit-reversal.ensures.tree
+    ∙ sym (size-without_keys _)
+    ∙ ap size c.in_ok-prepared.ensures.edits.tree
+    ∙ ap (λ (styled : StyledDocument). size (edited c.args.edit.now (without_keys styled.tree))) c.self.view_is in
+    omega (arith, same, c.fresh_entries.ensures.steps)

@@ -1,0 +1,41 @@
+-- What a book stands for, and what it keeps.
+use Rattle.std.specs.Prelude.{◌≡◌, ℕ, nat_eq, Bool, true, List, Option, IfSome, refl}
+use Rattle.std.specs.Coded.{Coded, code_by, coded×, coded_bool, coded_list, coded_ℕ}
+use Rattle.std.specs.HashMap.{HashMap, get}
+use Rattle.forest.specs.Forest.{Forest, coded_forest}
+use Rattle.forest.specs.Keys.{Keyed, coded_keyed}
+use Rattle.plain_types.specs.declared.node.Node.{Node}
+use Rattle.css_reader.specs.Sheets.{sheet}
+use Rattle.node_arena.specs.declared.reversal.Reversal.{Reversal}
+use Rattle.node_arena.specs.Document.{Document}
+use Rattle.node_arena.specs.Reversals.{IsReversal}
+use Rattle.generated_texts.specs.declared.entry.NodeEntry.{NodeEntry}
+use Rattle.generated_texts.specs.Entries.{document_entries}
+use Rattle.generated_texts.specs.References.{kept_at}
+
+-- a document whose nodes have keys, the text of its style sheet, and whether they are settled: no edit is planned
+pub record StyledDocument : Type 0 where
+  pub tree : Forest (Keyed Node)
+  pub sheet : List ℕ
+  pub settled : Bool
+
+abbrev pub coded_styled_document : Coded Node → Coded StyledDocument
+coded_styled_document coded =
+    code_by (Forest (Keyed Node) × (List ℕ × Bool)) (coded× (coded_forest (coded_keyed coded)) (coded× (coded_list coded_ℕ) coded_bool))
+    (λ styled. (styled.tree, (styled.sheet, styled.settled))) (λ (tree, rest). record { tree = tree; sheet = rest.0; settled = rest.1 }) (λ _. refl)
+
+abbrev pub settled_on : Forest (Keyed Node) → List ℕ → StyledDocument
+settled_on document text = record { tree = document; sheet = text; settled = true }
+
+-- what a fresh evaluation keeps of the element of this key; nothing of a text
+abbrev pub fresh_entry : StyledDocument → ℕ → Option NodeEntry
+fresh_entry styled key = kept_at (document_entries (sheet styled.sheet) styled.tree) key
+
+-- the entries are those of a fresh evaluation
+abbrev pub Keeps : {S : Type 0} → HashMap ℕ NodeEntry S → StyledDocument → Type 0
+Keeps entries styled = (key : ℕ) → get nat_eq entries key ≡ fresh_entry styled key
+
+-- a settled book keeps what a fresh evaluation does; an edit that is planned can be taken back
+pub record IsBook (arena : Document) (planned : Option Reversal) {S : Type 0} (entries : HashMap ℕ NodeEntry S) (styled : StyledDocument) : Type 0 where
+  pub kept : styled.settled ≡ true → Keeps entries styled
+  pub back : IfSome planned (λ reversal. IsReversal arena reversal)

@@ -1,0 +1,5 @@
+pub mod Books
+pub mod Holding
+pub mod Known
+pub mod Plans
+pub mod Walking

@@ -1,0 +1,12 @@
+-- What contracts see of planned edits.
+use Rattle.std.specs.Prelude.{◌≡◌, Bool, false, unwrap_or}
+use Rattle.dirty_walk.specs.declared.plan.Plan.{Plan}
+use Rattle.dirty_walk.specs.Books.{StyledDocument, settled_on, Keeps}
+
+-- what the book is settled on once the plan is committed: the document that it has by then, and the plan's sheet, if there is one
+unfoldable pub settled_after : StyledDocument → Plan → StyledDocument
+settled_after book plan = settled_on book.tree (unwrap_or plan.sheet book.sheet)
+
+-- an edit of the book is planned, and the plan has what is to be kept of the elements then
+unfoldable pub IsPlannedBy : StyledDocument → Plan → Type 0
+IsPlannedBy book plan = (book.settled ≡ false) × Keeps plan.entries (settled_after book plan)

@@ -1,0 +1,171 @@
+//! A document and its sheet, evaluated.
+
+ghost use Rattle.std.specs.Prelude.{◌≡◌, ◌≤◌, ◌+◌, ◌*◌, ℕ, true, List, None, unwrap_or, IfOk, OnErr, option_copied};
+ghost use Rattle.std.specs.Str.{chars};
+ghost use Rattle.forest.specs.Forest.{size};
+ghost use Rattle.forest.specs.Keys.{without_keys};
+ghost use Rattle.node_arena.specs.Document.{HasElementRoot};
+ghost use Rattle.node_arena.specs.Edits.{place_fault, edited, edited_sheet, IsEdited};
+ghost use Rattle.dirty_walk.specs.Books.{fresh_entry};
+ghost use Rattle.dirty_walk.specs.Plans.{settled_after, IsPlannedBy};
+
+use crate::fresh::fresh_entries;
+use crate::plan::Plan;
+use generated_texts::entry::NodeEntry;
+use node_arena::arena::Arena;
+use node_arena::reversal::Reversal;
+use plain_types::duplicate::Duplicate;
+use plain_types::edit::Edit;
+use plain_types::memory::Memory;
+use plain_types::text::Text;
+use plain_types::tree::Tree;
+use std::alloc::Global;
+use std::collections::HashMap;
+use std::marker::Model;
+use std::sync::ledger::Ledger;
+use steps::Steps;
+
+/// A document and the text of its sheet, with what a fresh evaluation keeps of each element.
+///
+/// Where an edit is planned the document is the edited one already, and only `commit` may follow.
+#[derive(Drop)]
+pub struct Book {
+    arena: Arena,
+    sheet: Text,
+    entries: HashMap<usize, NodeEntry>,
+    /// The way back from an edit that is planned.
+    planned: Option<Reversal>,
+}
+
+impl Model for Book {
+    ghost use Rattle.std.specs.Prelude.{is_none};
+    ghost use Rattle.plain_types.specs.contracts.node.Node as node;
+    ghost use Rattle.dirty_walk.specs.Books.{IsBook, StyledDocument, coded_styled_document};
+
+    ghost Value = { StyledDocument };
+
+    ghost coded = { coded_styled_document node.the_row.coded };
+
+    ghost view = { λ book. record { tree = book.arena.tree; sheet = book.sheet; settled = is_none book.planned } };
+
+    ghost invariant = { λ book. IsBook book.arena book.planned book.entries (record { tree = book.arena.tree; sheet = book.sheet; settled = is_none book.planned }) };
+}
+
+/// The text to which an edit replaces the sheet.
+fn new_sheet(alloc: Global, edit: &Edit) -> Result<Option<Text>, Memory>
+    ensures sheet { IfOk result (λ sheet. (old : List ℕ) → unwrap_or sheet old ≡ edited_sheet edit.now old) }
+{
+    match edit {
+        Edit::ReplaceSheet { text } => Ok(Some(text.duplicate(alloc)?)),
+        _ => Ok(None),
+    }
+}
+
+fn replace_sheet(sheet: &mut Text, new: Option<Text>)
+    ensures { sheet.new ≡ unwrap_or new sheet.old }
+{
+    if let Some(new) = new {
+        *sheet = new;
+    }
+}
+
+impl Book {
+    /// The book of a document and the text of its sheet. The root is an element.
+    ///
+    /// It takes time and memory linear in the document, its sheet and its texts, beside what sets and selectors
+    /// cost; `Memory` where that is wanting.
+    pub fn begin<L: Ledger>(
+        alloc: Global,
+        document: &Tree,
+        sheet: &str,
+        steps: &mut Steps<L>,
+    ) -> Result<Book, Memory>
+        requires element { HasElementRoot document.now }
+        ensures tree { IfOk result (λ book. without_keys book.tree ≡ document.now) }
+        ensures sheet { IfOk result (λ book. book.sheet ≡ chars sheet.now) }
+        ensures settled { IfOk result (λ book. book.settled ≡ true) }
+        ensures steps { steps.new ≤ steps.old + 6 * size document.now }
+    {
+        let arena = Arena::from_tree(alloc, document)?;
+        let entries = fresh_entries(alloc, &arena, sheet, steps)?;
+        let sheet = Text::from_str(alloc, sheet)?;
+        Ok(Book {
+            arena,
+            sheet,
+            entries,
+            planned: None,
+        })
+    }
+
+    /// Makes ready for an edit that the document allows. The document is then the edited one, and all memory is
+    /// taken that `commit` needs; `Memory` where that is wanting, and then the book is as before.
+    ///
+    /// The edited document is evaluated whole, which costs what `begin` costs.
+    pub fn plan<L: Ledger>(
+        &mut self,
+        alloc: Global,
+        edit: &Edit,
+        steps: &mut Steps<L>,
+    ) -> Result<Plan, Memory>
+        requires settled { self.old.settled ≡ true }
+        requires allowed { place_fault edit.now (without_keys self.old.tree) ≡ None }
+        ensures planned { IfOk result (λ plan. IsPlannedBy self.new plan) }
+        ensures document { IfOk result (λ plan. IsEdited edit.now self.old.tree (settled_after self.new plan).tree) }
+        ensures sheet { IfOk result (λ plan. (settled_after self.new plan).sheet ≡ edited_sheet edit.now self.old.sheet) }
+        ensures err { OnErr result (self.new ≡ self.old) }
+        ensures steps { steps.new ≤ steps.old + 6 * size (edited edit.now (without_keys self.old.tree)) }
+    {
+        let sheet = new_sheet(alloc, edit)?;
+        let prepared = self.arena.prepare(alloc, edit)?;
+        let reversal = self.arena.commit(prepared);
+        let text = sheet.as_ref().unwrap_or(&self.sheet);
+        match fresh_entries(alloc, &self.arena, text.as_str(), steps) {
+            Ok(entries) => {
+                self.planned = Some(reversal);
+                Ok(Plan { entries, sheet })
+            }
+            Err(memory) => {
+                self.arena.revert(reversal);
+                Err(memory)
+            }
+        }
+    }
+
+    /// Does the planned edit. It takes no memory.
+    pub fn commit<L: Ledger>(&mut self, plan: Plan, steps: &mut Steps<L>)
+        requires planned { IsPlannedBy self.old plan }
+        ensures settled { self.new ≡ settled_after self.old plan }
+        ensures steps { steps.new ≡ steps.old }
+    {
+        let Plan { entries, sheet } = plan;
+        self.entries = entries;
+        replace_sheet(&mut self.sheet, sheet);
+        if let Some(reversal) = self.planned.take() {
+            self.arena.settle(reversal);
+        }
+    }
+
+    /// The document under its keys.
+    pub fn arena(&self) -> &Arena
+        requires settled { self.now.settled ≡ true }
+        ensures tree { result.now.tree ≡ self.now.tree }
+    {
+        &self.arena
+    }
+
+    /// The text of the sheet.
+    pub fn sheet(&self) -> &str
+        requires settled { self.now.settled ≡ true }
+        ensures text { chars result.now ≡ self.now.sheet }
+    {
+        self.sheet.as_str()
+    }
+
+    /// What is kept of the element of this key; None exactly where no element has it. Constant time.
+    pub fn find_entry(&self, key: usize) -> Option<&NodeEntry>
+        requires settled { self.now.settled ≡ true }
+        ensures entry { option_copied result ≡ fresh_entry self.now key }
+    {
+        self.entries.get(&key)
+    }
+}

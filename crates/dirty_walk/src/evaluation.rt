@@ -1,0 +1,147 @@
+//! The evaluation of a document: what it says of the elements, and what is kept of them.
+
+ghost use Rattle.std.specs.Prelude.{◌≡◌, ◌≤◌, ◌+◌, ◌*◌, ℕ, nat_eq, IfOk};
+ghost use Rattle.std.specs.HashMap.{get};
+ghost use Rattle.forest.specs.Forest.{size};
+ghost use Rattle.mini_cascade.specs.Styles.{element_style};
+ghost use Rattle.box_eval.specs.Evaluation.{all_changes, styled};
+ghost use Rattle.box_eval.specs.Starts.{document_records, no_starts};
+ghost use Rattle.generated_texts.specs.Entries.{node_entries};
+ghost use Rattle.generated_texts.specs.References.{kept_at, known_targets, known_to_flat_texts};
+ghost use Rattle.dirty_walk.specs.Holding.{IsIndexOf};
+ghost use Rattle.dirty_walk.specs.Known.{IsKeptIn, all_flat_texts_of, known_by};
+
+use crate::by_key::by_key;
+use crate::flat_texts::{FlatTexts, all_flat_texts};
+use crate::index::index_of;
+use crate::node_texts::all_entries;
+use crate::targets::DocumentTargets;
+use box_eval::change::Change;
+use box_eval::changed_starts::ChangedStarts;
+use box_eval::element_record::ElementRecord;
+use box_eval::starts::NoStarts;
+use content_eval::laws::no_reference_is_circular;
+use document_walk::evaluate::evaluate;
+use generated_texts::entry::NodeEntry;
+use node_arena::arena::Arena;
+use plain_types::list::List;
+use plain_types::memory::Memory;
+use plain_types::sheet::Sheet;
+use plain_types::table::Table;
+use std::alloc::Global;
+use std::collections::HashMap;
+use std::sync::ledger::Ledger;
+use steps::Steps;
+use target_index::index::Index;
+
+/// What a document's boxes do to counters, which tells the starts of its reversed counters.
+fn document_changes<L: Ledger>(
+    alloc: Global,
+    arena: &Arena,
+    agent: &Sheet,
+    author: &Sheet,
+    table: &Table,
+    steps: &mut Steps<L>,
+) -> Result<List<Change>, Memory>
+    ensures changes { IfOk result (λ changes. changes ≡ all_changes table.now (styled (element_style arena.now.tree agent.now author.now) no_starts arena.now.tree)) }
+    ensures steps { steps.new ≤ steps.old + 3 * size arena.now.tree }
+{
+    let evaluated = evaluate(alloc, arena, agent, author, table, &NoStarts, steps)?;
+    Ok(evaluated.changes)
+}
+
+/// What the evaluation says of a document's elements: one walk tells the starts of the reversed counters, and a
+/// second one goes with them.
+pub(crate) fn document_records<L: Ledger>(
+    alloc: Global,
+    arena: &Arena,
+    agent: &Sheet,
+    author: &Sheet,
+    table: &Table,
+    steps: &mut Steps<L>,
+) -> Result<List<(usize, ElementRecord)>, Memory>
+    ensures records { IfOk result (λ records. records ≡ document_records table.now (element_style arena.now.tree agent.now author.now) arena.now.tree) }
+    ensures steps { steps.new ≤ steps.old + 6 * size arena.now.tree }
+{
+    let changes = document_changes(alloc, arena, agent, author, table, steps)?;
+    let starts = ChangedStarts::of(alloc, changes.as_slice())?;
+    let evaluated = evaluate(alloc, arena, agent, author, table, &starts, steps)?;
+    Ok(evaluated.records)
+}
+
+/// The flat texts of a document's elements, of which this is said.
+fn document_flat_texts(
+    alloc: Global,
+    arena: &Arena,
+    index: &Index,
+    table: &Table,
+    records: &[(usize, ElementRecord)],
+    records_by_key: &HashMap<usize, &ElementRecord>,
+) -> Result<List<(usize, FlatTexts)>, Memory>
+    requires indexed { IsIndexOf index.now arena.now.tree }
+    requires kept { IsKeptIn records_by_key.now records.now }
+    ensures texts { IfOk result (λ texts. texts ≡ all_flat_texts_of table.now (known_to_flat_texts table.now arena.now.tree records.now) records.now) }
+{
+    // What flat texts rest on has none itself.
+    no_reference_is_circular();
+    let none: List<(usize, FlatTexts)> = List::new(alloc);
+    let none_by_key = by_key(alloc, none.as_slice())?;
+    let targets = DocumentTargets {
+        arena,
+        index,
+        listed: records,
+        records: records_by_key,
+        listed_flats: none.as_slice(),
+        flats: &none_by_key,
+    };
+    all_flat_texts(alloc, table, records, &targets)
+}
+
+/// What is kept of the elements, where these are their flat texts.
+fn entries_with(
+    alloc: Global,
+    arena: &Arena,
+    index: &Index,
+    table: &Table,
+    records: &[(usize, ElementRecord)],
+    records_by_key: &HashMap<usize, &ElementRecord>,
+    flats: &[(usize, FlatTexts)],
+) -> Result<HashMap<usize, NodeEntry>, Memory>
+    requires indexed { IsIndexOf index.now arena.now.tree }
+    requires kept { IsKeptIn records_by_key.now records.now }
+    ensures entries { IfOk result (λ entries. (key : ℕ) → get nat_eq entries key ≡ kept_at (node_entries table.now (known_by arena.now.tree records.now flats.now) records.now) key) }
+{
+    let flats_by_key = by_key(alloc, flats)?;
+    let targets = DocumentTargets {
+        arena,
+        index,
+        listed: records,
+        records: records_by_key,
+        listed_flats: flats,
+        flats: &flats_by_key,
+    };
+    all_entries(alloc, table, records, &targets)
+}
+
+/// What is kept of a document's elements, of which this is said: by key.
+pub(crate) fn document_entries(
+    alloc: Global,
+    arena: &Arena,
+    table: &Table,
+    records: &[(usize, ElementRecord)],
+) -> Result<HashMap<usize, NodeEntry>, Memory>
+    ensures entries { IfOk result (λ entries. (key : ℕ) → get nat_eq entries key ≡ kept_at (node_entries table.now (known_targets table.now arena.now.tree records.now) records.now) key) }
+{
+    let index = index_of(alloc, arena)?;
+    let by_key = by_key(alloc, records)?;
+    let flats = document_flat_texts(alloc, arena, &index, table, records, &by_key)?;
+    entries_with(
+        alloc,
+        arena,
+        &index,
+        table,
+        records,
+        &by_key,
+        flats.as_slice(),
+    )
+}

@@ -1,0 +1,70 @@
+//! The index of a document's ids.
+
+ghost use Rattle.std.specs.Prelude.{◌≡◌, ◌++◌, IfOk, OnOk};
+ghost use Rattle.std.specs.Str.{chars};
+ghost use Rattle.forest.specs.Spots.{IsLink, IsLive};
+ghost use Rattle.generated_texts.specs.References.{first_holder};
+ghost use Rattle.dirty_walk.specs.Holding.{IsIndexOf, id_change, id_changes};
+
+use node_arena::arena::Arena;
+use plain_types::list::List;
+use plain_types::memory::Memory;
+use plain_types::text::Text;
+use std::alloc::Global;
+use target_index::change::IndexChange;
+use target_index::index::Index;
+
+/// The index of the ids of a document's elements, where nothing refers to them yet. Linear time.
+pub(crate) fn index_of(alloc: Global, arena: &Arena) -> Result<Index, Memory>
+    ensures index { IfOk result (λ index. IsIndexOf index arena.now.tree) }
+{
+    let _root = arena.root();
+    let changes = id_changes(alloc, arena)?;
+    let mut index = Index::new(alloc);
+    index.reserve_for(alloc, changes.as_slice())?;
+    index.commit(changes);
+    Ok(index)
+}
+
+/// Of each element that has an id, in tree order, that it holds it.
+fn id_changes(alloc: Global, arena: &Arena) -> Result<List<IndexChange>, Memory>
+    ensures changes { IfOk result (λ changes. changes ≡ id_changes arena.now.tree) }
+{
+    let mut changes = List::new(alloc);
+    let mut at = arena.root();
+    'walk: loop {
+        put_id_change(alloc, arena, at, &mut changes)?;
+        match arena.next_in_order(at) {
+            Some(next) => at = next,
+            None => return Ok(changes),
+        }
+    }
+}
+
+/// Appends that a node holds its id, where it is an element that has one.
+fn put_id_change(
+    alloc: Global,
+    arena: &Arena,
+    key: usize,
+    changes: &mut List<IndexChange>,
+) -> Result<(), Memory>
+    requires live { IsLive arena.now.tree key }
+    ensures ok { OnOk result (changes.new ≡ changes.old ++ id_change arena.now.tree key) }
+{
+    let Some(id) = arena.attr(key, "id") else {
+        return Ok(());
+    };
+    let id = Text::from_str(alloc, id)?;
+    changes.push(IndexChange::Hold { id, key })?;
+    Ok(())
+}
+
+/// The first element in tree order that has an id, which is compared as written.
+pub(crate) fn first_holder(index: &Index, arena: &Arena, id: &str) -> Option<usize>
+    requires index { IsIndexOf index.now arena.now.tree }
+    ensures first { result ≡ first_holder arena.now.tree (chars id.now) }
+    ensures live { IsLink arena.now.tree result }
+{
+    let _root = arena.root();
+    index.first(arena, id)
+}
