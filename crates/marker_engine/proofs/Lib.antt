@@ -1,0 +1,3 @@
+pub mod Counts
+pub mod RekeyedCounts
+pub mod Turns

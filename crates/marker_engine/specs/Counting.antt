@@ -1,0 +1,41 @@
+-- The numbers of a document, while its nodes are counted in tree order.
+use Rattle.std.specs.Prelude.{ℕ, ◌+◌, Bool, is_some, List, [], ◌∷◌, Option, take}
+use Rattle.std.specs.Option.{option_map_or}
+use Rattle.forest.specs.Forest.{Forest, size}
+use Rattle.forest.specs.Keys.{Keyed, keys}
+use Rattle.forest.specs.Order.{place_of}
+use Rattle.plain_types.specs.declared.node.Node.{Node}
+use Rattle.generated_texts.specs.declared.entry.NodeEntry.{NodeEntry}
+use Rattle.node_arena.specs.Nodes.{name_of}
+use Rattle.marker_engine.specs.declared.census.Census.{Census}
+use Rattle.marker_engine.specs.Census.{boxes_in, lines_in, one_where, saturated}
+
+-- the numbers with one more node, and what is kept of it
+abbrev pub with_node : Census → Bool → Option NodeEntry → Census
+with_node census is_element entry = record {
+  elements = saturated (census.elements + one_where is_element);
+  boxes = saturated (census.boxes + option_map_or boxes_in entry 0);
+  lines = saturated (census.lines + option_map_or lines_in entry 0);
+}
+
+-- the weights of keys, added up
+abbrev pub total : (ℕ → ℕ) → List ℕ → ℕ
+total weight [] = 0
+total weight (key ∷ rest) = weight key + total weight rest
+
+module _ (document : Forest (Keyed Node)) where
+  -- how many nodes come before the one at which a walk in tree order stands; at its end all of them
+  abbrev pub nodes_before : Option ℕ → ℕ
+  nodes_before link = option_map_or (place_of document) link (size document)
+
+  -- the weights of these
+  abbrev pub total_before : (ℕ → ℕ) → Option ℕ → ℕ
+  total_before weight link = total weight (take (nodes_before link) (keys document))
+
+  -- the numbers of these
+  abbrev pub counted : (ℕ → Option NodeEntry) → Option ℕ → Census
+  counted entry_of link = record {
+    elements = saturated (total_before (λ key. one_where (is_some (name_of document key))) link);
+    boxes = saturated (total_before (λ key. option_map_or boxes_in (entry_of key) 0) link);
+    lines = saturated (total_before (λ key. option_map_or lines_in (entry_of key) 0) link);
+  }

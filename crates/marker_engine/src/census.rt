@@ -1,0 +1,66 @@
+//! How much there is of a document.
+
+ghost use Rattle.std.specs.Prelude.{◌≡◌, true, length, is_some, option_copied};
+ghost use Rattle.std.specs.Option.{option_map_or};
+ghost use Rattle.forest.specs.Keys.{without_keys};
+ghost use Rattle.generated_texts.specs.Lines.{keyed_lines};
+ghost use Rattle.marker_engine.specs.Census.{boxes_in, element_count, keyed_box_count, lines_in, one_where, saturated};
+ghost use Rattle.marker_engine.specs.Counting.{with_node};
+
+use dirty_walk::book::Book;
+use generated_texts::entry::NodeEntry;
+
+/// How many elements a document has, how many boxes its evaluation, and how many lines its dump. A number that is
+/// too large for its type is the greatest of it.
+#[derive(Clone, Copy, Debug, PartialEq, Eq)]
+pub struct Census {
+    pub elements: usize,
+    /// The boxes of elements, and all marker, before and after boxes.
+    pub boxes: usize,
+    pub lines: usize,
+}
+
+fn lines_in(entry: &NodeEntry) -> usize
+    ensures lines { result ≡ lines_in entry.now }
+{
+    entry.marker.is_some() as usize
+        + entry.before.is_some() as usize
+        + entry.after.is_some() as usize
+}
+
+/// The numbers with one more node.
+fn with_node(census: Census, is_element: bool, entry: Option<&NodeEntry>) -> Census
+    ensures { result ≡ with_node census is_element (option_copied entry.entry) }
+{
+    let (boxes, lines) = match entry {
+        Some(entry) => (entry.has_box as usize, lines_in(entry)),
+        None => (0, 0),
+    };
+    Census {
+        elements: census.elements.saturating_add(is_element as usize),
+        boxes: census.boxes.saturating_add(boxes + lines),
+        lines: census.lines.saturating_add(lines),
+    }
+}
+
+/// The numbers of a book's document, in time linear in its nodes, and with no memory.
+pub(crate) fn census_of(book: &Book) -> Census
+    requires settled { book.now.settled ≡ true }
+    ensures elements { result.elements ≡ saturated (element_count (without_keys book.now.tree)) }
+    ensures boxes { result.boxes ≡ saturated (keyed_box_count book.now.sheet book.now.tree) }
+    ensures lines { result.lines ≡ saturated (length (keyed_lines book.now.sheet book.now.tree)) }
+{
+    let arena = book.arena();
+    let mut link = Some(arena.root());
+    let mut census = Census {
+        elements: 0,
+        boxes: 0,
+        lines: 0,
+    };
+    while let Some(key) = link {
+        let is_element = arena.name(key).is_some();
+        census = with_node(census, is_element, book.find_entry(key));
+        link = arena.next_in_order(key);
+    }
+    census
+}

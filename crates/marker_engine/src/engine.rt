@@ -1,0 +1,152 @@
+//! Documents under their sheets.
+
+ghost use Rattle.std.specs.Prelude.{◌≡◌, ◌≤◌, ◌+◌, ◌*◌, Some, None, Ok, Err, IfOk, IfErr, OnOk, OnErr, length};
+ghost use Rattle.std.specs.Str.{chars};
+ghost use Rattle.forest.specs.Forest.{size};
+ghost use Rattle.generated_texts.specs.Lines.{document_lines, fresh_dump};
+ghost use Rattle.node_arena.specs.Document.{HasElementRoot};
+ghost use Rattle.ports.specs.Grown.{grown, GrowsByFront};
+ghost use Rattle.marker_engine.specs.declared.edit_fault.EditFault.TheVariants as faults;
+ghost use Rattle.marker_engine.specs.Census.{box_count, element_count, saturated};
+ghost use Rattle.marker_engine.specs.Edited.{edited, edit_fault};
+ghost use Rattle.marker_engine.specs.Showing.{IsShowCaused};
+
+use crate::census::{Census, census_of};
+use crate::edit_fault::EditFault;
+use crate::lines::put_lines;
+use crate::show_fault::ShowFault;
+use dirty_walk::book::Book;
+use generated_texts::laws::keys_do_not_matter;
+use plain_types::edit::Edit;
+use plain_types::memory::Memory;
+use plain_types::tree::Tree;
+use ports::sink::Sink;
+use std::alloc::Global;
+use std::marker::Model;
+use std::sync::ledger::Ledger;
+use steps::Steps;
+
+/// A document and the text of its style sheet, evaluated.
+#[derive(Drop)]
+pub struct Engine {
+    book: Book,
+}
+
+impl Model for Engine {
+    ghost use Rattle.std.specs.Prelude.{◌≡◌, true};
+    ghost use Rattle.plain_types.specs.contracts.node.Node as node;
+    ghost use Rattle.marker_engine.specs.Engines.{Source, coded_source, source_of};
+
+    ghost Value = { Source };
+
+    ghost coded = { coded_source node.the_row.coded };
+
+    ghost view = { λ engine. source_of engine.book };
+
+    ghost invariant = { λ engine. engine.book.settled ≡ true };
+}
+
+impl Engine {
+    /// An engine that stands for a document and the text of its sheet. The root is an element.
+    ///
+    /// It takes time and memory linear in the document, its sheet and its texts, beside what sets and selectors
+    /// cost; `Memory` where that is wanting.
+    pub fn start<L: Ledger>(
+        alloc: Global,
+        document: Tree,
+        sheet: &str,
+        steps: &mut Steps<L>,
+    ) -> Result<Engine, Memory>
+        requires element { HasElementRoot document }
+        ensures tree { IfOk result (λ engine. engine.tree ≡ document) }
+        ensures sheet { IfOk result (λ engine. engine.sheet ≡ chars sheet.now) }
+        ensures steps { steps.new ≤ steps.old + 6 * size document }
+    {
+        let book = Book::begin(alloc, &document, sheet, steps)?;
+        Ok(Engine { book })
+    }
+
+    /// Why an edit can't be done, if it can't: the fault that `apply` would answer, want of memory aside. It takes no
+    /// memory, and time linear in the lengths of the edit's paths.
+    pub fn can_apply(&self, edit: &Edit) -> Option<EditFault>
+        ensures allowed { IfOk (edited self.now edit.now) (λ _. result ≡ None) }
+        ensures refused { IfErr (edited self.now edit.now) (λ fault. result ≡ Some (edit_fault fault)) }
+    {
+        self.book.arena().allows(edit).map(EditFault::from)
+    }
+
+    /// Does an edit. After a fault the document and the sheet are as before, and a refused edit counts no step.
+    ///
+    /// The edited document is evaluated whole, which costs what `start` costs.
+    pub fn apply<L: Ledger>(
+        &mut self,
+        alloc: Global,
+        edit: &Edit,
+        steps: &mut Steps<L>,
+    ) -> Result<(), EditFault>
+        ensures ok { OnOk result (edited self.old edit.now ≡ Ok self.new) }
+        ensures refused { IfErr (edited self.old edit.now) (λ fault. result ≡ Err (edit_fault fault)) }
+        ensures memory { IfOk (edited self.old edit.now) (λ _. IfErr result (λ fault. fault ≡ faults.Memory)) }
+        ensures failed { OnErr result (self.new ≡ self.old) }
+        ensures steps { IfOk (edited self.old edit.now) (λ source. steps.new ≤ steps.old + 6 * size source.tree) }
+        ensures no_steps { IfErr (edited self.old edit.now) (λ _. steps.new ≡ steps.old) }
+    {
+        if let Some(fault) = self.can_apply(edit) {
+            return Err(fault);
+        }
+        let plan = self.book.plan(alloc, edit, steps)?;
+        self.book.commit(plan, steps);
+        Ok(())
+    }
+
+    /// The document, a copy of its own. It takes memory of the size of the document, and time linear in it; `Memory`
+    /// where that is wanting.
+    pub fn document(&self, alloc: Global) -> Result<Tree, Memory>
+        ensures tree { IfOk result (λ tree. tree ≡ self.now.tree) }
+    {
+        self.book.arena().to_tree(alloc)
+    }
+
+    /// Puts the dump of the document to `out`: a line for each marker, before and after box, in tree order. Where
+    /// it fails, a front of the dump went out.
+    ///
+    /// It takes time linear in the document and the bytes of the dump, and memory for the path of a node and for
+    /// the nodes that it is in. The texts are there already, so it counts no step.
+    pub fn show<O: Sink, L: Ledger>(
+        &self,
+        alloc: Global,
+        out: &mut O,
+        steps: &mut Steps<L>,
+    ) -> Result<(), ShowFault>
+        ensures ok { OnOk result (O.out out.new ≡ grown (O.out out.old) (fresh_dump self.now.sheet self.now.tree)) }
+        ensures failed { OnErr result (GrowsByFront (O.out out.old) (O.out out.new) (fresh_dump self.now.sheet self.now.tree)) }
+        ensures cause { IsShowCaused (O.faults out.old) (O.faults out.new) result }
+        ensures steps { steps.new ≡ steps.old }
+    {
+        // The book has keys of its own, and the lines are those of any keys.
+        let _root = self.book.arena().root();
+        keys_do_not_matter();
+        put_lines(alloc, &self.book, out)
+    }
+
+    /// The text of the sheet.
+    pub fn sheet(&self) -> &str
+        ensures text { chars result.now ≡ self.now.sheet }
+    {
+        self.book.sheet()
+    }
+
+    /// The numbers of the document's elements, of the boxes of its evaluation, and of the lines of its dump.
+    ///
+    /// It takes time linear in the document and no memory. What is counted is there already, so it counts no step.
+    pub fn census<L: Ledger>(&self, steps: &mut Steps<L>) -> Census
+        ensures elements { result.elements ≡ saturated (element_count self.now.tree) }
+        ensures boxes { result.boxes ≡ saturated (box_count self.now.sheet self.now.tree) }
+        ensures lines { result.lines ≡ saturated (length (document_lines self.now.sheet self.now.tree)) }
+        ensures steps { steps.new ≡ steps.old }
+    {
+        let _root = self.book.arena().root();
+        keys_do_not_matter();
+        census_of(&self.book)
+    }
+}

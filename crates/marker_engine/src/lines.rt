@@ -1,0 +1,114 @@
+//! The lines of a dump.
+
+ghost use Rattle.std.specs.Prelude.{◌≡◌, ◌≢◌, true, OnOk, OnErr, Some, option_copied};
+ghost use Rattle.std.specs.Option.{option_map_or};
+ghost use Rattle.definitions.specs.Dump.{dump};
+ghost use Rattle.dirty_walk.specs.Books.{fresh_entry};
+ghost use Rattle.forest.specs.Spots.{IsLive};
+ghost use Rattle.generated_texts.specs.Lines.{first_lines, last_lines, lines_of, tree_lines};
+ghost use Rattle.plain_types.specs.declared.box_kind.BoxKind.TheVariants as kinds;
+ghost use Rattle.ports.specs.Grown.{grown, GrowsByFront};
+ghost use Rattle.marker_engine.specs.Showing.{IsShowCaused};
+
+use crate::show_fault::ShowFault;
+use dirty_walk::book::Book;
+use dump_text::put_line::put_line;
+use generated_texts::entry::{BoxText, NodeEntry};
+use node_arena::arena::Arena;
+use plain_types::box_kind::BoxKind;
+use ports::sink::Sink;
+use std::alloc::Global;
+
+/// Puts the line of a box of a node, where there is one.
+fn put_box<O: Sink>(
+    alloc: Global,
+    arena: &Arena,
+    key: usize,
+    kind: BoxKind,
+    text: &Option<BoxText>,
+    out: &mut O,
+) -> Result<(), ShowFault>
+    requires live { IsLive arena.now.tree key }
+    requires pseudo { kind ≢ kinds.Element }
+    ensures ok { OnOk result (O.out out.new ≡ grown (O.out out.old) (dump (lines_of arena.now.tree key kind text.now))) }
+    ensures failed { OnErr result (GrowsByFront (O.out out.old) (O.out out.new) (dump (lines_of arena.now.tree key kind text.now))) }
+    ensures cause { IsShowCaused (O.faults out.old) (O.faults out.new) result }
+{
+    if let Some(text) = text {
+        let path = arena.path_of(alloc, key)?;
+        put_line(&path, kind, &text.full, out)?;
+    }
+    Ok(())
+}
+
+/// Puts the lines of an element's marker and before box.
+fn put_first<O: Sink>(alloc: Global, book: &Book, key: usize, out: &mut O) -> Result<(), ShowFault>
+    requires settled { book.now.settled ≡ true }
+    requires live { IsLive book.now.tree key }
+    ensures ok { OnOk result (O.out out.new ≡ grown (O.out out.old) (dump (first_lines book.now.tree (fresh_entry book.now) key))) }
+    ensures failed { OnErr result (GrowsByFront (O.out out.old) (O.out out.new) (dump (first_lines book.now.tree (fresh_entry book.now) key))) }
+    ensures cause { IsShowCaused (O.faults out.old) (O.faults out.new) result }
+{
+    if let Some(entry) = book.find_entry(key) {
+        put_box(
+            alloc,
+            book.arena(),
+            key,
+            BoxKind::Marker,
+            &entry.marker,
+            out,
+        )?;
+        put_box(
+            alloc,
+            book.arena(),
+            key,
+            BoxKind::Before,
+            &entry.before,
+            out,
+        )?;
+    }
+    Ok(())
+}
+
+/// Puts the line of an element's after box.
+fn put_last<O: Sink>(alloc: Global, book: &Book, key: usize, out: &mut O) -> Result<(), ShowFault>
+    requires settled { book.now.settled ≡ true }
+    requires live { IsLive book.now.tree key }
+    ensures ok { OnOk result (O.out out.new ≡ grown (O.out out.old) (dump (last_lines book.now.tree (fresh_entry book.now) key))) }
+    ensures failed { OnErr result (GrowsByFront (O.out out.old) (O.out out.new) (dump (last_lines book.now.tree (fresh_entry book.now) key))) }
+    ensures cause { IsShowCaused (O.faults out.old) (O.faults out.new) result }
+{
+    if let Some(entry) = book.find_entry(key) {
+        put_box(alloc, book.arena(), key, BoxKind::After, &entry.after, out)?;
+    }
+    Ok(())
+}
+
+/// Puts the lines of a document, in time linear in its nodes and the bytes of the lines. It takes memory for the
+/// path of a node and for the nodes that it is in.
+pub(crate) fn put_lines<O: Sink>(alloc: Global, book: &Book, out: &mut O) -> Result<(), ShowFault>
+    requires settled { book.now.settled ≡ true }
+    ensures ok { OnOk result (O.out out.new ≡ grown (O.out out.old) (dump (tree_lines book.now.tree (fresh_entry book.now) book.now.tree))) }
+    ensures failed { OnErr result (GrowsByFront (O.out out.old) (O.out out.new) (dump (tree_lines book.now.tree (fresh_entry book.now) book.now.tree))) }
+    ensures cause { IsShowCaused (O.faults out.old) (O.faults out.new) result }
+{
+    let arena = book.arena();
+    let mut inside = Vec::new(alloc);
+    let mut link = Some(arena.root());
+    'walk: loop {
+        match link {
+            Some(key) => {
+                put_first(alloc, book, key, out)?;
+                inside.push(key)?;
+                link = arena.first_child(key);
+            }
+            None => match inside.pop() {
+                None => return Ok(()),
+                Some(key) => {
+                    put_last(alloc, book, key, out)?;
+                    link = arena.next_sibling(key);
+                }
+            },
+        }
+    }
+}
