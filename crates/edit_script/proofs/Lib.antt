@@ -1,0 +1,11 @@
+mod CommandLaws
+mod EditLaws
+mod FaultLaws
+mod LineLaws
+mod OneLaws
+mod OperandLaws
+mod PathLaws
+mod PuttingLaws
+mod ReadLaws
+mod SectionLaws
+mod WordLaws

@@ -1,0 +1,5 @@
+use Rattle.edit_script.proofs.OneLaws.{one_action}
+use Rattle.edit_script.proofs.laws.one_action.Goals as goal
+
+pub returns : goal.returns
+returns c = λ line action other is too. one_action line action other is too

@@ -1,0 +1,9 @@
+pub mod Lines
+pub mod Scripts
+pub mod Draws
+pub mod Generator
+pub mod Faults
+pub mod Words
+pub mod Operands
+pub mod Reading
+pub mod Putting

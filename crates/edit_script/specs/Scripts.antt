@@ -1,0 +1,96 @@
+-- Scripts: which lines are which commands, and which texts are which scripts (our own).
+use Rattle.std.specs.Prelude.{◌≡◌, ◌≢◌, ◌⊎◌, ℕ, ◌+◌, ◌≤◌, false, IsTrue, List, [], ◌∷◌, Result, Ok, Err, codes}
+use Rattle.std.specs.Fmt.{decimal}
+use Rattle.std.specs.List.{AllByRecursion, join_with_byte}
+use Rattle.forest.specs.Forest.{Forest}
+use Rattle.plain_types.specs.declared.edit.Edit.TheVariants.{Insert, Remove, Move, SetAttr, UnsetAttr}
+use Rattle.plain_types.specs.declared.node.Node.{Node}
+use Rattle.definitions.specs.Dump.{path_text}
+use Rattle.definitions.specs.Prepared.{without_mark}
+use Rattle.definitions.specs.Spelling.{IsName}
+use Rattle.definitions.specs.Texts.{IsFragmentText}
+use Rattle.edit_script.specs.declared.action.Action.{Action}
+use Rattle.edit_script.specs.declared.action.Action.TheVariants.{Change, SheetFile, Show}
+use Rattle.edit_script.specs.declared.command.Command.{Command}
+use Rattle.edit_script.specs.Lines.{is_skipped, lines}
+
+-- Commands.
+
+-- a position, or an index: it is written in decimal, so that `0` is the one number that begins with `0`
+abbrev pub IsPosition : ℕ → Type 0
+IsPosition number = number ≤ 4294967295
+
+abbrev pub IsPath : List ℕ → Type 0
+IsPath path = AllByRecursion IsPosition path
+
+-- words with one space between each two
+abbrev pub spaced : List (List ℕ) → List ℕ
+spaced words = join_with_byte 32 words
+
+-- The line is this command. MARKUP, VALUE and FILE are all that is left of the line, as it stands.
+pub data IsCommand : List ℕ → Action → Type 0 where
+  -- insert PATH INDEX MARKUP
+  insert_command : (parent : List ℕ) (index : ℕ) (markup : List ℕ) (fragment : Forest Node) → IsPath parent → IsPosition index → IsFragmentText markup fragment
+      → IsCommand (spaced (codes "insert" ∷ path_text parent ∷ decimal index ∷ markup ∷ [])) (Change (Insert parent index fragment))
+  -- remove PATH
+  remove_command : (path : List ℕ) → IsPath path → IsCommand (spaced (codes "remove" ∷ path_text path ∷ [])) (Change (Remove path))
+  -- move PATH PATH INDEX
+  move_command : (from parent : List ℕ) (index : ℕ) → IsPath from → IsPath parent → IsPosition index
+      → IsCommand (spaced (codes "move" ∷ path_text from ∷ path_text parent ∷ decimal index ∷ [])) (Change (Move from parent index))
+  -- set PATH NAME VALUE
+  set_command : (path name value : List ℕ) → IsPath path → IsName name
+      → IsCommand (spaced (codes "set" ∷ path_text path ∷ name ∷ value ∷ [])) (Change (SetAttr path name value))
+  -- set PATH NAME, which sets an empty value
+  set_empty_command : (path name : List ℕ) → IsPath path → IsName name
+      → IsCommand (spaced (codes "set" ∷ path_text path ∷ name ∷ [])) (Change (SetAttr path name []))
+  -- unset PATH NAME
+  unset_command : (path name : List ℕ) → IsPath path → IsName name
+      → IsCommand (spaced (codes "unset" ∷ path_text path ∷ name ∷ [])) (Change (UnsetAttr path name))
+  -- sheet FILE
+  sheet_command : (name : List ℕ) → name ≢ [] → IsCommand (spaced (codes "sheet" ∷ name ∷ [])) (SheetFile name)
+  -- show
+  show_command : IsCommand (codes "show") Show
+
+-- the line is neither skipped nor a command
+pub record IsBad (line : List ℕ) : Type 0 where
+  pub counts : is_skipped line ≡ false
+  pub none : (action : Action) → IsCommand line action → ⊥
+
+-- the line is skipped, or a command
+abbrev pub IsGood : List ℕ → Type 0
+IsGood line = IsTrue (is_skipped line) ⊎ ((action : Action) × IsCommand line action)
+
+-- Scripts.
+
+abbrev pub command : ℕ → Action → Command
+command number action = record { line = number; action = action }
+
+-- the lines, of which the first has this number, are these commands
+pub data AreCommands : ℕ → List (List ℕ) → List Command → Type 0 where
+  no_line : (number : ℕ) → AreCommands number [] []
+  skipped_line : {number : ℕ} {line : List ℕ} {rest : List (List ℕ)} {commands : List Command} → IsTrue (is_skipped line) → AreCommands (number + 1) rest commands
+      → AreCommands number (line ∷ rest) commands
+  command_line : {number : ℕ} {line : List ℕ} {rest : List (List ℕ)} {commands : List Command} (action : Action) → is_skipped line ≡ false → IsCommand line action
+      → AreCommands (number + 1) rest commands → AreCommands number (line ∷ rest) (command number action ∷ commands)
+
+-- of the lines, of which the first has this number, the first bad one has that number
+pub data IsFirstBad : ℕ → List (List ℕ) → ℕ → Type 0 where
+  bad_here : {number : ℕ} {line : List ℕ} {rest : List (List ℕ)} → IsBad line → IsFirstBad number (line ∷ rest) number
+  bad_later : {number bad : ℕ} {line : List ℕ} {rest : List (List ℕ)} → IsGood line → IsFirstBad (number + 1) rest bad → IsFirstBad number (line ∷ rest) bad
+
+-- the lines of a text, without a byte order mark at its front
+abbrev pub script_lines : List ℕ → List (List ℕ)
+script_lines text = lines (without_mark text)
+
+-- the text is a script of these commands
+abbrev pub IsScript : List ℕ → List Command → Type 0
+IsScript text commands = AreCommands 1 (script_lines text) commands
+
+-- the text is no script, and its first bad line has this number
+abbrev pub FailsAsScript : List ℕ → ℕ → Type 0
+FailsAsScript text number = IsFirstBad 1 (script_lines text) number
+
+-- the text reads as a script of these commands, or its first bad line has this number
+abbrev pub ReadsAsScript : List ℕ → Result (List Command) ℕ → Type 0
+ReadsAsScript text (Ok commands) = IsScript text commands
+ReadsAsScript text (Err number) = FailsAsScript text number

@@ -1,0 +1,22 @@
+//! What is true of all scripts, and of the first draws of a run. No function here has anything to do: its contract is the law.
+
+ghost use Rattle.std.specs.Prelude.{◌≡◌, ◌∷◌, [], ℕ, List, Result};
+ghost use Rattle.edit_script.specs.Draws.{quotients};
+ghost use Rattle.edit_script.specs.Scripts.{IsCommand, ReadsAsScript};
+ghost use Rattle.edit_script.specs.declared.action.Action.{Action};
+ghost use Rattle.edit_script.specs.declared.command.Command.{Command};
+
+/// A line is one command at most.
+pub fn one_action()
+    ensures { (line : List ℕ) (action other : Action) → IsCommand line action → IsCommand line other → action ≡ other }
+{}
+
+/// A text is a script of one list of commands, or has one first bad line, and not both.
+pub fn one_reading()
+    ensures { (text : List ℕ) (reading other : Result (List Command) ℕ) → ReadsAsScript text reading → ReadsAsScript text other → reading ≡ other }
+{}
+
+/// The first quotients of the seed 1, by which a run can be worked out by hand.
+pub fn first_quotients()
+    ensures { quotients 8 1 ≡ 16838 ∷ 5758 ∷ 10113 ∷ 17515 ∷ 31051 ∷ 5627 ∷ 23010 ∷ 7419 ∷ [] }
+{}

@@ -1,0 +1,46 @@
+//! Scripts of edits, and documents that are made up with edits of them. Both are our own.
+//!
+//! [`read_script`] reads a script: from a text to its commands, each with the number of its line, or to the
+//! number of the first line that is neither skipped nor a command. A line is a keyword and its operands, with
+//! one space between two words; the last operand of `insert`, `set` and `sheet` is the rest of the line as it
+//! stands. A script is read before anything is done: whether an edit has its place, and whether a file is
+//! there, only the run of the script tells.
+//!
+//! The layer above knows this by `IsScript text commands`, that the text is a script of these commands, and
+//! `FailsAsScript text number`, that it is none and its first bad line has this number (`specs/Scripts.antt`);
+//! `IsCommand line action` has the form of each command. [`laws`] says that a text reads in one way.
+//!
+//! ```text
+//! let commands = read_script(alloc, "set /0 class x\n\nshow\n")?;    // two commands, of lines 1 and 3
+//! let fault = read_script(alloc, "show\nremove 0\n");                 // BadLine { number: 2 }
+//! ```
+//!
+//! [`generate`] makes a document, a sheet and edits of it from a seed, for long runs that anybody can repeat. The
+//! layer above knows them by `document`, `sheet` and `edits_of` (`specs/Generator.antt`).
+//!
+//! ```text
+//! let run = generate(alloc, 1, 2)?;    // ten nodes, and two edits: an insertion and a move
+//! ```
+#![tactic(auto)]
+
+pub mod action;
+pub mod command;
+mod draws;
+pub mod fault;
+pub mod generator;
+mod keyword;
+pub mod laws;
+mod line_fault;
+mod lines;
+mod made_edits;
+mod operands;
+mod path;
+mod script;
+mod sections;
+#[cfg(test)]
+mod tests;
+mod texts;
+mod words;
+
+pub use generator::generate;
+pub use script::read_script;

@@ -1,0 +1,51 @@
+//! Words of a line.
+
+ghost use Rattle.std.specs.Prelude.{◌≡◌, ◌<◌, ◌^◌, ℕ, IfOk, IfErr, IfSome, IfNone};
+ghost use Rattle.std.specs.Fmt.{decimal};
+ghost use Rattle.std.specs.Str.{chars, IsUtf8};
+ghost use Rattle.edit_script.specs.Faults.{IsLineFault};
+ghost use Rattle.edit_script.specs.Words.{AreParts, IsPositionText, IsWordAndRest};
+
+use crate::line_fault::LineFault;
+use itoa::Buffer;
+use xhtml_items::text::split_once;
+
+/// The first word, and what stands behind its space.
+pub(crate) fn split_word(text: &str) -> Result<(&str, &str), LineFault>
+    ensures found { IfOk result (λ x. IsWordAndRest (chars text.now) (chars x.0.now) (chars x.1.now)) }
+    ensures fault { IfErr result (IsLineFault (AreParts (chars text.now))) }
+    ensures word { IfOk result (λ x. IsUtf8 x.0.now) }
+    ensures rest { IfOk result (λ x. IsUtf8 x.1.now) }
+{
+    match split_once(" ", text) {
+        Some(parts) => Ok(parts),
+        None => Err(LineFault::NoForm),
+    }
+}
+
+/// The number that is written so: `0`, or digits that don't begin with `0`.
+fn read_natural(text: &str) -> Option<u32>
+    ensures found { IfSome result (λ number. text.now ≡ decimal number) }
+    ensures none { IfNone result ((number : ℕ) → number < 2 ^ 32 → text.now ≡ decimal number → ⊥) }
+{
+    let Ok(number) = text.parse::<u32>() else {
+        return None;
+    };
+    let mut buffer = Buffer::new();
+    if buffer.format(number) == text {
+        Some(number)
+    } else {
+        None
+    }
+}
+
+/// A position, or an index.
+pub(crate) fn read_position(text: &str) -> Result<usize, LineFault>
+    ensures found { IfOk result (IsPositionText (chars text.now)) }
+    ensures fault { IfErr result (IsLineFault (IsPositionText (chars text.now))) }
+{
+    match read_natural(text) {
+        Some(number) => Ok(number as usize),
+        None => Err(LineFault::NoForm),
+    }
+}
