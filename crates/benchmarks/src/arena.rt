@@ -45,7 +45,8 @@ fn put_deep(alloc: Global, size: usize, builder: &mut TreeBuilder) -> Result<(),
     Ok(())
 }
 
-fn tree_of(alloc: Global, shape: &str, size: usize) -> Option<Tree> {
+/// A tree of this shape, `wide` or `deep`, and size, if there is such a shape.
+pub(crate) fn tree_of(alloc: Global, shape: &str, size: usize) -> Option<Tree> {
     let mut builder = TreeBuilder::new(alloc);
     match shape {
         "wide" => put_wide(alloc, size, &mut builder).ok()?,
@@ -60,7 +61,7 @@ fn tree_of(alloc: Global, shape: &str, size: usize) -> Option<Tree> {
 }
 
 /// The last node in tree order, by links; at most so many nodes are gone over.
-fn last_node(arena: &Arena, most: usize) -> usize
+pub(crate) fn last_node(arena: &Arena, most: usize) -> usize
     ensures live { IsLive arena.now.tree result }
 {
     let mut last = arena.root();

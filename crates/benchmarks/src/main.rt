@@ -10,12 +10,21 @@
 //! | `.. to` | and makes a tree of the arena again |
 //! | `.. walk` | and goes over the arena's nodes by links, instead |
 //! | `.. precedes` | and asks a hundred times which of the first and the last node comes first, instead |
+//! | `matching descendant N COMPOUNDS` | matches the innermost of N nested elements a thousand times with a selector of as many compounds, in vain |
+//! | `matching child ..` | the same, where all combinators but the last are `>` |
+//! | `matching later ..` | the same with `~` and the last of N siblings |
+//! | `styles N RULES` | gives N elements their styles by as many rules, of which one at most matches each |
 //! | `tokens FILE` | reads the tokens of a style sheet |
 //! | `sheet FILE` | reads a style sheet, and answers how many rules and counter styles it has |
 //! | `show-tokens` | prints the tokens of the style sheet on standard input, one a line |
+//! | `show-rules` | prints its rules as they are cut, read or not: the tokens of preludes and blocks |
+//! | `show-declarations` | prints the declarations of the block's content on standard input, known or not |
 #![tactic(auto)]
 
 mod arena;
+mod cascade;
+mod cutting;
+mod matching;
 mod sheet;
 
 use std::env;
@@ -24,11 +33,23 @@ use std::process::ExitCode;
 /// What the words ask for, or nothing where they ask for nothing that is here.
 fn perform(rt: &HostRuntime, words: &[String]) -> Option<usize> {
     match words {
+        [work, join, size, compounds] if work.as_str() == "matching" => {
+            let size = size.as_str().parse::<usize>().ok()?;
+            let compounds = compounds.as_str().parse::<usize>().ok()?;
+            matching::perform(rt.alloc(), join.as_str(), size, compounds)
+        }
+        [work, elements, rules] if work.as_str() == "styles" => {
+            let elements = elements.as_str().parse::<usize>().ok()?;
+            let rules = rules.as_str().parse::<usize>().ok()?;
+            cascade::perform(rt, elements, rules)
+        }
         [shape, size, work] => {
             let size = size.as_str().parse::<usize>().ok()?;
             arena::perform(rt.alloc(), shape.as_str(), size, work.as_str())
         }
         [work] if work.as_str() == "show-tokens" => sheet::show_tokens(rt),
+        [work] if work.as_str() == "show-rules" => cutting::show_rules(rt),
+        [work] if work.as_str() == "show-declarations" => cutting::show_declarations(rt),
         [work, file] if work.as_str() == "tokens" => sheet::count_tokens(rt, file.as_str()),
         [work, file] if work.as_str() == "sheet" => sheet::count_rules(rt, file.as_str()),
         _ => None,

@@ -28,8 +28,15 @@ pub fn count_tokens(rt: &HostRuntime, file: &str) -> Option<usize> {
     Some(tokens_of(alloc, bytes.as_slice())?.len())
 }
 
+/// The tokens of the style sheet on standard input.
+pub(crate) fn tokens_of_input(rt: &HostRuntime) -> Option<List<Token>> {
+    let mut bytes = Vec::new(rt.alloc());
+    rt.reader().read_to_end(&mut bytes).ok()?;
+    tokens_of(rt.alloc(), bytes.as_slice())
+}
+
 /// The word, and the numbers of the characters of the text.
-fn with_numbers(alloc: Global, word: &str, text: &str) -> Result<String, AllocError> {
+pub(crate) fn with_numbers(alloc: Global, word: &str, text: &str) -> Result<String, AllocError> {
     let mut line = String::from_str(alloc, word)?;
     for character in text.chars() {
         let number = format!(in alloc; " {}", character as u32)?;
@@ -64,16 +71,20 @@ fn line_of(alloc: Global, kind: &TokenKind) -> Result<String, AllocError> {
     }
 }
 
-/// Prints the tokens of the style sheet on standard input, one a line, and answers how many there are.
-pub fn show_tokens(rt: &HostRuntime) -> Option<usize> {
+/// Prints these tokens, one a line.
+pub(crate) fn show_each(rt: &HostRuntime, tokens: &[Token]) -> Option<()> {
     let alloc = rt.alloc();
-    let mut bytes = Vec::new(alloc);
-    rt.reader().read_to_end(&mut bytes).ok()?;
-    let tokens = tokens_of(alloc, bytes.as_slice())?;
-    for token in tokens.as_slice() {
+    for token in tokens {
         let line = line_of(alloc, &token.kind).ok()?;
         println!(rt; "{}", line.as_str()).ok()?;
     }
+    Some(())
+}
+
+/// Prints the tokens of the style sheet on standard input, one a line, and answers how many there are.
+pub fn show_tokens(rt: &HostRuntime) -> Option<usize> {
+    let tokens = tokens_of_input(rt)?;
+    show_each(rt, tokens.as_slice())?;
     Some(tokens.len())
 }
 

@@ -7,10 +7,10 @@ use Rattle.marker_cli.specs.declared.form.Form.TheVariants.{Dump, Edit, Table, G
 use Rattle.marker_cli.specs.declared.status.FileAt.{FileAt}
 use Rattle.marker_cli.specs.declared.status.Status.{Status}
 use Rattle.marker_cli.specs.declared.status.Status.TheVariants.{Memory, NotYet, ReadFault, Usage}
-use Rattle.marker_cli.specs.Dump.{EndsAt, EndsReading, Reading, at_document, at_sheet, dump_output}
+use Rattle.marker_cli.specs.Dump.{EndsAt, EndsReading, Reading, at_document, at_sheet, dump_output, most_steps}
 use Rattle.marker_cli.specs.Ends.{IsCaused}
 use Rattle.marker_cli.specs.Output.{ends}
-use Rattle.marker_cli.specs.Run.{HasTurn, IsMissing, IsNotBuilt, Readings, form_output, name_at, output, turn_of_document, turn_of_sheet, turn_of_styles}
+use Rattle.marker_cli.specs.Run.{HasTurn, IsMissing, IsNotBuilt, Readings, form_output, form_steps, name_at, output, turn_of_document, turn_of_sheet, turn_of_styles}
 use Rattle.marker_cli.specs.Table.{EndsTable, table_output}
 use Rattle.marker_cli.specs.Words.{IsForm, ReadsAsForm, word}
 use Rattle.marker_cli.proofs.FormLemmas.{command_length, only_dump, only_table, word_here}
@@ -28,6 +28,12 @@ pub output_dump : (words : List (List ℕ)) (files : Files) (readings : Readings
 unfolding output
 output_dump words files readings document sheet is reads first second =
     (λ i. dump_output files (first i) (second i) readings.document) ∙ sym (dump_form words files readings.document readings.form is reads)
+
+pub steps_dump : (words : List (List ℕ)) (reading : Reading) (form : Option Form) → IsForm words Dump → ReadsAsForm words form
+    → most_steps reading ≡ form_steps reading form
+steps_dump words reading None is reads = absurd (reads Dump is)
+steps_dump words reading (Some form) is reads =
+    only_dump words (most_steps reading ≡ form_steps reading (Some form)) form is reads (λ same. sym (ap (λ f. form_steps reading (Some f)) same))
 
 table_form : (words : List (List ℕ)) (files : Files) (reading : Reading) (from to : ℤ) (form : Option Form) → IsForm words (Table from to) → ReadsAsForm words form
     → form_output words files reading form ≡ table_output files (word words 1) (word words 2) from to

@@ -1,17 +1,16 @@
 -- Which tree is dumped of a document and a sheet.
-use Rattle.std.proofs.Common.{◌≡◌, ℕ, suc, ◌+◌, true, false, ◌==◌, List, [], ◌∷◌, length, take, refl, sym, ◌∙◌, ap, arith, encode_utf8_all}
+use Rattle.std.proofs.Common.{◌≡◌, ℕ, ◌+◌, ◌*◌, List, length, take, sym, ◌∙◌, ap, arith}
 use Rattle.std.specs.Prelude.{Ok, Err}
-use Rattle.std.specs.Str.{chars}
-use Rattle.std.proofs.lemmas.Bool.Decides.{nat_tests}
-use lib.Utf8.{encode}
+use Rattle.definitions.specs.Documents.{IsDocument, document}
 use Rattle.definitions.specs.Faults.{FailsAsDocument, last_line, line_feeds}
+use Rattle.definitions.specs.Items.{Item}
 use Rattle.definitions.specs.Prepared.{prepared}
 use Rattle.definitions.specs.Texts.{IsDocumentText}
-use Rattle.definitions.specs.Thin.{is_thin}
-use Rattle.forest.specs.Forest.{Forest}
+use Rattle.forest.specs.Forest.{Forest, size}
+use Rattle.node_arena.specs.Document.{HasElementRoot}
 use Rattle.plain_types.specs.declared.node.Node.{Node}
-use Rattle.marker_cli.specs.declared.status.Status.TheVariants.{BadDocument, NotYet}
-use Rattle.marker_cli.specs.Dump.{Reading, ReadsAs, built, malformed, tree_of, well_formed}
+use Rattle.marker_cli.specs.declared.status.Status.TheVariants.{BadDocument}
+use Rattle.marker_cli.specs.Dump.{Reading, ReadsAs, malformed, most_steps, tree_of, well_formed}
 
 -- a text has one reading: one tree, or one fault
 pub found_tree : ((text : List ℕ) (tree other : Forest Node) → IsDocumentText text tree → IsDocumentText text other → tree ≡ other)
@@ -34,22 +33,14 @@ found_fault text (well_formed tree) line column reads is = absurd (is.none tree 
 found_fault text (malformed row place) line column reads is =
     let same = one_place text row place line column reads is in λ i. Err (BadDocument (same.0 i) (same.1 i))
 
-not_zero : (n : ℕ) → (suc n == 0) ≡ false
-not_zero n = grind (arith, nat_tests)
+-- the root of a document is an element
+pub document_element : (text : List ℕ) (tree : Forest Node) → IsDocumentText text tree → HasElementRoot tree
+document_element text tree is = by is.allowed
+  where
+    by : {items : List Item} {other : Forest Node} → IsDocument items other → HasElementRoot other
+    by (document after prolog element misc) = tt
 
--- a text without bytes has no characters
-pub empty_text : (bytes style : List ℕ) → bytes ≡ encode_utf8_all style → chars bytes ≡ style → (length bytes == 0) ≡ (length style == 0)
-unfolding chars encode
-empty_text [] style bytes characters = rw (← characters) refl
-empty_text (first ∷ rest) [] bytes characters = absurd (cc bytes)
-empty_text (first ∷ rest) (c ∷ style) bytes characters = not_zero (length rest) ∙ sym (not_zero (length style))
-
--- what is built, by two tests
-pub built_thin : (style : List ℕ) (tree : Forest Node) → (length style == 0) ≡ true → is_thin tree ≡ true → built style tree ≡ Ok tree
-built_thin style tree empty thin = rw (empty, thin) refl
-
-pub not_built_sheet : (style : List ℕ) (tree : Forest Node) → (length style == 0) ≡ false → built style tree ≡ Err NotYet
-not_built_sheet style tree some = rw some refl
-
-pub not_built_tree : (style : List ℕ) (tree : Forest Node) → (length style == 0) ≡ true → is_thin tree ≡ false → built style tree ≡ Err NotYet
-not_built_tree style tree empty other = rw (empty, other) refl
+-- an evaluation of the tree that a text has
+pub most_of : (reading : Reading) (tree : Forest Node) → tree_of reading ≡ Ok tree → 6 * size tree ≡ most_steps reading
+most_of (well_formed other) tree is = let same : other ≡ tree = cc is in ap (λ t. 6 * size t) (sym same)
+most_of (malformed line column) tree is = absurd (cc is)

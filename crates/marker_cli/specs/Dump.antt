@@ -1,16 +1,15 @@
 -- The command `dump DOC SHEET` (our own).
-use Rattle.std.specs.Prelude.{◌≡◌, ◌⊎◌, ℕ, Bool, ◌&&◌, ◌==◌, IsTrue, if◌then◌else◌, List, length, Option, None, Result, Ok, Err}
-use Rattle.definitions.specs.Dump.{dump}
+use Rattle.std.specs.Prelude.{◌≡◌, ◌⊎◌, ℕ, ◌*◌, Bool, IsTrue, List, Option, None, Result, Ok, Err}
 use Rattle.definitions.specs.Faults.{FailsAsDocument}
 use Rattle.definitions.specs.Texts.{IsDocumentText}
-use Rattle.definitions.specs.Thin.{is_thin, thin_lines}
-use Rattle.forest.specs.Forest.{Forest}
+use Rattle.forest.specs.Forest.{Forest, size}
+use Rattle.generated_texts.specs.Lines.{fresh_dump}
 use Rattle.plain_types.specs.declared.node.Node.{Node}
 use Rattle.ports.specs.Files.{Files}
 use Rattle.marker_cli.specs.declared.status.FileAt.{FileAt}
 use Rattle.marker_cli.specs.declared.status.FileAt.TheVariants.{Word}
 use Rattle.marker_cli.specs.declared.status.Status.{Status}
-use Rattle.marker_cli.specs.declared.status.Status.TheVariants.{BadDocument, Memory, NotYet, ReadFault}
+use Rattle.marker_cli.specs.declared.status.Status.TheVariants.{BadDocument, Memory, ReadFault}
 use Rattle.marker_cli.specs.declared.status.Status.TheVariants as status
 use Rattle.marker_cli.specs.Output.{Output, ends, writes, goes_on}
 use Rattle.marker_cli.specs.Turns.{HasText, text_in, with_text}
@@ -34,18 +33,18 @@ abbrev pub tree_of : Reading → Result (Forest Node) Status
 tree_of (well_formed tree) = Ok tree
 tree_of (malformed line column) = Err (BadDocument line column)
 
--- there is nothing yet for a sheet that has a character, or for a tree that isn't thin
-abbrev pub built : List ℕ → Forest Node → Result (Forest Node) Status
-built style tree = if length style == 0 && is_thin tree then Ok tree else Err NotYet
-
 -- the output of `dump DOC SHEET`, where DOC reads as this
 abbrev pub dump_output : Files → List ℕ → List ℕ → Reading → Output
 dump_output files document sheet reading =
     with_text files (Word 1) document (λ text.
     with_text files (Word 2) sheet (λ style.
     goes_on (tree_of reading) (λ tree.
-    goes_on (built style tree) (λ thin.
-    writes (dump (thin_lines thin)) (ends status.Ok)))))
+    writes (fresh_dump style tree) (ends status.Ok))))
+
+-- an evaluation has two walks, of at most three steps a node
+abbrev pub most_steps : Reading → ℕ
+most_steps (well_formed tree) = 6 * size tree
+most_steps (malformed line column) = 0
 
 -- A read ends a dump at this file: at DOC, or at SHEET once DOC has a text; over an honest shelf the file
 -- isn't held.

@@ -6,5 +6,4 @@ pub mod Run
 pub mod Stands
 pub mod Table
 pub mod Turns
-pub mod Walk
 pub mod Words

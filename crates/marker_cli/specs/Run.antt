@@ -6,7 +6,7 @@ use Rattle.marker_cli.specs.declared.form.Form.TheVariants.{Dump, Edit, Table, G
 use Rattle.marker_cli.specs.declared.status.FileAt.{FileAt}
 use Rattle.marker_cli.specs.declared.status.FileAt.TheVariants.{Word, Line}
 use Rattle.marker_cli.specs.declared.status.Status.TheVariants.{NotYet, Usage}
-use Rattle.marker_cli.specs.Dump.{DocumentReadsAs, Reading, dump_output}
+use Rattle.marker_cli.specs.Dump.{DocumentReadsAs, Reading, dump_output, most_steps}
 use Rattle.marker_cli.specs.Output.{Output, ends}
 use Rattle.marker_cli.specs.Table.{table_output}
 use Rattle.marker_cli.specs.Turns.{HasText}
@@ -57,3 +57,15 @@ IsNotBuilt Dump = ⊥
 IsNotBuilt Edit = Unit {0}
 IsNotBuilt (Table from to) = ⊥
 IsNotBuilt (Gen seed count) = Unit {0}
+
+-- the words are of such a form
+abbrev pub AreNotBuilt : List (List ℕ) → Type 0
+AreNotBuilt words = (form : Form) × IsForm words form × IsNotBuilt form
+
+-- the steps that words of this form take at most
+abbrev pub form_steps : Reading → Option Form → ℕ
+form_steps reading None = 0
+form_steps reading (Some Dump) = most_steps reading
+form_steps reading (Some Edit) = 0
+form_steps reading (Some (Table from to)) = 0
+form_steps reading (Some (Gen seed count)) = 0

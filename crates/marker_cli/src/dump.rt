@@ -1,29 +1,37 @@
 //! The command `dump DOC SHEET`.
 
-ghost use Rattle.std.specs.Prelude.{◌≡◌, ◌≤◌, Some, IfErr};
+ghost use Rattle.std.specs.Prelude.{◌≡◌, ◌≢◌, ◌≤◌, ◌+◌, ◌*◌, ◌⊎◌, Some, IfOk, IfErr, OnOk, OnErr};
 ghost use Rattle.std.specs.Str.{chars};
+ghost use Rattle.forest.specs.Forest.{size};
+ghost use Rattle.generated_texts.specs.Lines.{fresh_dump};
+ghost use Rattle.node_arena.specs.Document.{HasElementRoot};
 ghost use Rattle.ports.specs.Causes.{Rose, RoseAbove};
 ghost use Rattle.ports.specs.Files.{Files};
-ghost use Rattle.marker_cli.specs.Dump.{DocumentReadsAs, EndsReading, Reading, ReadsAs, built, dump_output, tree_of};
+ghost use Rattle.ports.specs.Grown.{grown, GrowsByFront};
+ghost use Rattle.marker_cli.specs.Dump.{DocumentReadsAs, EndsReading, Reading, ReadsAs, dump_output, most_steps, tree_of};
 ghost use Rattle.marker_cli.specs.Ends.{EndsAs, Gives, IsCaused, ReadsFailed, ended};
 ghost use Rattle.marker_cli.specs.declared.status.Status.TheVariants as status;
 
 use crate::fetch_text::fetch_text;
-use crate::markers::put_markers;
 use crate::status::{FileAt, Status};
-use plain_types::text::Text;
+use marker_engine::engine::Engine;
+use marker_engine::show_fault::ShowFault;
 use plain_types::tree::Tree;
 use ports::shelf::Shelf;
 use ports::sink::Sink;
 use std::alloc::Global;
+use std::sync::ledger::Ledger;
+use steps::Steps;
 use xhtml_reader::fault::DocFault;
 use xhtml_reader::laws::one_document_tree;
-use xhtml_reader::{is_thin, read_document};
+use xhtml_reader::read_document;
 
 /// The tree of a document.
 fn read_tree(alloc: Global, text: &str) -> Result<Tree, Status>
     ensures tree { (reading : Reading) → ReadsAs (chars text.now) reading → Gives (tree_of reading) result }
+    ensures element { IfOk result HasElementRoot }
     ensures cause { IsCaused ⊥ ⊥ ⊥ ⊥ (ended result) }
+    ensures built { ended result ≢ status.NotYet }
 {
     // A text has one tree: so the outcome is the one that the text has.
     one_document_tree();
@@ -34,28 +42,37 @@ fn read_tree(alloc: Global, text: &str) -> Result<Tree, Status>
     }
 }
 
-/// The tree, where it can be evaluated under this sheet as far as is built.
-fn built_tree(alloc: Global, sheet: &Text, tree: Tree) -> Result<Tree, Status>
-    ensures tree { Gives (built sheet.now tree) result }
-    ensures cause { IsCaused ⊥ ⊥ ⊥ ⊥ (ended result) }
+/// Puts the dump of a document, whose root is an element, under the sheet of this text.
+fn put_dump<O: Sink, L: Ledger>(
+    alloc: Global,
+    tree: Tree,
+    sheet: &str,
+    out: &mut O,
+    steps: &mut Steps<L>,
+) -> Result<(), Status>
+    requires element { HasElementRoot tree }
+    ensures ok { OnOk result (O.out out.new ≡ grown (O.out out.old) (fresh_dump (chars sheet.now) tree)) }
+    ensures failed { OnErr result (GrowsByFront (O.out out.old) (O.out out.new) (fresh_dump (chars sheet.now) tree)) }
+    ensures cause { IfErr result (λ error. (error ≡ status.Memory) ⊎ ((error ≡ status.WriteFault) × Rose (O.faults out.old) (O.faults out.new))) }
+    ensures faults { O.faults out.old ≤ O.faults out.new }
+    ensures steps { steps.new ≤ steps.old + 6 * size tree }
 {
-    if !sheet.as_str().is_empty() {
-        return Err(Status::NotYet);
-    }
-    if is_thin(alloc, &tree)? {
-        Ok(tree)
-    } else {
-        Err(Status::NotYet)
+    let engine = Engine::start(alloc, tree, sheet, steps)?;
+    match engine.show(alloc, out, steps) {
+        Ok(()) => Ok(()),
+        Err(ShowFault::WriteFault) => Err(Status::WriteFault),
+        Err(ShowFault::Memory) => Err(Status::Memory),
     }
 }
 
 /// Writes the dump of the document of this name under the sheet of that name.
-pub fn dump<S: Shelf, O: Sink>(
+pub fn dump<S: Shelf, O: Sink, L: Ledger>(
     alloc: Global,
     document: &str,
     sheet: &str,
     shelf: &mut S,
     out: &mut O,
+    steps: &mut Steps<L>,
 ) -> Result<(), Status>
     ensures told { (files : Files) (reading : Reading) → S.held shelf.old ≡ Some files
         → DocumentReadsAs files (chars document.now) (chars sheet.now) reading
@@ -64,13 +81,14 @@ pub fn dump<S: Shelf, O: Sink>(
     ensures cause { IsCaused ⊥ (Rose (S.faults shelf.old) (S.faults shelf.new)) (RoseAbove 16777216 (S.taken shelf.old) (S.taken shelf.new))
         (Rose (O.faults out.old) (O.faults out.new)) (ended result) }
     ensures faults { O.faults out.old ≤ O.faults out.new }
-    ensures not_yet { ended result ≡ status.NotYet → O.out out.new ≡ O.out out.old }
+    ensures built { ended result ≢ status.NotYet }
     ensures turns { (files : Files) → S.held shelf.old ≡ Some files
         → EndsReading (S.honest shelf.old) (files (chars document.now)) (files (chars sheet.now)) (ended result) }
+    ensures steps { (files : Files) (reading : Reading) → S.held shelf.old ≡ Some files
+        → DocumentReadsAs files (chars document.now) (chars sheet.now) reading → steps.new ≤ steps.old + most_steps reading }
 {
     let text = fetch_text(alloc, shelf, FileAt::Word(1), document)?;
     let style = fetch_text(alloc, shelf, FileAt::Word(2), sheet)?;
     let tree = read_tree(alloc, text.as_str())?;
-    let thin = built_tree(alloc, &style, tree)?;
-    put_markers(alloc, &thin, out)
+    put_dump(alloc, tree, style.as_str(), out, steps)
 }

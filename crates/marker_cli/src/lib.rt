@@ -36,9 +36,7 @@
 mod dump;
 mod fetch_text;
 pub mod form;
-mod markers;
 pub mod report;
 pub mod run;
 pub mod status;
 mod table;
-mod walk;

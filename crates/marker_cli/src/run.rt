@@ -1,13 +1,13 @@
 //! A run.
 
-ghost use Rattle.std.specs.Prelude.{◌≡◌, ◌⊎◌, ◌≤◌, IsTrue, Some, None};
+ghost use Rattle.std.specs.Prelude.{◌≡◌, ◌⊎◌, ◌≤◌, ◌+◌, IsTrue, Some, None};
 ghost use Rattle.ports.specs.Causes.{Rose, RoseAbove};
 ghost use Rattle.ports.specs.Files.{Files};
 ghost use Rattle.ports.specs.Grown.{grown};
 ghost use Rattle.marker_cli.specs.Ends.{EndsAs, IsCaused, ReadsFailed, ended};
 ghost use Rattle.marker_cli.specs.Lines.{GoesOut, message};
 ghost use Rattle.marker_cli.specs.Output.{bytes_of, status_of};
-ghost use Rattle.marker_cli.specs.Run.{AreReadings, HasTurn, IsMissing, IsNotBuilt, Readings, name_at, output};
+ghost use Rattle.marker_cli.specs.Run.{AreNotBuilt, AreReadings, HasTurn, IsMissing, IsNotBuilt, Readings, form_steps, name_at, output};
 ghost use Rattle.marker_cli.specs.Words.{IsForm, ReadsAsForm};
 ghost use Rattle.marker_cli.specs.declared.form.Form.{Form};
 ghost use Rattle.marker_cli.specs.declared.form.Form.TheVariants as forms;
@@ -36,7 +36,13 @@ fn status_of(outcome: Result<(), Status>) -> Status
 }
 
 /// Does what the words say.
-fn perform<S: Shelf, O: Sink>(alloc: Global, words: &[Text], shelf: &mut S, out: &mut O) -> Status
+fn perform<S: Shelf, O: Sink, L: Ledger>(
+    alloc: Global,
+    words: &[Text],
+    shelf: &mut S,
+    out: &mut O,
+    steps: &mut Steps<L>,
+) -> Status
     ensures told { (files : Files) (readings : Readings) → S.held shelf.old ≡ Some files → AreReadings words.now files readings
         → EndsAs (ReadsFailed (S.honest shelf.old) (S.faults shelf.old) (S.faults shelf.new)) (Rose (O.faults out.old) (O.faults out.new))
         (output words.now files readings) (O.out out.old) (O.out out.new) result }
@@ -50,7 +56,11 @@ fn perform<S: Shelf, O: Sink>(alloc: Global, words: &[Text], shelf: &mut S, out:
     ensures faults { O.faults out.old ≤ O.faults out.new }
     ensures no_form { ReadsAsForm words.now None → result ≡ status.Usage }
     ensures not_built { (form : Form) → IsForm words.now form → IsNotBuilt form → result ≡ status.NotYet }
+    ensures not_yet { result ≡ status.NotYet → AreNotBuilt words.now }
     ensures no_output { (result ≡ status.Usage) ⊎ (result ≡ status.NotYet) → O.out out.new ≡ O.out out.old }
+    ensures steps { (files : Files) (readings : Readings) → S.held shelf.old ≡ Some files → AreReadings words.now files readings
+        → steps.new ≤ steps.old + form_steps readings.document readings.form }
+    ensures no_steps { ¬ (IsForm words.now forms.Dump) → steps.new ≡ steps.old }
 {
     match read_form(words) {
         Some(Form::Dump) => status_of(dump(
@@ -59,6 +69,7 @@ fn perform<S: Shelf, O: Sink>(alloc: Global, words: &[Text], shelf: &mut S, out:
             words[2].as_str(),
             shelf,
             out,
+            steps,
         )),
         Some(Form::Edit) => Status::NotYet,
         Some(Form::Table { from, to }) => status_of(table(
@@ -124,14 +135,17 @@ pub fn run<S: Shelf, O: Sink, E: Sink, L: Ledger>(
     ensures usage { result ≡ status.Usage → ReadsAsForm words.now None }
     ensures no_form { ReadsAsForm words.now None → result ≡ status.Usage }
     ensures not_built { (form : Form) → IsForm words.now form → IsNotBuilt form → result ≡ status.NotYet }
+    ensures not_yet { result ≡ status.NotYet → AreNotBuilt words.now }
     ensures no_output { (result ≡ status.Usage) ⊎ (result ≡ status.NotYet) → O.out out.new ≡ O.out out.old }
     ensures read_fault { (file : FileAt) → result ≡ status.ReadFault file → Rose (S.faults shelf.old) (S.faults shelf.new) }
     ensures too_large { (file : FileAt) → result ≡ status.TooLarge file → RoseAbove 16777216 (S.taken shelf.old) (S.taken shelf.new) }
     ensures write_fault { result ≡ status.WriteFault → Rose (O.faults out.old) (O.faults out.new) }
     ensures line { GoesOut (Rose (E.faults err.old) (E.faults err.new)) (E.out err.old) (E.out err.new) (message words.now result) }
-    ensures steps { steps.new ≡ steps.old }
+    ensures steps { (files : Files) (readings : Readings) → S.held shelf.old ≡ Some files → AreReadings words.now files readings
+        → steps.new ≤ steps.old + form_steps readings.document readings.form }
+    ensures no_steps { ¬ (IsForm words.now forms.Dump) → steps.new ≡ steps.old }
 {
-    let status = perform(alloc, words, shelf, out);
+    let status = perform(alloc, words, shelf, out, steps);
     let status = flushed(status, out);
     report(words, status, err);
     status

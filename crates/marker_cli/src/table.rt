@@ -1,6 +1,6 @@
 //! The command `table SHEET STYLE FROM TO`.
 
-ghost use Rattle.std.specs.Prelude.{◌≡◌, ◌≤◌, ◌⊎◌, Some, IfOk, IfErr, OnOk, OnErr};
+ghost use Rattle.std.specs.Prelude.{◌≡◌, ◌≢◌, ◌≤◌, ◌⊎◌, Some, IfOk, IfErr, OnOk, OnErr};
 ghost use Rattle.std.specs.Str.{chars};
 ghost use Rattle.css_reader.specs.Sheets.{sheet as sheet_of};
 ghost use Rattle.definitions.specs.CounterStyles.{finished_styles};
@@ -74,7 +74,7 @@ pub fn table<S: Shelf, O: Sink>(
     ensures cause { IsCaused ⊥ (Rose (S.faults shelf.old) (S.faults shelf.new)) (RoseAbove 16777216 (S.taken shelf.old) (S.taken shelf.new))
         (Rose (O.faults out.old) (O.faults out.new)) (ended result) }
     ensures faults { O.faults out.old ≤ O.faults out.new }
-    ensures not_yet { ended result ≡ status.NotYet → O.out out.new ≡ O.out out.old }
+    ensures built { ended result ≢ status.NotYet }
     ensures turns { (files : Files) → S.held shelf.old ≡ Some files
         → EndsTable (S.honest shelf.old) (files (chars sheet.now)) (ended result) }
 {

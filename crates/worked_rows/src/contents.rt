@@ -54,7 +54,7 @@ static CONTENTS: [(&str, &str, u64); 15] = [
 ];
 
 /// The items of a value of `content`; none where it has no reading.
-fn items(alloc: Global, value: &str) -> Result<List<Item>, Memory> {
+pub(crate) fn items(alloc: Global, value: &str) -> Result<List<Item>, Memory> {
     let text = prepare_text(alloc, value)?;
     let tokens = tokens(alloc, text.as_str())?;
     match read_declaration(alloc, "content", tokens.as_slice())? {
@@ -80,7 +80,7 @@ fn place(alloc: Global) -> Result<Place, Memory> {
     })
 }
 
-fn element(key: usize) -> BoxId {
+pub(crate) fn element(key: usize) -> BoxId {
     BoxId {
         key,
         kind: BoxKind::Element,

@@ -25,12 +25,12 @@ pub struct Row<'a> {
     pub code: u8,
 }
 
-/// A dump of this document with an empty sheet.
-pub fn dumped<'a>(document: &'a str, out: &'a str) -> Row<'a> {
+/// A dump of this document under this sheet.
+pub fn dumped<'a>(document: &'a str, sheet: &'a str, out: &'a str) -> Row<'a> {
     Row {
         words: &["dump", "d.xhtml", "s.css"],
         document: document.as_bytes(),
-        sheet: b"",
+        sheet: sheet.as_bytes(),
         out,
         err: "",
         code: 0,

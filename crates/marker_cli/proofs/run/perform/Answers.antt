@@ -1,4 +1,4 @@
-use Rattle.std.proofs.Common.{◌≡◌, ◌∙◌, refl, lit<, w32}
+use Rattle.std.proofs.Common.{◌≡◌, ◌∙◌, arith, refl, lit<, w32}
 use Rattle.std.proofs.lemmas.Int.{to_z-of_z}
 use Rattle.std.specs.Str.{chars}
 use Rattle.marker_cli.specs.declared.form.Form.TheVariants.{Dump, Edit, Gen, Table}
@@ -7,7 +7,7 @@ use Rattle.marker_cli.specs.Table.{EndsTable, table_output}
 use Rattle.marker_cli.specs.Words.{IsForm, word}
 use Rattle.marker_cli.proofs.EndsLemmas.{at_start, ends_same, ends_whole}
 use Rattle.marker_cli.proofs.ReadingLemmas.{reading_as, table_as}
-use Rattle.marker_cli.proofs.RunLemmas.{dump_long, missing_built, output_dump, output_other, output_table, output_usage, run_missing, run_not_held, run_turn, table_long, table_missing, table_not_held, table_turn, word_read}
+use Rattle.marker_cli.proofs.RunLemmas.{dump_long, missing_built, output_dump, output_other, output_table, output_usage, run_missing, run_not_held, run_turn, steps_dump, table_long, table_missing, table_not_held, table_turn, word_read}
 use Rattle.marker_cli.proofs.run.perform.Goals as goal
 
 pub returns-in-Some-Dump-clause-told : goal.returns-in-Some-Dump-clause-told
@@ -52,6 +52,16 @@ returns-in-Some-Dump-clause-missing g c files file told honestly missing =
     let reading : EndsReading (g.S.Shelf.honest c.args.shelf.now) (files (word c.args.words.now 1)) (files (word c.args.words.now 2)) c.status_of.result =
     reading_as c.status_of.ensures (rw (document, sheet) at c.dump.ensures.turns files told) in
     run_missing _ c.args.words.now files is file reading honestly missing
+
+pub returns-in-Some-Dump-clause-steps : goal.returns-in-Some-Dump-clause-steps
+returns-in-Some-Dump-clause-steps g c files readings told reads =
+    let is : IsForm c.args.words.now Dump = rw (c.in-Some-Dump.field-0-is) at c.in-Some-Dump.ensures.form in
+    let document : chars c.as_str.result.now ≡ word c.args.words.now 1 =
+    word_read c.args.words.now 1 3 c.index-words-1.result _ (dump_long c.args.words.now is) (lit< tt) c.index-words-1.is c.as_str.ensures.characters in
+    let sheet : chars c.as_str-in-Some-Dump.result.now ≡ word c.args.words.now 2 =
+    word_read c.args.words.now 2 3 c.index-words-2.result _ (dump_long c.args.words.now is) (lit< tt) c.index-words-2.is c.as_str-in-Some-Dump.ensures.characters in
+    let most = c.dump.ensures.steps files readings.document told (rw (document, sheet) reads.document) in
+    omega (arith, most, steps_dump c.args.words.now readings.document readings.form is reads.form)
 
 pub returns-in-None-clause-told : goal.returns-in-None-clause-told
 returns-in-None-clause-told g c files readings told reads =

@@ -1,16 +1,13 @@
 use Rattle.std.proofs.Common.{◌≡◌, ◌∙◌, ap, refl, sym, w32}
 use Rattle.std.proofs.lemmas.Int.{to_z-of_z}
-use Rattle.std.specs.Prelude.{Ok}
 use Rattle.std.specs.Str.{chars}
 use Rattle.definitions.specs.CounterStyles.{finished_styles}
 use Rattle.css_reader.specs.Sheets.{sheet as sheet_of}
 use Rattle.plain_types.specs.declared.style_ref.StyleRef.TheVariants.{Name}
 use Rattle.table_text.specs.Rows.{rows, values_between}
-use Rattle.marker_cli.specs.declared.status.FileAt.TheVariants.{Word}
 use Rattle.marker_cli.specs.declared.status.Status.TheVariants as status
 use Rattle.marker_cli.specs.Ends.{ended}
 use Rattle.marker_cli.specs.Output.{ends, writes}
-use Rattle.marker_cli.specs.Turns.{text_in}
 use Rattle.marker_cli.proofs.EndsLemmas.{at_same, at_start, at_text, ended_is, ends_no_memory, ends_no_text, ends_put, ends_stopped}
 use Rattle.marker_cli.proofs.ReadingLemmas.{put_not_reading, table-done, table-sheet, table_as}
 use Rattle.marker_cli.proofs.table.table.Goals as goal
@@ -47,3 +44,6 @@ returns-clause-told g c files told =
 pub returns-clause-turns : goal.returns-clause-turns
 returns-clause-turns g c files told =
     table-done _ _ _ (c.in_ok-text.text, c.in_ok-text.ensures.told files told) (put_not_reading _ c.put_values.result c.put_values.ensures.cause)
+
+pub returns-in_err-text-clause-built : goal.returns-in_err-text-clause-built
+returns-in_err-text-clause-built g c is = c.in_err-text.ensures.built (sym (ended_is c.from_residual.result c.from_residual.ensures) ∙ is)

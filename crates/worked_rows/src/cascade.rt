@@ -1,0 +1,212 @@
+//! The cascade over the texts of documents and sheets, worked out by hand.
+
+ghost use Rattle.std.specs.Prelude.{◌≡◌, ◌<◌};
+
+use css_reader::sheet::read_sheet;
+use mini_cascade::agent_sheet::AGENT_SHEET;
+use mini_cascade::style_of::style_of;
+use node_arena::arena::{Arena, has_element_root};
+use plain_types::content::Content;
+use plain_types::memory::Memory;
+use plain_types::sheet::Sheet;
+use plain_types::style::{Display, ElementStyle, ListType};
+use plain_types::style_ref::StyleRef;
+use plain_types::text::Text;
+use selector_match::matching::matches;
+use std::alloc::Global;
+use std::marker::Brand;
+use std::sync::ledger::{Blank, Ledger};
+use std::test::Fail;
+use steps::Steps;
+use xhtml_reader::fault::DocFault;
+use xhtml_reader::read_document;
+
+/// A document in which each element has one child at most, a sheet, and the style of the innermost element.
+type Styled = (&'static str, &'static str, &'static str);
+
+/// The rules of the user agent.
+static AGENT: [Styled; 15] = [
+    ("<p hidden=\"\"/>", "", "none disc"),
+    ("<head><title/></head>", "", "none disc"),
+    ("<p/>", "", "plain disc"),
+    ("<li/>", "", "list-item disc"),
+    ("<ol/>", "", "plain list-item 0 decimal"),
+    ("<ul/>", "", "plain list-item 0 disc"),
+    ("<menu/>", "", "plain list-item 0 disc"),
+    ("<dir/>", "", "plain list-item 0 disc"),
+    ("<ol><li/></ol>", "", "list-item decimal"),
+    ("<ol><ul/></ol>", "", "plain list-item 0 circle"),
+    ("<ul><li><menu/></li></ul>", "", "plain list-item 0 circle"),
+    ("<ul><ol/></ul>", "", "plain list-item 0 decimal"),
+    ("<ul><ol><dir/></ol></ul>", "", "plain list-item 0 square"),
+    (
+        "<ul><dir><menu><ol/></menu></dir></ul>",
+        "",
+        "plain list-item 0 decimal",
+    ),
+    ("<q/>", "", "plain disc ::before ::after"),
+];
+
+/// Attributes of lists, and sheets of authors.
+static AUTHORS: [Styled; 3] = [
+    ("<ol start=\"3\"/>", "", "plain list-item 2 decimal"),
+    (
+        "<ol start=\"3\"/>",
+        "ol{counter-reset:list-item 7}",
+        "plain list-item 7 decimal",
+    ),
+    (
+        "<ul type=\"Square\"/>",
+        "ul{quotes:none}",
+        "plain list-item 0 square",
+    ),
+];
+
+/// Selectors, and whether they match the first and the second `p` in `<div><p class="a"/><p/></div>`.
+static SELECTED: [(&str, bool, bool); 4] = [
+    ("p:last-child{}", false, true),
+    ("div > p + p{}", false, true),
+    (".a ~ p{}", false, true),
+    ("p:nth-child(-n+1){}", true, false),
+];
+
+/// The document in an arena; none where the text is no document.
+pub fn arena_of(alloc: Global, text: &str) -> Result<Option<Arena>, Memory> {
+    match read_document(alloc, text) {
+        Ok(tree) if has_element_root(&tree) => Ok(Some(Arena::from_tree(alloc, &tree)?)),
+        Ok(_) => Ok(None),
+        Err(DocFault::Malformed { line: _, column: _ }) => Ok(None),
+        Err(DocFault::Memory) => Err(Memory),
+    }
+}
+
+/// The style of the innermost element.
+fn innermost_style<L: Ledger>(
+    alloc: Global,
+    arena: &Arena,
+    agent: &Sheet,
+    author: &Sheet,
+    steps: &mut Steps<L>,
+) -> Result<ElementStyle, Memory> {
+    let mut at = arena.root();
+    let mut style = style_of(alloc, arena, agent, author, None, at, steps)?;
+    'down: for _level in 0..4 {
+        if let Some(child) = arena.child(at, 0) {
+            style = style_of(alloc, arena, agent, author, Some(&style.own), child, steps)?;
+            at = child;
+        }
+    }
+    Ok(style)
+}
+
+/// `display`, the counters that are reset, `list-style-type`, and which pseudo-elements have content.
+fn shown(alloc: Global, style: &ElementStyle) -> Result<Text, Memory> {
+    let display = match style.own.display {
+        Display::Absent => "none",
+        Display::ListItem => "list-item",
+        Display::Plain => "plain",
+    };
+    let mut out = Text::from_str(alloc, display)?;
+    for reset in style.own.resets.as_slice() {
+        out.push(' ')?;
+        out.push_str(reset.name.as_str())?;
+        if let Some(value) = reset.value {
+            out.push_str(format!(in alloc; " {value}")?.as_str())?;
+        }
+    }
+    if let ListType::Style(StyleRef::Name(name)) = &style.own.list_type {
+        out.push(' ')?;
+        out.push_str(name.as_str())?;
+    }
+    if matches!(&style.before.content, Content::Items(_)) {
+        out.push_str(" ::before")?;
+    }
+    if matches!(&style.after.content, Content::Items(_)) {
+        out.push_str(" ::after")?;
+    }
+    Ok(out)
+}
+
+/// The style of the innermost element under the user agent's sheet and the author's.
+fn shown_style<L: Ledger>(
+    rt: &HostRuntime,
+    blank: Blank,
+    arena: &Arena,
+    author: &Sheet,
+) -> Result<Text, Memory>
+    requires name { blank.name ≡ L.name }
+    requires parts { blank.parts ≡ L.parts }
+    requires some { 0 < L.parts }
+{
+    let alloc = rt.alloc();
+    let mut steps = Steps::<L>::open(rt, blank);
+    let agent = read_sheet(alloc, AGENT_SHEET)?;
+    let style = innermost_style(alloc, arena, &agent, author, &mut steps)?;
+    shown(alloc, &style)
+}
+
+/// Whether the innermost element has this style.
+fn is_styled(
+    rt: &HostRuntime,
+    document: &str,
+    sheet: &str,
+    expected: &str,
+) -> Result<bool, Memory> {
+    let Some(arena) = arena_of(rt.alloc(), document)? else {
+        return Ok(false);
+    };
+    let author = read_sheet(rt.alloc(), sheet)?;
+    let shown = shown_style::<Brand>(rt, Blank::new(1), &arena, &author)?;
+    Ok(shown.as_str() == expected)
+}
+
+/// The place of the first row with another style; none where each is as it says.
+fn first_wrong(rt: &HostRuntime, table: &[Styled]) -> Result<Option<usize>, Memory> {
+    for (place, (document, sheet, expected)) in table.iter().enumerate() {
+        if !is_styled(rt, document, sheet, expected)? {
+            return Ok(Some(place));
+        }
+    }
+    Ok(None)
+}
+
+/// Whether the sheet's first selector matches the root's child of this place.
+fn selects(arena: &Arena, sheet: &Sheet, place: usize) -> bool {
+    let Some(key) = arena.child(arena.root(), place) else {
+        return false;
+    };
+    let Some(rule) = sheet.rules.as_slice().first() else {
+        return false;
+    };
+    match rule.selectors.as_slice().first() {
+        Some(selector) => matches(arena, key, selector),
+        None => false,
+    }
+}
+
+#[test]
+fn the_user_agent_has_nine_rules(rt: HostRuntime) -> Result<(), Fail> {
+    let sheet = read_sheet(rt.alloc(), AGENT_SHEET)?;
+    assert_eq!(rt; sheet.rules.len(), 9);
+    assert!(rt; sheet.styles.is_empty());
+    assert_eq!(rt; first_wrong(&rt, &AGENT)?, None);
+    Ok(())
+}
+
+#[test]
+fn authors_and_attributes_style_lists(rt: HostRuntime) -> Result<(), Fail> {
+    assert_eq!(rt; first_wrong(&rt, &AUTHORS)?, None);
+    Ok(())
+}
+
+#[test]
+fn selectors_match(rt: HostRuntime) -> Result<(), Fail> {
+    let alloc = rt.alloc();
+    let arena = arena_of(alloc, "<div><p class=\"a\"/><p/></div>")?.ok_or("no document")?;
+    for (selector, first, second) in SELECTED {
+        let sheet = read_sheet(alloc, selector)?;
+        assert!(rt; selects(&arena, &sheet, 0) == first);
+        assert!(rt; selects(&arena, &sheet, 1) == second);
+    }
+    Ok(())
+}
