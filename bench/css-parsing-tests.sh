@@ -1,7 +1,7 @@
 #!/usr/bin/env bash
-# Compares our tokens with the public suite of CSS parsing tests, on which tinycss2 and Servo's cssparser
-# stand too: its lists of component values, as Debian's python-tinycss2-common carries them. The package is
-# unpacked in a folder of its own and not installed. It ends with status 1 where a case differs.
+# Compares our tokens, rules and declarations with the public suite of CSS parsing tests, on which tinycss2 and
+# Servo's cssparser stand too, as Debian's python-tinycss2-common carries it. The package is unpacked in a
+# folder of its own and not installed. It ends with status 1 where a case differs.
 #   bench/css-parsing-tests.sh [FOLDER]      with the suite's JSON in this folder, nothing is fetched
 set -eu
 here=$(cd "$(dirname "$0")/.." && pwd)

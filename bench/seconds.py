@@ -18,6 +18,16 @@ def seconds(*words, runs=3, statuses=(0,), most=None):
     return best
 
 
+def peak_mebibytes(*words, statuses=(0,)):
+    """The most memory that a run of this command holds at once, in MiB."""
+    process = subprocess.Popen(words, stdout=subprocess.DEVNULL, stderr=subprocess.DEVNULL)
+    _, status, usage = os.wait4(process.pid, 0)
+    process.returncode = os.waitstatus_to_exitcode(status)
+    if process.returncode not in statuses:
+        raise SystemExit(f"{' '.join(words)[:200]}: status {process.returncode}")
+    return usage.ru_maxrss / 1024
+
+
 def one_run(words, statuses, most):
     process = subprocess.Popen(words, stdout=subprocess.DEVNULL, stderr=subprocess.DEVNULL)
     last = None if most is None else time.monotonic() + most
