@@ -16,5 +16,4 @@ pub mod SheetCharacters
 pub mod SheetText
 pub mod Spelling
 pub mod Texts
-pub mod Thin
 pub mod Words

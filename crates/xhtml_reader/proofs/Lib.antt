@@ -8,8 +8,6 @@ pub mod Nodes
 pub mod Texts
 pub mod Keeps
 pub mod Advances
-pub mod Words
-pub mod ThinTrees
 pub mod Lines
 pub mod Prepares
 pub mod Names

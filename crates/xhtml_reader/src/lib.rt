@@ -29,7 +29,6 @@ mod prepare;
 mod read;
 #[cfg(test)]
 mod tests;
-mod thin;
 
 ghost use Rattle.std.specs.Prelude.{IfErr, IfOk};
 ghost use Rattle.std.specs.Str.{chars};
@@ -44,7 +43,6 @@ use plain_types::tree::Tree;
 pub use prepare::without_mark;
 use read::read;
 use std::alloc::Global;
-pub use thin::is_thin;
 
 /// The tree of a document, in time and memory linear in the text.
 ///
