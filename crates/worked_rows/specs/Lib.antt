@@ -1,1 +1,1 @@
-pub mod References
+pub mod Listed

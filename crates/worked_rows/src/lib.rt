@@ -1,6 +1,6 @@
 //! Whole runs over memory, and layers together over texts, as tables.
 //!
-//! The crate has tests alone: runs of `marker_cli::run` over files in memory, each with the words, the
+//! The crate has tests, and the list of elements that those on references ask: runs of `marker_cli::run` over files in memory, each with the words, the
 //! files, and what must come out on both sinks and as code; styles of elements (`cascade`), and what comes of
 //! an element's boxes (`evaluation`), each from the texts of a document and a sheet. Their expected values are
 //! worked out by hand from the rules in docs/, those of predefined counter styles are the standard's. Beside
@@ -17,6 +17,7 @@ mod dumps;
 mod engines;
 #[cfg(test)]
 mod evaluation;
+pub mod listed;
 #[cfg(test)]
 mod predefined;
 #[cfg(test)]

@@ -5,7 +5,7 @@ use Rattle.std.specs.Str.{bytes_eq}
 use Rattle.plain_types.specs.declared.content.Part.{Part}
 use Rattle.plain_types.specs.declared.content.Part.TheVariants.{Content, Before, After}
 use Rattle.content_eval.specs.Targets.{Known}
-use Rattle.worked_rows.specs.declared.references.Target.{Target}
+use Rattle.worked_rows.specs.declared.listed.Target.{Target}
 
 abbrev pub has_id : List ℕ → Target → Bool
 has_id id target = bytes_eq id target.id

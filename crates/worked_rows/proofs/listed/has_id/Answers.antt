@@ -1,7 +1,7 @@
 use Rattle.std.proofs.Common.{ap, ◌∙◌}
 use Rattle.std.specs.Str.{bytes_eq, chars}
 use Rattle.plain_types.proofs.TextLemmas.{bytes_eq-chars}
-use Rattle.worked_rows.proofs.references.has_id.Goals as goal
+use Rattle.worked_rows.proofs.listed.has_id.Goals as goal
 
 pub returns : goal.returns
 returns c = record {
