@@ -24,6 +24,8 @@ mod references;
 #[cfg(test)]
 mod rows;
 #[cfg(test)]
+mod scripts;
+#[cfg(test)]
 mod starts;
 #[cfg(test)]
 mod tables;
