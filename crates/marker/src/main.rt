@@ -65,7 +65,7 @@ fn run_words<L: Ledger>(rt: &HostRuntime, blank: Blank) -> Status
         (Err(status), _) => status,
         (_, Err(_)) => Status::Memory,
     };
-    report(&[], status, &mut err);
+    report(&[], &[], status, &mut err);
     status
 }
 

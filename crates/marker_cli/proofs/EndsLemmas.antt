@@ -168,8 +168,8 @@ caused_within U R L W (ReadFault file) within = absurd within
 caused_within U R L W (status.TooLarge file) within = absurd within
 caused_within U R L W (status.NotUtf8 file offset) within = tt
 caused_within U R L W (status.BadDocument line column) within = tt
+caused_within U R L W (status.BadScript number) within = tt
 caused_within U R L W WriteFault within = absurd within
-caused_within U R L W status.NotYet within = tt
 
 pub caused_as : (U R L W : Type 0) {status told : Status} → told ≡ status → IsCaused U R L W status → IsCaused U R L W told
 caused_as U R L W same cause = subst (λ s. IsCaused U R L W s) (sym same) cause

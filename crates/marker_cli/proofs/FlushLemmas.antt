@@ -2,11 +2,11 @@
 use Rattle.std.proofs.Common.{◌≡◌, ℕ, ◌≤◌, List, Option, arith, refl, sym, ◌∙◌, subst, inl, inr, ◌⊎◌}
 use Rattle.ports.specs.Causes.{Rose}
 use Rattle.ports.proofs.GrownLemmas.{front_whole}
-use Rattle.marker_cli.specs.declared.status.FileAt.{FileAt}
 use Rattle.marker_cli.specs.declared.status.Status.{Status}
-use Rattle.marker_cli.specs.declared.status.Status.TheVariants.{Memory, NotYet, ReadFault, Usage, WriteFault}
+use Rattle.marker_cli.specs.declared.status.Status.TheVariants.{WriteFault}
 use Rattle.marker_cli.specs.declared.status.Status.TheVariants as status
 use Rattle.marker_cli.specs.Ends.{EndsAs, IsCaused, whole, no_memory, not_written, not_read}
+use Rattle.marker_cli.specs.Names.{TellsOfLine}
 use Rattle.marker_cli.specs.Output.{Output, bytes_of}
 use Rattle.marker_cli.proofs.EndsLemmas.{ends_same, ends_weaker}
 
@@ -39,14 +39,9 @@ pub stays : (V : Type 0) (outcome told other : Status) → Flushed V outcome tol
 stays V outcome told other (inl same) is differs = same ∙ is
 stays V outcome told other (inr failed) is differs = absurd (differs (sym failed.0 ∙ is))
 
-pub still_missing : (V : Type 0) (outcome told : Status) (file : FileAt) → Flushed V outcome told → (outcome ≡ Memory) ⊎ (outcome ≡ ReadFault file)
-    → (told ≡ Memory) ⊎ (told ≡ ReadFault file)
-still_missing V outcome told file flushed (inl is) = inl (stays V outcome told Memory flushed is (λ e. cc e))
-still_missing V outcome told file flushed (inr is) = inr (stays V outcome told (ReadFault file) flushed is (λ e. cc e))
-
-pub had_no_output : (V : Type 0) (outcome told : Status) → Flushed V outcome told → (told ≡ Usage) ⊎ (told ≡ NotYet) → (outcome ≡ Usage) ⊎ (outcome ≡ NotYet)
-had_no_output V outcome told flushed (inl is) = inl (was_before V outcome told Usage flushed is (λ e. cc e))
-had_no_output V outcome told flushed (inr is) = inr (was_before V outcome told NotYet flushed is (λ e. cc e))
+pub tells_before : (V : Type 0) (outcome told : Status) → Flushed V outcome told → TellsOfLine told → TellsOfLine outcome
+tells_before V outcome told (inl same) tells = subst TellsOfLine same tells
+tells_before V outcome told (inr failed) tells = absurd (subst TellsOfLine failed.1 tells)
 
 -- a failed write, or a failed flush
 pub write_rose : (U R L : Type 0) (before now after : ℕ) (outcome told : Status) → before ≤ now → now ≤ after → IsCaused U R L (Rose before now) outcome

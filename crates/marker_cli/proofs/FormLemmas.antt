@@ -40,6 +40,12 @@ module _ (words : List (List ℕ)) where
   only_dump P (Table from to) is other go = other_length (codes "dump") (codes "table") 3 5 words is other.0 (λ e. cc e)
   only_dump P (Gen seed count) is other go = dump_not_gen words is other.0
 
+  pub only_edit : (P : Type 0) (form : Form) → IsTrue (is_command (codes "edit") 4 words) → IsForm words form → (form ≡ Edit → P) → P
+  only_edit P Dump is other go = other_length (codes "dump") (codes "edit") 3 4 words other is (λ e. cc e)
+  only_edit P Edit is other go = go refl
+  only_edit P (Table from to) is other go = other_length (codes "edit") (codes "table") 4 5 words is other.0 (λ e. cc e)
+  only_edit P (Gen seed count) is other go = other_length (codes "edit") (codes "gen") 4 3 words is other.0 (λ e. cc e)
+
   pub table_none : IsTrue (is_command (codes "table") 5 words) → ((from to : ℤ) → IsTable words from to → ⊥) → (form : Form) → IsForm words form → ⊥
   table_none is none Dump other = other_length (codes "dump") (codes "table") 3 5 words other is (λ e. cc e)
   table_none is none Edit other = other_length (codes "edit") (codes "table") 4 5 words other is (λ e. cc e)
@@ -102,3 +108,23 @@ only_table words P from to (Table first last) is other go = go (λ i. Table (sam
     same_to : last ≡ to
     same_to = one_integer (word words 4) to last is.1.to_fits other.1.to_fits is.1.to_written other.1.to_written
 only_table words P from to (Gen seed count) is other go = other_length (codes "gen") (codes "table") 3 5 words other.0 is.0 (λ e. cc e)
+
+-- a made-up run excludes the other forms, and has one pair of numbers
+pub only_gen : (words : List (List ℕ)) (P : Type 0) (seed count : ℕ) (form : Form) → IsForm words (Gen seed count) → IsForm words form → (form ≡ Gen seed count → P) → P
+only_gen words P seed count Dump is other go = dump_not_gen words other is.0
+only_gen words P seed count Edit is other go = other_length (codes "edit") (codes "gen") 4 3 words other is.0 (λ e. cc e)
+only_gen words P seed count (Table from to) is other go = other_length (codes "table") (codes "gen") 5 3 words other.0 is.0 (λ e. cc e)
+only_gen words P seed count (Gen first number) is other go = go (λ i. Gen (same_seed i) (same_count i))
+  where
+    same_seed : first ≡ seed
+    same_seed = let low = is.1.run in let high = other.1.run in one_natural (word words 1) seed first (omega (arith, low.0)) (omega (arith, high.0)) is.1.seed_written other.1.seed_written
+
+    same_count : number ≡ count
+    same_count = let low = is.1.run in let high = other.1.run in one_natural (word words 2) count number (omega (arith, low.2)) (omega (arith, high.2)) is.1.count_written other.1.count_written
+
+-- words are of one form at most
+pub one_form : (words : List (List ℕ)) (form other : Form) → IsForm words form → IsForm words other → other ≡ form
+one_form words Dump other is reads = only_dump words (other ≡ Dump) other is reads (λ same. same)
+one_form words Edit other is reads = only_edit words (other ≡ Edit) other is reads (λ same. same)
+one_form words (Table from to) other is reads = only_table words (other ≡ Table from to) from to other is reads (λ same. same)
+one_form words (Gen seed count) other is reads = only_gen words (other ≡ Gen seed count) seed count other is reads (λ same. same)

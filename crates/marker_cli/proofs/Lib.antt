@@ -2,8 +2,9 @@ pub mod EndsLemmas
 mod FlushLemmas
 mod FormLemmas
 mod LineLemmas
-mod NameLemmas
-mod ReadingLemmas
 mod RunLemmas
 mod TextLemmas
 mod TreeLemmas
+mod TurnLemmas
+mod GeneratedLemmas
+mod PlayLemmas

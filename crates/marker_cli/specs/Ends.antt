@@ -38,8 +38,8 @@ IsCaused usage read large write (ReadFault file) = read
 IsCaused usage read large write (status.TooLarge file) = large
 IsCaused usage read large write (status.NotUtf8 file offset) = Unit {0}
 IsCaused usage read large write (status.BadDocument line column) = Unit {0}
+IsCaused usage read large write (status.BadScript number) = Unit {0}
 IsCaused usage read large write WriteFault = write
-IsCaused usage read large write status.NotYet = Unit {0}
 
 -- what a part that has no cause outside the program may answer: its value or its refusal, or Memory
 abbrev pub Gives : {A : Type 0} → Result A Status → Result A Status → Type 0

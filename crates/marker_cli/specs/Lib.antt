@@ -1,6 +1,9 @@
 pub mod Dump
+pub mod Edit
 pub mod Ends
+pub mod Generated
 pub mod Lines
+pub mod Names
 pub mod Output
 pub mod Run
 pub mod Stands

@@ -1,12 +1,13 @@
 -- The line that tells a status (our own).
 use Rattle.std.specs.Prelude.{◌≡◌, ℕ, List, [], ◌++◌, Option, codes, encode_utf8_all}
 use Rattle.std.specs.Fmt.{decimal}
+use Rattle.edit_script.specs.declared.command.Command.{Command}
 use Rattle.ports.specs.Grown.{grown, GrowsByFront}
 use Rattle.marker_cli.specs.declared.status.FileAt.{FileAt}
 use Rattle.marker_cli.specs.declared.status.FileAt.TheVariants.{Word}
 use Rattle.marker_cli.specs.declared.status.Status.{Status}
 use Rattle.marker_cli.specs.declared.status.Status.TheVariants as status
-use Rattle.marker_cli.specs.Run.{name_at}
+use Rattle.marker_cli.specs.Names.{name_at}
 
 -- the number with which the program exits
 abbrev pub code_of : Status → ℕ
@@ -17,24 +18,25 @@ code_of (status.ReadFault file) = 3
 code_of (status.TooLarge file) = 4
 code_of (status.NotUtf8 file offset) = 5
 code_of (status.BadDocument line column) = 6
+code_of (status.BadScript number) = 7
 code_of status.WriteFault = 8
-code_of status.NotYet = 9
 
 -- a line about a file
-abbrev pub about : List (List ℕ) → FileAt → List ℕ → List ℕ
-about words file what = codes "marker: " ++ (encode_utf8_all (name_at words file) ++ what)
+abbrev pub about : List (List ℕ) → List Command → FileAt → List ℕ → List ℕ
+about words commands file what = codes "marker: " ++ (encode_utf8_all (name_at words commands file) ++ what)
 
--- the bytes of the line; Ok has none
-abbrev pub message : List (List ℕ) → Status → List ℕ
-message words status.Ok = []
-message words status.Memory = codes "marker: out of memory\n"
-message words status.Usage = codes "marker: usage: dump DOC SHEET | edit DOC SHEET SCRIPT | table SHEET STYLE FROM TO | gen SEED COUNT\n"
-message words (status.ReadFault file) = about words file (codes ": read failed\n")
-message words (status.TooLarge file) = about words file (codes ": larger than 16777216 bytes\n")
-message words (status.NotUtf8 file offset) = about words file (codes ": not UTF-8 at " ++ (decimal offset ++ codes "\n"))
-message words (status.BadDocument row column) = about words (Word 1) (codes ":" ++ ((decimal row ++ codes ":") ++ (decimal column ++ codes ": not well-formed\n")))
-message words status.WriteFault = codes "marker: write failed\n"
-message words status.NotYet = codes "marker: not yet\n"
+-- The bytes of the line; Ok has none. The commands of the script have the names of the files of its lines.
+abbrev pub message : List (List ℕ) → List Command → Status → List ℕ
+message words commands status.Ok = []
+message words commands status.Memory = codes "marker: out of memory\n"
+message words commands status.Usage = codes "marker: usage: dump DOC SHEET | edit DOC SHEET SCRIPT | table SHEET STYLE FROM TO | gen SEED COUNT\n"
+message words commands (status.ReadFault file) = about words commands file (codes ": read failed\n")
+message words commands (status.TooLarge file) = about words commands file (codes ": larger than 16777216 bytes\n")
+message words commands (status.NotUtf8 file offset) = about words commands file (codes ": not UTF-8 at " ++ (decimal offset ++ codes "\n"))
+message words commands (status.BadDocument row column) =
+    about words commands (Word 1) (codes ":" ++ ((decimal row ++ codes ":") ++ (decimal column ++ codes ": not well-formed\n")))
+message words commands (status.BadScript number) = about words commands (Word 3) (codes ":" ++ (decimal number ++ codes ": bad line\n"))
+message words commands status.WriteFault = codes "marker: write failed\n"
 
 -- all of the bytes went out, or a front of them where a call failed
 pub data GoesOut (failed : Type 0) (before now : Option (List ℕ)) (bytes : List ℕ) : Type 0 where

@@ -1,14 +1,11 @@
 -- The command `table SHEET STYLE FROM TO` (our own).
-use Rattle.std.specs.Prelude.{◌≡◌, ◌⊎◌, ℕ, ℤ, Bool, IsTrue, List, Option, None}
+use Rattle.std.specs.Prelude.{ℕ, ℤ, List}
 use Rattle.css_reader.specs.Sheets.{sheet as sheet_of}
 use Rattle.definitions.specs.CounterStyles.{finished_styles}
 use Rattle.plain_types.specs.declared.style_ref.StyleRef.TheVariants.{Name}
 use Rattle.ports.specs.Files.{Files}
 use Rattle.table_text.specs.Rows.{rows, values_between}
-use Rattle.marker_cli.specs.declared.status.FileAt.{FileAt}
 use Rattle.marker_cli.specs.declared.status.FileAt.TheVariants.{Word}
-use Rattle.marker_cli.specs.declared.status.Status.{Status}
-use Rattle.marker_cli.specs.declared.status.Status.TheVariants.{Memory, ReadFault}
 use Rattle.marker_cli.specs.declared.status.Status.TheVariants as status
 use Rattle.marker_cli.specs.Output.{Output, ends, writes}
 use Rattle.marker_cli.specs.Turns.{with_text}
@@ -19,8 +16,3 @@ abbrev pub table_output : Files → (sheet style : List ℕ) → (from to : ℤ)
 table_output files sheet style from to =
     with_text files (Word 1) sheet (λ text.
     writes (rows (finished_styles (sheet_of text).styles) (Name style) (values_between from to)) (ends status.Ok))
-
--- a failed read ends a table so: over an honest shelf exactly where SHEET isn't held, or memory was wanting
-pub record EndsTable (honest : Bool) (sheet : Option (List ℕ)) (status : Status) : Type 0 where
-  pub at : (file : FileAt) → status ≡ ReadFault file → (file ≡ Word 1) × (IsTrue honest → sheet ≡ None)
-  pub no_sheet : IsTrue honest → sheet ≡ None → (status ≡ Memory) ⊎ (status ≡ ReadFault (Word 1))

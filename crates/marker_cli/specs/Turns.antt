@@ -17,10 +17,6 @@ abbrev pub text_in : FileAt → Option (List ℕ) → Result (List ℕ) Status
 text_in file None = Err (ReadFault file)
 text_in file (Some bytes) = if nat_lt 16777216 (length bytes) then Err (TooLarge file) else text_of file bytes
 
--- the file has a text
-abbrev pub HasText : FileAt → Option (List ℕ) → Type 0
-HasText file held = (text : List ℕ) × (text_in file held ≡ Ok text)
-
 -- the turn of the file of this name comes, and then what follows for its text
 abbrev pub with_text : Files → FileAt → List ℕ → (List ℕ → Output) → Output
 with_text files file name next = turn file (goes_on (text_in file (files name)) next)

@@ -1,6 +1,6 @@
 //! The command `dump DOC SHEET`.
 
-ghost use Rattle.std.specs.Prelude.{◌≡◌, ◌≢◌, ◌≤◌, ◌+◌, ◌*◌, ◌⊎◌, Some, IfOk, IfErr, OnOk, OnErr};
+ghost use Rattle.std.specs.Prelude.{◌≡◌, ◌≤◌, ◌+◌, ◌*◌, ◌⊎◌, Some, IfErr, OnOk, OnErr};
 ghost use Rattle.std.specs.Str.{chars};
 ghost use Rattle.forest.specs.Forest.{size};
 ghost use Rattle.generated_texts.specs.Lines.{fresh_dump};
@@ -8,39 +8,22 @@ ghost use Rattle.node_arena.specs.Document.{HasElementRoot};
 ghost use Rattle.ports.specs.Causes.{Rose, RoseAbove};
 ghost use Rattle.ports.specs.Files.{Files};
 ghost use Rattle.ports.specs.Grown.{grown, GrowsByFront};
-ghost use Rattle.marker_cli.specs.Dump.{DocumentReadsAs, EndsReading, Reading, ReadsAs, dump_output, most_steps, tree_of};
-ghost use Rattle.marker_cli.specs.Ends.{EndsAs, Gives, IsCaused, ReadsFailed, ended};
+ghost use Rattle.marker_cli.specs.Dump.{DocumentReadsAs, Reading, dump_output, most_steps};
+ghost use Rattle.marker_cli.specs.Ends.{EndsAs, IsCaused, ReadsFailed, ended};
+ghost use Rattle.marker_cli.specs.Names.{TellsOfLine};
 ghost use Rattle.marker_cli.specs.declared.status.Status.TheVariants as status;
 
 use crate::fetch_text::fetch_text;
+use crate::read_texts::read_tree;
+use crate::show::show;
 use crate::status::{FileAt, Status};
 use marker_engine::engine::Engine;
-use marker_engine::show_fault::ShowFault;
 use plain_types::tree::Tree;
 use ports::shelf::Shelf;
 use ports::sink::Sink;
 use std::alloc::Global;
 use std::sync::ledger::Ledger;
 use steps::Steps;
-use xhtml_reader::fault::DocFault;
-use xhtml_reader::laws::one_document_tree;
-use xhtml_reader::read_document;
-
-/// The tree of a document.
-fn read_tree(alloc: Global, text: &str) -> Result<Tree, Status>
-    ensures tree { (reading : Reading) → ReadsAs (chars text.now) reading → Gives (tree_of reading) result }
-    ensures element { IfOk result HasElementRoot }
-    ensures cause { IsCaused ⊥ ⊥ ⊥ ⊥ (ended result) }
-    ensures built { ended result ≢ status.NotYet }
-{
-    // A text has one tree: so the outcome is the one that the text has.
-    one_document_tree();
-    match read_document(alloc, text) {
-        Ok(tree) => Ok(tree),
-        Err(DocFault::Malformed { line, column }) => Err(Status::BadDocument { line, column }),
-        Err(DocFault::Memory) => Err(Status::Memory),
-    }
-}
 
 /// Puts the dump of a document, whose root is an element, under the sheet of this text.
 fn put_dump<O: Sink, L: Ledger>(
@@ -58,11 +41,7 @@ fn put_dump<O: Sink, L: Ledger>(
     ensures steps { steps.new ≤ steps.old + 6 * size tree }
 {
     let engine = Engine::start(alloc, tree, sheet, steps)?;
-    match engine.show(alloc, out, steps) {
-        Ok(()) => Ok(()),
-        Err(ShowFault::WriteFault) => Err(Status::WriteFault),
-        Err(ShowFault::Memory) => Err(Status::Memory),
-    }
+    show(alloc, &engine, out, steps)
 }
 
 /// Writes the dump of the document of this name under the sheet of that name.
@@ -80,10 +59,8 @@ pub fn dump<S: Shelf, O: Sink, L: Ledger>(
         (dump_output files (chars document.now) (chars sheet.now) reading) (O.out out.old) (O.out out.new) (ended result) }
     ensures cause { IsCaused ⊥ (Rose (S.faults shelf.old) (S.faults shelf.new)) (RoseAbove 16777216 (S.taken shelf.old) (S.taken shelf.new))
         (Rose (O.faults out.old) (O.faults out.new)) (ended result) }
+    ensures file { ¬ (TellsOfLine (ended result)) }
     ensures faults { O.faults out.old ≤ O.faults out.new }
-    ensures built { ended result ≢ status.NotYet }
-    ensures turns { (files : Files) → S.held shelf.old ≡ Some files
-        → EndsReading (S.honest shelf.old) (files (chars document.now)) (files (chars sheet.now)) (ended result) }
     ensures steps { (files : Files) (reading : Reading) → S.held shelf.old ≡ Some files
         → DocumentReadsAs files (chars document.now) (chars sheet.now) reading → steps.new ≤ steps.old + most_steps reading }
 {

@@ -5,21 +5,25 @@
 //! the first sink, and for a status other than Ok a line in the second. `Status::code` is the number with
 //! which the program exits.
 //!
-//! The words are of one of four forms, of which `dump DOC SHEET` is built: DOC is read first, then SHEET,
-//! each checked for its length and for UTF-8, then the document, and then the dump of the document under
-//! the sheet is written. What isn't built yet has the status `NotYet`, with which nothing is written.
+//! The words are of one of four forms. `dump DOC SHEET` writes the dump of a document under a sheet; `edit DOC SHEET
+//! SCRIPT` does the commands of a script with them, each `show` of which writes the dump of what the accepted edits
+//! so far have left; `table SHEET STYLE FROM TO` writes numbers in a counter style; `gen SEED COUNT` does a run that is
+//! made up. Files are read in the order of the words, each checked for its length and for UTF-8, then the document is
+//! read, then the script.
 //!
 //! What a run means is in `specs/`, to be read from the plain to the composed:
 //!
 //! - `Output`: what a run over told files is to do, as a list of events;
 //! - `Words`: which words are of which form;
 //! - `Turns` and `Dump`: the events of `dump DOC SHEET`;
+//! - `Edit`: `play`, the events of commands, and with it those of `edit DOC SHEET SCRIPT`;
+//! - `Table` and `Generated`: those of the other two;
 //! - `Run`: `output`, the events of any words;
 //! - `Ends`: `EndsAs`, how a run may end against its output;
-//! - `Lines`: the line and the code of a status.
+//! - `Names` and `Lines`: the line and the code of a status.
 //!
 //! A text such as DOC reads as one tree or fails at one place, and this is a relation (`ReadsAs`), which no
-//! definition computes. So `output` takes what the words and texts read as, the `Readings`, and the clause
+//! definition computes; so it is with SCRIPT (`ReadsAsScript`). So `output` takes what the words and texts read as, the `Readings`, and the clause
 //! of `run` holds for all that are right where the run comes to read them (`AreReadings`).
 //!
 //! `Stands` says where a run stands between two of its parts. A command that joins has an `.._output` of its
@@ -34,9 +38,15 @@
 #![tactic(auto)]
 
 mod dump;
+mod edit;
 mod fetch_text;
 pub mod form;
+mod generated;
+mod play;
+mod put_number;
+mod read_texts;
 pub mod report;
 pub mod run;
+mod show;
 pub mod status;
 mod table;

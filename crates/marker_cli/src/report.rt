@@ -1,22 +1,50 @@
 //! The line that tells a status.
 
-ghost use Rattle.std.specs.Prelude.{◌≡◌, ◌++◌, OnOk, OnErr, codes, encode_utf8_all};
-ghost use Rattle.std.specs.Fmt.{decimal};
+ghost use Rattle.std.specs.Prelude.{◌≡◌, ◌++◌, OnOk, OnErr, encode_utf8_all};
 ghost use Rattle.ports.specs.Causes.{HasCause, Rose};
 ghost use Rattle.ports.specs.Grown.{grown, GrowsByFront};
 ghost use Rattle.marker_cli.specs.Lines.{GoesOut, about, message};
-ghost use Rattle.marker_cli.specs.Run.{name_at};
+ghost use Rattle.marker_cli.specs.Names.{file_of, name_at, sheet_name};
 ghost use Rattle.marker_cli.specs.declared.status.Status.TheVariants as status;
 
+use crate::put_number::put_number;
 use crate::status::{FileAt, Status};
-use itoa::Buffer;
+use edit_script::action::Action;
+use edit_script::command::Command;
 use plain_types::text::Text;
 use ports::failed::Failed;
 use ports::sink::{Sink, put_all};
 
-fn put_name<E: Sink>(words: &[Text], file: FileAt, err: &mut E) -> Result<(), Failed>
-    ensures ok { OnOk result (E.out err.new ≡ grown (E.out err.old) (encode_utf8_all (name_at words.now file))) }
-    ensures failed { OnErr result (GrowsByFront (E.out err.old) (E.out err.new) (encode_utf8_all (name_at words.now file))) }
+/// The bytes of the name of the file that a command names; of other commands none.
+fn file_of(action: &Action) -> &[u8]
+    ensures { result.now ≡ encode_utf8_all (file_of action.now) }
+{
+    match action {
+        Action::SheetFile(name) => name.as_str().as_bytes(),
+        Action::Change(_) | Action::Show => b"",
+    }
+}
+
+/// The bytes of the name of the file that the line of this number names.
+fn sheet_name(commands: &[Command], number: usize) -> &[u8]
+    ensures { result.now ≡ encode_utf8_all (sheet_name commands.now number) }
+{
+    for command in commands {
+        if command.line == number {
+            return file_of(&command.action);
+        }
+    }
+    b""
+}
+
+fn put_name<E: Sink>(
+    words: &[Text],
+    commands: &[Command],
+    file: FileAt,
+    err: &mut E,
+) -> Result<(), Failed>
+    ensures ok { OnOk result (E.out err.new ≡ grown (E.out err.old) (encode_utf8_all (name_at words.now commands.now file))) }
+    ensures failed { OnErr result (GrowsByFront (E.out err.old) (E.out err.new) (encode_utf8_all (name_at words.now commands.now file))) }
     ensures cause { HasCause (E.faults err.old) (E.faults err.new) result }
 {
     match file {
@@ -24,64 +52,81 @@ fn put_name<E: Sink>(words: &[Text], file: FileAt, err: &mut E) -> Result<(), Fa
             err,
             words[place].as_str().as_bytes(),
         ),
-        _ => put_all(err, b""),
+        FileAt::Word(_) => put_all(err, b""),
+        FileAt::Line(number) => put_all(err, sheet_name(commands, number)),
     }
 }
 
 /// A line about a file.
-fn put_about<E: Sink>(words: &[Text], file: FileAt, what: &[u8], err: &mut E) -> Result<(), Failed>
-    ensures ok { OnOk result (E.out err.new ≡ grown (E.out err.old) (about words.now file what.now)) }
-    ensures failed { OnErr result (GrowsByFront (E.out err.old) (E.out err.new) (about words.now file what.now)) }
+fn put_about<E: Sink>(
+    words: &[Text],
+    commands: &[Command],
+    file: FileAt,
+    what: &[u8],
+    err: &mut E,
+) -> Result<(), Failed>
+    ensures ok { OnOk result (E.out err.new ≡ grown (E.out err.old) (about words.now commands.now file what.now)) }
+    ensures failed { OnErr result (GrowsByFront (E.out err.old) (E.out err.new) (about words.now commands.now file what.now)) }
     ensures cause { HasCause (E.faults err.old) (E.faults err.new) result }
 {
     put_all(err, b"marker: ")?;
-    put_name(words, file, err)?;
-    put_all(err, what)
-}
-
-/// A number, and what follows it.
-fn put_number<E: Sink>(number: usize, what: &[u8], err: &mut E) -> Result<(), Failed>
-    ensures ok { OnOk result (E.out err.new ≡ grown (E.out err.old) (decimal number ++ what.now)) }
-    ensures failed { OnErr result (GrowsByFront (E.out err.old) (E.out err.new) (decimal number ++ what.now)) }
-    ensures cause { HasCause (E.faults err.old) (E.faults err.new) result }
-{
-    let mut buffer = Buffer::new();
-    put_all(err, buffer.format(number).as_bytes())?;
+    put_name(words, commands, file, err)?;
     put_all(err, what)
 }
 
 fn put_not_utf8<E: Sink>(
     words: &[Text],
+    commands: &[Command],
     file: FileAt,
     offset: usize,
     err: &mut E,
 ) -> Result<(), Failed>
-    ensures ok { OnOk result (E.out err.new ≡ grown (E.out err.old) (message words.now (status.NotUtf8 file offset))) }
-    ensures failed { OnErr result (GrowsByFront (E.out err.old) (E.out err.new) (message words.now (status.NotUtf8 file offset))) }
+    ensures ok { OnOk result (E.out err.new ≡ grown (E.out err.old) (message words.now commands.now (status.NotUtf8 file offset))) }
+    ensures failed { OnErr result (GrowsByFront (E.out err.old) (E.out err.new) (message words.now commands.now (status.NotUtf8 file offset))) }
     ensures cause { HasCause (E.faults err.old) (E.faults err.new) result }
 {
-    put_about(words, file, b": not UTF-8 at ", err)?;
+    put_about(words, commands, file, b": not UTF-8 at ", err)?;
     put_number(offset, b"\n", err)
 }
 
 fn put_malformed<E: Sink>(
     words: &[Text],
+    commands: &[Command],
     line: usize,
     column: usize,
     err: &mut E,
 ) -> Result<(), Failed>
-    ensures ok { OnOk result (E.out err.new ≡ grown (E.out err.old) (message words.now (status.BadDocument line column))) }
-    ensures failed { OnErr result (GrowsByFront (E.out err.old) (E.out err.new) (message words.now (status.BadDocument line column))) }
+    ensures ok { OnOk result (E.out err.new ≡ grown (E.out err.old) (message words.now commands.now (status.BadDocument line column))) }
+    ensures failed { OnErr result (GrowsByFront (E.out err.old) (E.out err.new) (message words.now commands.now (status.BadDocument line column))) }
     ensures cause { HasCause (E.faults err.old) (E.faults err.new) result }
 {
-    put_about(words, FileAt::Word(1), b":", err)?;
+    put_about(words, commands, FileAt::Word(1), b":", err)?;
     put_number(line, b":", err)?;
     put_number(column, b": not well-formed\n", err)
 }
 
-fn put_message<E: Sink>(words: &[Text], status: Status, err: &mut E) -> Result<(), Failed>
-    ensures ok { OnOk result (E.out err.new ≡ grown (E.out err.old) (message words.now status)) }
-    ensures failed { OnErr result (GrowsByFront (E.out err.old) (E.out err.new) (message words.now status)) }
+fn put_bad_line<E: Sink>(
+    words: &[Text],
+    commands: &[Command],
+    number: usize,
+    err: &mut E,
+) -> Result<(), Failed>
+    ensures ok { OnOk result (E.out err.new ≡ grown (E.out err.old) (message words.now commands.now (status.BadScript number))) }
+    ensures failed { OnErr result (GrowsByFront (E.out err.old) (E.out err.new) (message words.now commands.now (status.BadScript number))) }
+    ensures cause { HasCause (E.faults err.old) (E.faults err.new) result }
+{
+    put_about(words, commands, FileAt::Word(3), b":", err)?;
+    put_number(number, b": bad line\n", err)
+}
+
+fn put_message<E: Sink>(
+    words: &[Text],
+    commands: &[Command],
+    status: Status,
+    err: &mut E,
+) -> Result<(), Failed>
+    ensures ok { OnOk result (E.out err.new ≡ grown (E.out err.old) (message words.now commands.now status)) }
+    ensures failed { OnErr result (GrowsByFront (E.out err.old) (E.out err.new) (message words.now commands.now status)) }
     ensures cause { HasCause (E.faults err.old) (E.faults err.new) result }
 {
     match status {
@@ -91,23 +136,30 @@ fn put_message<E: Sink>(words: &[Text], status: Status, err: &mut E) -> Result<(
             err,
             b"marker: usage: dump DOC SHEET | edit DOC SHEET SCRIPT | table SHEET STYLE FROM TO | gen SEED COUNT\n",
         ),
-        Status::ReadFault { file } => put_about(words, file, b": read failed\n", err),
+        Status::ReadFault { file } => put_about(words, commands, file, b": read failed\n", err),
         Status::TooLarge { file } => {
-            put_about(words, file, b": larger than 16777216 bytes\n", err)
+            put_about(
+                words,
+                commands,
+                file,
+                b": larger than 16777216 bytes\n",
+                err,
+            )
         }
-        Status::NotUtf8 { file, offset } => put_not_utf8(words, file, offset, err),
-        Status::BadDocument { line, column } => put_malformed(words, line, column, err),
+        Status::NotUtf8 { file, offset } => put_not_utf8(words, commands, file, offset, err),
+        Status::BadDocument { line, column } => put_malformed(words, commands, line, column, err),
+        Status::BadScript { number } => put_bad_line(words, commands, number, err),
         Status::WriteFault => put_all(err, b"marker: write failed\n"),
-        Status::NotYet => put_all(err, b"marker: not yet\n"),
     }
 }
 
-/// Puts the line that tells a person how a run of these words ended; `Ok` has none. Where `err` fails, a
-/// front of the line went out. It takes no memory.
-pub fn report<E: Sink>(words: &[Text], status: Status, err: &mut E)
-    ensures line { GoesOut (Rose (E.faults err.old) (E.faults err.new)) (E.out err.old) (E.out err.new) (message words.now status) }
+/// Puts the line that tells a person how a run of these words ended; `Ok` has none. The commands of the
+/// script, where there is one, have the names of the files of its lines. Where `err` fails, a front of the line
+/// went out. It takes no memory.
+pub fn report<E: Sink>(words: &[Text], commands: &[Command], status: Status, err: &mut E)
+    ensures line { GoesOut (Rose (E.faults err.old) (E.faults err.new)) (E.out err.old) (E.out err.new) (message words.now commands.now status) }
 {
-    if put_message(words, status, err).is_ok() {
+    if put_message(words, commands, status, err).is_ok() {
         let _ = err.flush();
     }
 }

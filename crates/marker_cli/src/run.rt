@@ -1,24 +1,29 @@
 //! A run.
 
-ghost use Rattle.std.specs.Prelude.{◌≡◌, ◌⊎◌, ◌≤◌, ◌+◌, IsTrue, Some, None};
+ghost use Rattle.std.specs.Prelude.{◌≡◌, ◌⊎◌, ◌≤◌, ◌+◌, [], IsTrue, Some, None, Ok};
 ghost use Rattle.ports.specs.Causes.{Rose, RoseAbove};
 ghost use Rattle.ports.specs.Files.{Files};
 ghost use Rattle.ports.specs.Grown.{grown};
+ghost use Rattle.marker_cli.specs.Dump.{most_steps};
 ghost use Rattle.marker_cli.specs.Ends.{EndsAs, IsCaused, ReadsFailed, ended};
 ghost use Rattle.marker_cli.specs.Lines.{GoesOut, message};
 ghost use Rattle.marker_cli.specs.Output.{bytes_of, status_of};
-ghost use Rattle.marker_cli.specs.Run.{AreNotBuilt, AreReadings, HasTurn, IsMissing, IsNotBuilt, Readings, form_steps, name_at, output};
+ghost use Rattle.marker_cli.specs.Names.{TellsOfLine};
+ghost use Rattle.marker_cli.specs.Run.{AreReadings, HasTurn, Readings, TakesNoStep, commands_in, name_in, output};
 ghost use Rattle.marker_cli.specs.Words.{IsForm, ReadsAsForm};
-ghost use Rattle.marker_cli.specs.declared.form.Form.{Form};
 ghost use Rattle.marker_cli.specs.declared.form.Form.TheVariants as forms;
 ghost use Rattle.marker_cli.specs.declared.status.FileAt.{FileAt};
 ghost use Rattle.marker_cli.specs.declared.status.Status.TheVariants as status;
 
 use crate::dump::dump;
+use crate::edit::edit;
 use crate::form::{Form, read_form};
+use crate::generated::generated;
 use crate::report::report;
 use crate::status::Status;
 use crate::table::table;
+use edit_script::command::Command;
+use plain_types::list::List;
 use plain_types::text::Text;
 use ports::shelf::Shelf;
 use ports::sink::Sink;
@@ -35,10 +40,11 @@ fn status_of(outcome: Result<(), Status>) -> Status
     }
 }
 
-/// Does what the words say.
+/// Does what the words say. The commands of a script are left in `commands`.
 fn perform<S: Shelf, O: Sink, L: Ledger>(
     alloc: Global,
     words: &[Text],
+    commands: &mut List<Command>,
     shelf: &mut S,
     out: &mut O,
     steps: &mut Steps<L>,
@@ -46,21 +52,16 @@ fn perform<S: Shelf, O: Sink, L: Ledger>(
     ensures told { (files : Files) (readings : Readings) → S.held shelf.old ≡ Some files → AreReadings words.now files readings
         → EndsAs (ReadsFailed (S.honest shelf.old) (S.faults shelf.old) (S.faults shelf.new)) (Rose (O.faults out.old) (O.faults out.new))
         (output words.now files readings) (O.out out.old) (O.out out.new) result }
-    ensures turn { (files : Files) (file : FileAt) → S.held shelf.old ≡ Some files → result ≡ status.ReadFault file → HasTurn words.now files file }
-    ensures not_held { (files : Files) (file : FileAt) → S.held shelf.old ≡ Some files → IsTrue (S.honest shelf.old)
-        → result ≡ status.ReadFault file → files (name_at words.now file) ≡ None }
-    ensures missing { (files : Files) (file : FileAt) → S.held shelf.old ≡ Some files → IsTrue (S.honest shelf.old)
-        → IsMissing words.now files file → (result ≡ status.Memory) ⊎ (result ≡ status.ReadFault file) }
+    ensures commands { (files : Files) (readings : Readings) → S.held shelf.old ≡ Some files → AreReadings words.now files readings
+        → TellsOfLine result → readings.script ≡ Ok commands.new }
     ensures cause { IsCaused (ReadsAsForm words.now None) (Rose (S.faults shelf.old) (S.faults shelf.new)) (RoseAbove 16777216 (S.taken shelf.old) (S.taken shelf.new))
         (Rose (O.faults out.old) (O.faults out.new)) result }
     ensures faults { O.faults out.old ≤ O.faults out.new }
     ensures no_form { ReadsAsForm words.now None → result ≡ status.Usage }
-    ensures not_built { (form : Form) → IsForm words.now form → IsNotBuilt form → result ≡ status.NotYet }
-    ensures not_yet { result ≡ status.NotYet → AreNotBuilt words.now }
-    ensures no_output { (result ≡ status.Usage) ⊎ (result ≡ status.NotYet) → O.out out.new ≡ O.out out.old }
+    ensures no_output { result ≡ status.Usage → O.out out.new ≡ O.out out.old }
     ensures steps { (files : Files) (readings : Readings) → S.held shelf.old ≡ Some files → AreReadings words.now files readings
-        → steps.new ≤ steps.old + form_steps readings.document readings.form }
-    ensures no_steps { ¬ (IsForm words.now forms.Dump) → steps.new ≡ steps.old }
+        → IsForm words.now forms.Dump → steps.new ≤ steps.old + most_steps readings.document }
+    ensures no_steps { TakesNoStep words.now → steps.new ≡ steps.old }
 {
     match read_form(words) {
         Some(Form::Dump) => status_of(dump(
@@ -71,7 +72,16 @@ fn perform<S: Shelf, O: Sink, L: Ledger>(
             out,
             steps,
         )),
-        Some(Form::Edit) => Status::NotYet,
+        Some(Form::Edit) => status_of(edit(
+            alloc,
+            words[1].as_str(),
+            words[2].as_str(),
+            words[3].as_str(),
+            commands,
+            shelf,
+            out,
+            steps,
+        )),
         Some(Form::Table { from, to }) => status_of(table(
             alloc,
             words[1].as_str(),
@@ -81,7 +91,7 @@ fn perform<S: Shelf, O: Sink, L: Ledger>(
             shelf,
             out,
         )),
-        Some(Form::Gen { .. }) => Status::NotYet,
+        Some(Form::Gen { seed, count }) => status_of(generated(alloc, seed, count, out, steps)),
         None => Status::Usage,
     }
 }
@@ -93,7 +103,7 @@ fn flushed<O: Sink>(outcome: Status, out: &mut O) -> Status
     ensures faults { O.faults out.old ≤ O.faults out.new }
 {
     match outcome {
-        Status::Usage | Status::NotYet => outcome,
+        Status::Usage => outcome,
         Status::Ok => match out.flush() {
             Ok(()) => Status::Ok,
             Err(_) => Status::WriteFault,
@@ -108,11 +118,13 @@ fn flushed<O: Sink>(outcome: Status, out: &mut O) -> Status
 /// Does what the words say, and puts the line of a status other than Ok to `err`.
 ///
 /// The words are the arguments of the program without its name. They are told apart first, then the files
-/// are read in their order, each checked for its length and for UTF-8 before the next one, and then the
-/// document is read. The first status other than Ok ends the run; what was written until then stays. A
-/// fault of `err` changes no status.
+/// are read in their order, each checked for its length and for UTF-8 before the next one, then the document is
+/// read, and then the script; its commands are done in their order, and the file of a `sheet` line is read when
+/// that line is done. The first status other than Ok ends the run; what was written until then stays. A refused
+/// edit is told in the output and ends nothing. A fault of `err` changes no status.
 ///
-/// It takes time linear in the files and the output, and memory for the files and the document.
+/// It takes time linear in the files and the output, and memory for the files and the document; and for each edit
+/// and each `sheet` line what an evaluation of the document costs.
 pub fn run<S: Shelf, O: Sink, E: Sink, L: Ledger>(
     alloc: Global,
     words: &[Text],
@@ -127,26 +139,29 @@ pub fn run<S: Shelf, O: Sink, E: Sink, L: Ledger>(
     ensures complete { (files : Files) (readings : Readings) → S.held shelf.old ≡ Some files → AreReadings words.now files readings
         → ¬ (Rose (S.faults shelf.old) (S.faults shelf.new)) → ¬ (Rose (O.faults out.old) (O.faults out.new))
         → (result ≡ status.Memory) ⊎ ((result ≡ status_of (output words.now files readings)) × (O.out out.new ≡ grown (O.out out.old) (bytes_of (output words.now files readings)))) }
-    ensures turn { (files : Files) (file : FileAt) → S.held shelf.old ≡ Some files → result ≡ status.ReadFault file → HasTurn words.now files file }
-    ensures not_held { (files : Files) (file : FileAt) → S.held shelf.old ≡ Some files → IsTrue (S.honest shelf.old)
-        → result ≡ status.ReadFault file → files (name_at words.now file) ≡ None }
-    ensures missing { (files : Files) (file : FileAt) → S.held shelf.old ≡ Some files → IsTrue (S.honest shelf.old)
-        → IsMissing words.now files file → (result ≡ status.Memory) ⊎ (result ≡ status.ReadFault file) }
+    ensures turn { (files : Files) (readings : Readings) (file : FileAt) → S.held shelf.old ≡ Some files → AreReadings words.now files readings
+        → result ≡ status.ReadFault file → HasTurn (output words.now files readings) file }
+    ensures not_held { (files : Files) (readings : Readings) (file : FileAt) → S.held shelf.old ≡ Some files → AreReadings words.now files readings
+        → IsTrue (S.honest shelf.old) → result ≡ status.ReadFault file → files (name_in words.now readings file) ≡ None }
+    ensures missing { (files : Files) (readings : Readings) (file : FileAt) → S.held shelf.old ≡ Some files → AreReadings words.now files readings
+        → IsTrue (S.honest shelf.old) → HasTurn (output words.now files readings) file → files (name_in words.now readings file) ≡ None
+        → (result ≡ status.Memory) ⊎ (result ≡ status.WriteFault) ⊎ (result ≡ status.ReadFault file) }
     ensures usage { result ≡ status.Usage → ReadsAsForm words.now None }
     ensures no_form { ReadsAsForm words.now None → result ≡ status.Usage }
-    ensures not_built { (form : Form) → IsForm words.now form → IsNotBuilt form → result ≡ status.NotYet }
-    ensures not_yet { result ≡ status.NotYet → AreNotBuilt words.now }
-    ensures no_output { (result ≡ status.Usage) ⊎ (result ≡ status.NotYet) → O.out out.new ≡ O.out out.old }
+    ensures no_output { result ≡ status.Usage → O.out out.new ≡ O.out out.old }
     ensures read_fault { (file : FileAt) → result ≡ status.ReadFault file → Rose (S.faults shelf.old) (S.faults shelf.new) }
     ensures too_large { (file : FileAt) → result ≡ status.TooLarge file → RoseAbove 16777216 (S.taken shelf.old) (S.taken shelf.new) }
     ensures write_fault { result ≡ status.WriteFault → Rose (O.faults out.old) (O.faults out.new) }
-    ensures line { GoesOut (Rose (E.faults err.old) (E.faults err.new)) (E.out err.old) (E.out err.new) (message words.now result) }
+    ensures line { ¬ (TellsOfLine result) → GoesOut (Rose (E.faults err.old) (E.faults err.new)) (E.out err.old) (E.out err.new) (message words.now [] result) }
+    ensures sheet_line { (files : Files) (readings : Readings) → S.held shelf.old ≡ Some files → AreReadings words.now files readings → TellsOfLine result
+        → GoesOut (Rose (E.faults err.old) (E.faults err.new)) (E.out err.old) (E.out err.new) (message words.now (commands_in readings.script) result) }
     ensures steps { (files : Files) (readings : Readings) → S.held shelf.old ≡ Some files → AreReadings words.now files readings
-        → steps.new ≤ steps.old + form_steps readings.document readings.form }
-    ensures no_steps { ¬ (IsForm words.now forms.Dump) → steps.new ≡ steps.old }
+        → IsForm words.now forms.Dump → steps.new ≤ steps.old + most_steps readings.document }
+    ensures no_steps { TakesNoStep words.now → steps.new ≡ steps.old }
 {
-    let status = perform(alloc, words, shelf, out, steps);
+    let mut commands = List::new(alloc);
+    let status = perform(alloc, words, &mut commands, shelf, out, steps);
     let status = flushed(status, out);
-    report(words, status, err);
+    report(words, commands.as_slice(), status, err);
     status
 }

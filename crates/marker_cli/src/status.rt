@@ -19,7 +19,7 @@ pub enum FileAt {
 /// How a run ended.
 #[derive(Clone, Copy, Debug, PartialEq, Eq)]
 pub enum Status {
-    /// All output was written.
+    /// All output was written; of a script each command was done, or its edit refused.
     Ok,
     /// Memory was wanting.
     Memory,
@@ -33,10 +33,10 @@ pub enum Status {
     NotUtf8 { file: FileAt, offset: usize },
     /// DOC is no document; the first item that doesn't fit is here, both from 1.
     BadDocument { line: usize, column: usize },
+    /// SCRIPT is no script; this is the first line, from 1, that is neither skipped nor a command.
+    BadScript { number: usize },
     /// A write of the output failed.
     WriteFault,
-    /// What the words or the files ask for isn't built yet. Nothing was written.
-    NotYet,
 }
 
 impl Status {
@@ -52,8 +52,8 @@ impl Status {
             Status::TooLarge { .. } => 4,
             Status::NotUtf8 { .. } => 5,
             Status::BadDocument { .. } => 6,
+            Status::BadScript { .. } => 7,
             Status::WriteFault => 8,
-            Status::NotYet => 9,
         }
     }
 }

@@ -1,6 +1,6 @@
 //! The command `table SHEET STYLE FROM TO`.
 
-ghost use Rattle.std.specs.Prelude.{◌≡◌, ◌≢◌, ◌≤◌, ◌⊎◌, Some, IfOk, IfErr, OnOk, OnErr};
+ghost use Rattle.std.specs.Prelude.{◌≡◌, ◌≤◌, ◌⊎◌, Some, IfOk, IfErr, OnOk, OnErr};
 ghost use Rattle.std.specs.Str.{chars};
 ghost use Rattle.css_reader.specs.Sheets.{sheet as sheet_of};
 ghost use Rattle.definitions.specs.CounterStyles.{finished_styles};
@@ -10,7 +10,8 @@ ghost use Rattle.ports.specs.Files.{Files};
 ghost use Rattle.ports.specs.Grown.{grown, GrowsByFront};
 ghost use Rattle.table_text.specs.Rows.{rows, values_between};
 ghost use Rattle.marker_cli.specs.Ends.{EndsAs, IsCaused, ReadsFailed, ended};
-ghost use Rattle.marker_cli.specs.Table.{EndsTable, table_output};
+ghost use Rattle.marker_cli.specs.Names.{TellsOfLine};
+ghost use Rattle.marker_cli.specs.Table.{table_output};
 ghost use Rattle.marker_cli.specs.declared.status.Status.TheVariants as status;
 
 use crate::fetch_text::fetch_text;
@@ -73,10 +74,8 @@ pub fn table<S: Shelf, O: Sink>(
         (table_output files (chars sheet.now) (chars style.now) from to) (O.out out.old) (O.out out.new) (ended result) }
     ensures cause { IsCaused ⊥ (Rose (S.faults shelf.old) (S.faults shelf.new)) (RoseAbove 16777216 (S.taken shelf.old) (S.taken shelf.new))
         (Rose (O.faults out.old) (O.faults out.new)) (ended result) }
+    ensures file { ¬ (TellsOfLine (ended result)) }
     ensures faults { O.faults out.old ≤ O.faults out.new }
-    ensures built { ended result ≢ status.NotYet }
-    ensures turns { (files : Files) → S.held shelf.old ≡ Some files
-        → EndsTable (S.honest shelf.old) (files (chars sheet.now)) (ended result) }
 {
     let text = fetch_text(alloc, shelf, FileAt::Word(1), sheet)?;
     let styles = styles_of(alloc, text.as_str())?;

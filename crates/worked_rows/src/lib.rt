@@ -25,6 +25,8 @@ mod references;
 #[cfg(test)]
 mod rows;
 #[cfg(test)]
+mod scripts;
+#[cfg(test)]
 mod starts;
 #[cfg(test)]
 mod tables;

@@ -20,6 +20,9 @@ pub struct Row<'a> {
     pub words: &'a [&'a str],
     pub document: &'a [u8],
     pub sheet: &'a [u8],
+    pub script: &'a [u8],
+    /// The file that a `sheet` line of the script may name.
+    pub other_sheet: &'a [u8],
     pub out: &'a str,
     pub err: &'a str,
     pub code: u8,
@@ -31,6 +34,8 @@ pub fn dumped<'a>(document: &'a str, sheet: &'a str, out: &'a str) -> Row<'a> {
         words: &["dump", "d.xhtml", "s.css"],
         document: document.as_bytes(),
         sheet: sheet.as_bytes(),
+        script: b"",
+        other_sheet: b"",
         out,
         err: "",
         code: 0,
@@ -43,6 +48,8 @@ pub fn refused<'a>(document: &'a [u8], sheet: &'a [u8], err: &'a str, code: u8) 
         words: &["dump", "d.xhtml", "s.css"],
         document,
         sheet,
+        script: b"",
+        other_sheet: b"",
         out: "",
         err,
         code,
@@ -55,6 +62,22 @@ pub fn tabled<'a>(sheet: &'a str, words: &'a [&'a str], out: &'a str) -> Row<'a>
         words,
         document: b"",
         sheet: sheet.as_bytes(),
+        script: b"",
+        other_sheet: b"",
+        out,
+        err: "",
+        code: 0,
+    }
+}
+
+/// A script over this document and this sheet.
+pub fn edited<'a>(document: &'a str, sheet: &'a str, script: &'a str, out: &'a str) -> Row<'a> {
+    Row {
+        words: &["edit", "d.xhtml", "s.css", "t.txt"],
+        document: document.as_bytes(),
+        sheet: sheet.as_bytes(),
+        script: script.as_bytes(),
+        other_sheet: b"",
         out,
         err: "",
         code: 0,
@@ -67,6 +90,8 @@ pub fn ended<'a>(words: &'a [&'a str], err: &'a str, code: u8) -> Row<'a> {
         words,
         document: b"<p/>",
         sheet: b"",
+        script: b"",
+        other_sheet: b"",
         out: "",
         err,
         code,
@@ -90,7 +115,7 @@ fn words_of(alloc: Global, row: &Row<'_>) -> Result<List<Text>, Memory> {
     Ok(words)
 }
 
-/// Runs a row over the files `d.xhtml` and `s.css`, and answers its code.
+/// Runs a row over the files `d.xhtml`, `s.css`, `t.txt` and `n.css`, and answers its code.
 pub fn code_of<O: Sink, L: Ledger>(
     rt: &HostRuntime,
     blank: Blank,
@@ -107,6 +132,8 @@ pub fn code_of<O: Sink, L: Ledger>(
     let mut files = List::new(alloc);
     files.push(named(alloc, "d.xhtml", row.document)?)?;
     files.push(named(alloc, "s.css", row.sheet)?)?;
+    files.push(named(alloc, "t.txt", row.script)?)?;
+    files.push(named(alloc, "n.css", row.other_sheet)?)?;
     if !has_distinct_names(files.as_slice()) {
         return Err(Memory);
     }

@@ -1,6 +1,6 @@
 //! Tables of values in counter styles, worked out by hand.
 
-use crate::rows::{Row, tabled};
+use crate::rows::tabled;
 use crate::tests::comes_out;
 use itoa::Buffer;
 use plain_types::memory::Memory;
@@ -142,14 +142,7 @@ fn long_circles(rt: HostRuntime) -> Result<(), Fail> {
     ] {
         let sheet = chain(rt.alloc(), front, back)?;
         let words = ["table", "s.css", "n0", from, to];
-        let row = Row {
-            words: &words,
-            document: b"",
-            sheet: sheet.as_bytes(),
-            out,
-            err: "",
-            code: 0,
-        };
+        let row = tabled(sheet.as_str(), &words, out);
         assert!(rt; comes_out(&rt, &row)?, "{front}");
     }
     Ok(())

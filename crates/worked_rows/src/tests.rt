@@ -12,28 +12,12 @@ use std::test::Fail;
 const USAGE: &str =
     "marker: usage: dump DOC SHEET | edit DOC SHEET SCRIPT | table SHEET STYLE FROM TO | gen SEED COUNT\n";
 
-const NOT_YET: &str = "marker: not yet\n";
-
 /// Whether the row comes out as it is to.
 pub fn comes_out(rt: &HostRuntime, row: &Row<'_>) -> Result<bool, Memory> {
     let mut out = FixedSink::new(rt.alloc(), 1000)?;
     let mut err = FixedSink::new(rt.alloc(), 1000)?;
     let code = code_of::<_, Brand>(rt, Blank::new(1), row, &mut out, &mut err)?;
     Ok(out.bytes() == row.out.as_bytes() && err.bytes() == row.err.as_bytes() && code == row.code)
-}
-
-#[test]
-fn not_built_yet(rt: HostRuntime) -> Result<(), Fail> {
-    for (place, row) in [
-        ended(&["edit", "d.xhtml", "s.css", "t.txt"], NOT_YET, 9),
-        ended(&["gen", "1", "1"], NOT_YET, 9),
-    ]
-    .iter()
-    .enumerate()
-    {
-        assert!(rt; comes_out(&rt, row)?, "row {place}");
-    }
-    Ok(())
 }
 
 #[test]

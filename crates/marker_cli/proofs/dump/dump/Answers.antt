@@ -7,7 +7,6 @@ use Rattle.marker_cli.specs.declared.status.Status.TheVariants as status
 use Rattle.marker_cli.specs.Output.{ends, writes}
 use Rattle.marker_cli.specs.Turns.{text_in}
 use Rattle.marker_cli.proofs.EndsLemmas.{at_same, at_start, at_text, at_value, caused_as, caused_within, ended_is, ends_no_text, ends_not_given, ends_put, ends_stopped, reads_after}
-use Rattle.marker_cli.proofs.ReadingLemmas.{not_reading, put_not_reading, reading-document, reading-done, reading-sheet, reading_as}
 use Rattle.marker_cli.proofs.TreeLemmas.{most_of}
 use Rattle.marker_cli.proofs.dump.dump.Goals as goal
 
@@ -16,22 +15,12 @@ returns-in_err-text-clause-told g c files reading told reads =
     ends_stopped c.from_residual.result c.from_residual.ensures
     (ends_no_text files _ _ _ (at_start _ _) (c.in_err-text.ensures.told files told) (λ failed. failed))
 
-pub returns-in_err-text-clause-turns : goal.returns-in_err-text-clause-turns
-returns-in_err-text-clause-turns g c files told =
-    reading_as (ended_is c.from_residual.result c.from_residual.ensures) (reading-document _ _ _ _ (c.in_err-text.ensures.told files told))
-
 pub returns-in_err-style-clause-told : goal.returns-in_err-style-clause-told
 returns-in_err-style-clause-told g c files reading told reads =
     ends_stopped c.from_residual-in_err-style.result c.from_residual-in_err-style.ensures
     (ends_no_text files _ _ _ (at_text files _ _ _ (at_start _ _) (c.in_ok-text.ensures.told files told))
     (c.in_err-style.ensures.told files (c.in_ok-text.ensures.held ∙ told))
     (λ failed. reads_after c.in_ok-text.ensures.honest c.in_ok-text.ensures.faults failed))
-
-pub returns-in_err-style-clause-turns : goal.returns-in_err-style-clause-turns
-returns-in_err-style-clause-turns g c files told =
-    reading_as (ended_is c.from_residual-in_err-style.result c.from_residual-in_err-style.ensures)
-    (rw (← c.in_ok-text.ensures.honest)
-    (reading-sheet _ _ _ _ (c.in_ok-text.text, c.in_ok-text.ensures.told files told) (c.in_err-style.ensures.told files (c.in_ok-text.ensures.held ∙ told))))
 
 pub returns-in_err-tree-clause-told : goal.returns-in_err-tree-clause-told
 returns-in_err-tree-clause-told g c files reading told reads =
@@ -45,12 +34,6 @@ pub returns-in_err-tree-clause-cause : goal.returns-in_err-tree-clause-cause
 returns-in_err-tree-clause-cause g c =
     caused_as _ _ _ _ (ended_is c.from_residual-in_err-tree.result c.from_residual-in_err-tree.ensures) (caused_within _ _ _ _ _ c.in_err-tree.ensures.cause)
 
-pub returns-in_err-tree-clause-turns : goal.returns-in_err-tree-clause-turns
-returns-in_err-tree-clause-turns g c files told =
-    reading_as (ended_is c.from_residual-in_err-tree.result c.from_residual-in_err-tree.ensures)
-    (reading-done _ _ _ _ (c.in_ok-text.text, c.in_ok-text.ensures.told files told) (c.in_ok-style.style, c.in_ok-style.ensures.told files (c.in_ok-text.ensures.held ∙ told))
-    (not_reading _ _ _ _ c.in_err-tree.ensures.cause))
-
 pub returns-clause-told : goal.returns-clause-told
 returns-clause-told g c files reading told reads =
     let text : text_in (Word 1) (files (chars c.args.document.now)) ≡ Ok c.in_ok-text.text = c.in_ok-text.ensures.told files told in
@@ -60,20 +43,6 @@ returns-clause-told g c files reading told reads =
     (at_value _ (at_text files _ _ _ (at_text files _ _ _ (at_start _ _) text) style)
     (c.in_ok-tree.ensures.tree reading (rw c.as_str.ensures.characters (reads c.in_ok-text.text c.in_ok-style.style text style)))))
     c.put_dump.ensures.ok c.put_dump.ensures.failed c.put_dump.ensures.cause
-
-pub returns-clause-turns : goal.returns-clause-turns
-returns-clause-turns g c files told =
-    reading-done _ _ _ _ (c.in_ok-text.text, c.in_ok-text.ensures.told files told) (c.in_ok-style.style, c.in_ok-style.ensures.told files (c.in_ok-text.ensures.held ∙ told))
-    (put_not_reading _ c.put_dump.result c.put_dump.ensures.cause)
-
-pub returns-in_err-text-clause-built : goal.returns-in_err-text-clause-built
-returns-in_err-text-clause-built g c is = c.in_err-text.ensures.built (sym (ended_is c.from_residual.result c.from_residual.ensures) ∙ is)
-
-pub returns-in_err-style-clause-built : goal.returns-in_err-style-clause-built
-returns-in_err-style-clause-built g c is = c.in_err-style.ensures.built (sym (ended_is c.from_residual-in_err-style.result c.from_residual-in_err-style.ensures) ∙ is)
-
-pub returns-in_err-tree-clause-built : goal.returns-in_err-tree-clause-built
-returns-in_err-tree-clause-built g c is = c.in_err-tree.ensures.built (sym (ended_is c.from_residual-in_err-tree.result c.from_residual-in_err-tree.ensures) ∙ is)
 
 pub returns-clause-steps : goal.returns-clause-steps
 returns-clause-steps g c files reading told reads =

@@ -12,26 +12,26 @@ rest line column = (decimal line ++ codes ":") ++ (decimal column ++ codes ": no
 
 pub returns-in_err-put_about-clause-failed : goal.returns-in_err-put_about-clause-failed
 returns-in_err-put_about-clause-failed g c =
-    on_err _ (front_about c.args.words.now (Word 1) (codes ":") (rest c.args.line c.args.column)
-    (front_last {piece = about c.args.words.now (Word 1) (codes ":")} _ c.in_err-put_about.ensures.failed refl))
+    on_err _ (front_about c.args.words.now c.args.commands.now (Word 1) (codes ":") (rest c.args.line c.args.column)
+    (front_last {piece = about c.args.words.now c.args.commands.now (Word 1) (codes ":")} _ c.in_err-put_about.ensures.failed refl))
 
 pub returns-in_err-put_number-clause-failed : goal.returns-in_err-put_number-clause-failed
 returns-in_err-put_number-clause-failed g c =
-    on_err _ (front_about c.args.words.now (Word 1) (codes ":") (rest c.args.line c.args.column)
-    (front_step {piece = about c.args.words.now (Word 1) (codes ":")} c.in_ok-put_about.ensures.ok refl
+    on_err _ (front_about c.args.words.now c.args.commands.now (Word 1) (codes ":") (rest c.args.line c.args.column)
+    (front_step {piece = about c.args.words.now c.args.commands.now (Word 1) (codes ":")} c.in_ok-put_about.ensures.ok refl
     (front_last {piece = decimal c.args.line ++ codes ":"} _ c.in_err-put_number.ensures.failed refl)))
 
 pub returns-clause-ok : goal.returns-clause-ok
 returns-clause-ok g c =
     on_ok_weaker c.put_number-2.result
-    (λ h. grown_about _ _ _ c.args.words.now (Word 1) (codes ":") (rest c.args.line c.args.column) c.in_ok-put_about.ensures.ok
+    (λ h. grown_about _ _ _ c.args.words.now c.args.commands.now (Word 1) (codes ":") (rest c.args.line c.args.column) c.in_ok-put_about.ensures.ok
     (grown_after _ _ _ (decimal c.args.line ++ codes ":") (decimal c.args.column ++ codes ": not well-formed\n") c.in_ok-put_number.ensures.ok h))
     c.put_number-2.ensures.ok
 
 pub returns-clause-failed : goal.returns-clause-failed
 returns-clause-failed g c =
     on_err_weaker c.put_number-2.result
-    (λ h. front_about c.args.words.now (Word 1) (codes ":") (rest c.args.line c.args.column)
-    (front_step {piece = about c.args.words.now (Word 1) (codes ":")} c.in_ok-put_about.ensures.ok refl
+    (λ h. front_about c.args.words.now c.args.commands.now (Word 1) (codes ":") (rest c.args.line c.args.column)
+    (front_step {piece = about c.args.words.now c.args.commands.now (Word 1) (codes ":")} c.in_ok-put_about.ensures.ok refl
     (front_step {piece = decimal c.args.line ++ codes ":"} c.in_ok-put_number.ensures.ok refl h)))
     c.put_number-2.ensures.failed

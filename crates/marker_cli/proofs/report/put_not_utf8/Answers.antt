@@ -8,17 +8,17 @@ use Rattle.marker_cli.proofs.report.put_not_utf8.Goals as goal
 
 pub returns-in_err-put_about-clause-failed : goal.returns-in_err-put_about-clause-failed
 returns-in_err-put_about-clause-failed g c =
-    on_err _ (front_about c.args.words.now c.args.file (codes ": not UTF-8 at ") (decimal c.args.offset ++ codes "\n")
-    (front_last {piece = about c.args.words.now c.args.file (codes ": not UTF-8 at ")} _ c.in_err-put_about.ensures.failed refl))
+    on_err _ (front_about c.args.words.now c.args.commands.now c.args.file (codes ": not UTF-8 at ") (decimal c.args.offset ++ codes "\n")
+    (front_last {piece = about c.args.words.now c.args.commands.now c.args.file (codes ": not UTF-8 at ")} _ c.in_err-put_about.ensures.failed refl))
 
 pub returns-clause-ok : goal.returns-clause-ok
 returns-clause-ok g c =
-    on_ok_weaker c.put_number.result (λ h. grown_about _ _ _ c.args.words.now c.args.file (codes ": not UTF-8 at ") (decimal c.args.offset ++ codes "\n") c.in_ok-put_about.ensures.ok h)
+    on_ok_weaker c.put_number.result (λ h. grown_about _ _ _ c.args.words.now c.args.commands.now c.args.file (codes ": not UTF-8 at ") (decimal c.args.offset ++ codes "\n") c.in_ok-put_about.ensures.ok h)
     c.put_number.ensures.ok
 
 pub returns-clause-failed : goal.returns-clause-failed
 returns-clause-failed g c =
     on_err_weaker c.put_number.result
-    (λ h. front_about c.args.words.now c.args.file (codes ": not UTF-8 at ") (decimal c.args.offset ++ codes "\n")
-    (front_step {piece = about c.args.words.now c.args.file (codes ": not UTF-8 at ")} c.in_ok-put_about.ensures.ok refl h))
+    (λ h. front_about c.args.words.now c.args.commands.now c.args.file (codes ": not UTF-8 at ") (decimal c.args.offset ++ codes "\n")
+    (front_step {piece = about c.args.words.now c.args.commands.now c.args.file (codes ": not UTF-8 at ")} c.in_ok-put_about.ensures.ok refl h))
     c.put_number.ensures.failed

@@ -1,8 +1,12 @@
-use Rattle.std.proofs.Common.{◌∙◌}
+use Rattle.std.proofs.Common.{◌∙◌, [], ap, subst, sym}
+use Rattle.ports.specs.Causes.{Rose}
 use Rattle.ports.proofs.CauseLemmas.{rose_after, rose_before}
+use Rattle.marker_cli.specs.Lines.{GoesOut, message}
+use Rattle.marker_cli.specs.Run.{commands_in, name_in}
 use Rattle.marker_cli.proofs.EndsLemmas.{completes}
-use Rattle.marker_cli.proofs.FlushLemmas.{ends_flushed, had_no_output, stays, still_missing, was_before, write_rose}
-use Rattle.marker_cli.proofs.RunLemmas.{cause_as}
+use Rattle.marker_cli.proofs.FlushLemmas.{ends_flushed, stays, tells_before, was_before, write_rose}
+use Rattle.marker_cli.proofs.RunLemmas.{cause_as, message_same}
+use Rattle.marker_cli.proofs.TurnLemmas.{ends_missing, ends_not_held, ends_turn, turns_run}
 use Rattle.marker_cli.proofs.run.run.Goals as goal
 
 pub returns-clause-told : goal.returns-clause-told
@@ -16,15 +20,20 @@ returns-clause-complete g c files readings told reads quiet written =
     (rose_before _ _ _ c.flushed-status.ensures.faults) (rose_after _ _ _ c.perform-status.ensures.faults)) (λ failed. quiet failed.rose) written
 
 pub returns-clause-turn : goal.returns-clause-turn
-returns-clause-turn g c files file told is = c.perform-status.ensures.turn files file told (was_before _ _ _ _ c.flushed-status.ensures.outcome is (λ e. cc e))
+returns-clause-turn g c files readings file told reads is =
+    ends_turn files (name_in c.args.words.now readings) file (turns_run c.args.words.now files readings reads)
+    (c.perform-status.ensures.told files readings told reads) (was_before _ _ _ _ c.flushed-status.ensures.outcome is (λ e. cc e))
 
 pub returns-clause-not_held : goal.returns-clause-not_held
-returns-clause-not_held g c files file told honestly is =
-    c.perform-status.ensures.not_held files file told honestly (was_before _ _ _ _ c.flushed-status.ensures.outcome is (λ e. cc e))
+returns-clause-not_held g c files readings file told reads honestly is =
+    ends_not_held files (name_in c.args.words.now readings) file (turns_run c.args.words.now files readings reads)
+    (c.perform-status.ensures.told files readings told reads) honestly (was_before _ _ _ _ c.flushed-status.ensures.outcome is (λ e. cc e))
 
 pub returns-clause-missing : goal.returns-clause-missing
-returns-clause-missing g c files file told honestly missing =
-    still_missing _ _ _ file c.flushed-status.ensures.outcome (c.perform-status.ensures.missing files file told honestly missing)
+returns-clause-missing g c files readings file told reads honestly comes gone =
+    ends_missing files (name_in c.args.words.now readings) file (turns_run c.args.words.now files readings reads)
+    (ends_flushed (c.perform-status.ensures.told files readings told reads) c.flushed-status.ensures.outcome c.flushed-status.ensures.kept
+    (rose_before _ _ _ c.flushed-status.ensures.faults) (rose_after _ _ _ c.perform-status.ensures.faults)) honestly comes gone
 
 pub returns-clause-usage : goal.returns-clause-usage
 returns-clause-usage g c is = cause_as _ _ _ _ _ _ c.perform-status.ensures.cause (was_before _ _ _ _ c.flushed-status.ensures.outcome is (λ e. cc e))
@@ -32,12 +41,9 @@ returns-clause-usage g c is = cause_as _ _ _ _ _ _ c.perform-status.ensures.caus
 pub returns-clause-no_form : goal.returns-clause-no_form
 returns-clause-no_form g c none = stays _ _ _ _ c.flushed-status.ensures.outcome (c.perform-status.ensures.no_form none) (λ e. cc e)
 
-pub returns-clause-not_built : goal.returns-clause-not_built
-returns-clause-not_built g c form is not_built =
-    stays _ _ _ _ c.flushed-status.ensures.outcome (c.perform-status.ensures.not_built form is not_built) (λ e. cc e)
-
 pub returns-clause-no_output : goal.returns-clause-no_output
-returns-clause-no_output g c is = c.flushed-status.ensures.kept ∙ c.perform-status.ensures.no_output (had_no_output _ _ _ c.flushed-status.ensures.outcome is)
+returns-clause-no_output g c is =
+    c.flushed-status.ensures.kept ∙ c.perform-status.ensures.no_output (was_before _ _ _ _ c.flushed-status.ensures.outcome is (λ e. cc e))
 
 pub returns-clause-read_fault : goal.returns-clause-read_fault
 returns-clause-read_fault g c file is = cause_as _ _ _ _ _ _ c.perform-status.ensures.cause (was_before _ _ _ _ c.flushed-status.ensures.outcome is (λ e. cc e))
@@ -48,3 +54,14 @@ returns-clause-too_large g c file is = cause_as _ _ _ _ _ _ c.perform-status.ens
 pub returns-clause-write_fault : goal.returns-clause-write_fault
 returns-clause-write_fault g c is =
     write_rose _ _ _ _ _ _ _ _ c.perform-status.ensures.faults c.flushed-status.ensures.faults c.perform-status.ensures.cause c.flushed-status.ensures.outcome is
+
+pub returns-clause-line : goal.returns-clause-line
+returns-clause-line g c not_line =
+    subst (λ bytes. GoesOut (Rose (g.E.Sink.faults c.args.err.now) (g.E.Sink.faults c.report.new.err)) (g.E.Sink.out c.args.err.now) (g.E.Sink.out c.report.new.err) bytes)
+    (message_same c.args.words.now c.as_slice.result.now [] c.flushed-status.result not_line) c.report.ensures.line
+
+pub returns-clause-sheet_line : goal.returns-clause-sheet_line
+returns-clause-sheet_line g c files readings told reads tells =
+    let same = ap commands_in (c.perform-status.ensures.commands files readings told reads (tells_before _ _ _ c.flushed-status.ensures.outcome tells)) in
+    subst (λ commands. GoesOut (Rose (g.E.Sink.faults c.args.err.now) (g.E.Sink.faults c.report.new.err)) (g.E.Sink.out c.args.err.now) (g.E.Sink.out c.report.new.err) (message c.args.words.now commands c.flushed-status.result))
+    (c.as_slice.ensures.items ∙ sym same) c.report.ensures.line

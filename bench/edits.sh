@@ -1,0 +1,68 @@
+#!/usr/bin/env bash
+# The mean time of an edit by `marker edit`, over documents of sections with a heading, a list and a reference each,
+# of 1,000, 10,000 and 100,000 elements: the time of a script of edits and one `show`, less that of the `show`
+# alone, by the number of edits; and how many times as long an edit takes as at the size before.
+#   bench/edits.sh [ELEMENTS..]
+set -eu
+here=$(cd "$(dirname "$0")/.." && pwd)
+"$here/marker" dump "$here/examples/list.xhtml" "$here/examples/empty.css" >/dev/null # builds it, if need be
+work=$(mktemp -d)
+trap 'rm -rf "$work"' EXIT
+cd "$work"
+PYTHONPATH=$here/bench python3 - "$here/crates/marker/out/marker" "${@:-}" <<'PY'
+import sys
+from seconds import ratio, seconds
+
+program = sys.argv[1]
+sizes = [int(word) for word in sys.argv[2:] if word] or [1_000, 10_000, 100_000]
+SHEET = (
+    'body{counter-reset:s}section{counter-increment:s;counter-reset:i}li{counter-increment:i list-item}'
+    'h2::before{content:counter(s)". "}li::before{content:counters(i,".")}'
+    'a::after{content:"("target-counter(attr(href),s)")"}'
+)
+
+
+def document(elements):
+    sections = elements // 8
+    return "<body>" + "".join(
+        f'<section id="s{k}"><h2>{k}</h2><ol><li/><li/><li/></ol><p><a href="#s{k * 7919 % sections}"/></p></section>'
+        for k in range(sections)
+    ) + "</body>"
+
+
+def edits(elements, count):
+    """An item comes, is moved, is given a value, loses it, and goes: sections all over the document, in turn."""
+    sections = elements // 8
+    lines = []
+    for place in range(count):
+        section = place // 5 * 7919 % sections
+        lines.append((
+            f"insert /{section}/1 0 <li/>",
+            f"move /{section}/1/0 /{section}/1 3",
+            f"set /{section}/1/3 value 9",
+            f"unset /{section}/1/3 value",
+            f"remove /{section}/1/3",
+        )[place % 5])
+    return "\n".join([*lines, "show"]) + "\n"
+
+
+def put(name, text):
+    with open(name, "w") as file:
+        file.write(text)
+
+
+put("sheet.css", SHEET)
+put("none.txt", "show\n")
+before = None
+for size in sizes:
+    count = max(5, 500_000 // size)
+    put("document.xhtml", document(size))
+    put("edits.txt", edits(size, count))
+    words = (program, "edit", "document.xhtml", "sheet.css")
+    taken = (seconds(*words, "edits.txt", runs=1) - seconds(*words, "none.txt")) / count
+    line = f"{size} elements, {count} edits: {taken * 1000:.2f} ms an edit"
+    if before is not None:
+        line += f", {ratio(taken, before[1]):.1f} times that at {before[0]} elements"
+    print(line, flush=True)
+    before = size, taken
+PY

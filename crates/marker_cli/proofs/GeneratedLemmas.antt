@@ -1,0 +1,36 @@
+-- Runs that are made up.
+use Rattle.std.proofs.Common.{◌≡◌, ℕ, ◌<◌, ◌+◌, List, drop, get_or, length, refl, ◌∙◌, ap, add-one}
+use Rattle.std.proofs.Math.Seq.{drop-cons}
+use Rattle.edit_script.specs.Generator.{document, edits_of, sheet}
+use Rattle.forest.specs.Forest.{Forest}
+use Rattle.generated_texts.specs.Lines.{document_lines}
+use Rattle.marker_engine.specs.Census.{box_count, element_count, saturated}
+use Rattle.marker_engine.specs.Edited.{edited}
+use Rattle.marker_engine.specs.Engines.{Source}
+use Rattle.node_arena.specs.Document.{HasElementRoot}
+use Rattle.plain_types.specs.declared.edit.Edit.{Edit}
+use Rattle.plain_types.specs.declared.node.Node.{Node}
+use Rattle.marker_cli.specs.declared.generated.Tally.{Tally}
+use Rattle.marker_cli.specs.Generated.{Edits, after_edits, counted, generated, number_lines, numbers, tallied, unedited}
+
+-- the next edit
+pub edits_next : (edits : List Edit) (place : ℕ) (edit : Edit) (now : Edits) → place < length edits → edit ≡ get_or edits place edit
+    → after_edits (drop place edits) now ≡ after_edits (drop (place + 1) edits) (counted now (edited now.source edit))
+edits_next edits place edit now below is = rw (add-one, drop-cons edits place edit below, ← is) refl
+
+-- the root of the document is an element
+pub generated_element : (seed count : ℕ) (tree : Forest Node) → tree ≡ document seed count → HasElementRoot tree
+unfolding document
+generated_element seed count tree is = rw is tt
+
+-- all edits, from the start
+pub run_is : (seed count : ℕ) (start : Source) (edits : List Edit) → start.tree ≡ document seed count → start.sheet ≡ sheet → edits ≡ edits_of seed count
+    → after_edits edits (unedited start) ≡ generated seed count
+run_is seed count start edits tree_is sheet_is edits_is = λ i. after_edits (edits_is i) (unedited (record { tree = tree_is i; sheet = sheet_is i }))
+
+-- the lines about them
+pub numbers_are : (source : Source) (elements boxes lines : ℕ) (tally : Tally) (edits : Edits) → elements ≡ saturated (element_count source.tree)
+    → boxes ≡ saturated (box_count source.sheet source.tree) → lines ≡ saturated (length (document_lines source.sheet source.tree)) → tallied source tally ≡ edits
+    → number_lines elements boxes tally.accepted tally.refused lines ≡ numbers edits
+numbers_are source elements boxes lines tally edits first second third same =
+    (λ i. number_lines (first i) (second i) tally.accepted tally.refused (third i)) ∙ ap numbers same

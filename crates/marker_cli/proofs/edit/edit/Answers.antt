@@ -1,0 +1,80 @@
+use Rattle.std.proofs.Common.{◌≡◌, ◌∙◌, arith, refl, sym}
+use Rattle.std.specs.Prelude.{Ok}
+use Rattle.std.specs.Str.{chars}
+use Rattle.marker_cli.specs.declared.status.FileAt.TheVariants.{Word}
+use Rattle.marker_cli.specs.Edit.{play}
+use Rattle.marker_cli.specs.Turns.{text_in}
+use Rattle.marker_cli.proofs.EndsLemmas.{at_same, at_start, at_text, at_value, ends_no_memory, ends_no_text, ends_not_given, ends_part, ends_stopped, reads_after}
+use Rattle.marker_cli.proofs.PlayLemmas.{given_commands}
+use Rattle.marker_cli.proofs.edit.edit.Goals as goal
+
+pub returns-in_err-text-clause-told : goal.returns-in_err-text-clause-told
+returns-in_err-text-clause-told g c files reading read told reads reads_script =
+    ends_stopped c.from_residual.result c.from_residual.ensures
+    (ends_no_text files _ _ _ (at_start _ _) (c.in_err-text.ensures.told files told) (λ failed. failed))
+
+pub returns-in_err-style-clause-told : goal.returns-in_err-style-clause-told
+returns-in_err-style-clause-told g c files reading read told reads reads_script =
+    ends_stopped c.from_residual-in_err-style.result c.from_residual-in_err-style.ensures
+    (ends_no_text files _ _ _ (at_text files _ _ _ (at_start _ _) (c.in_ok-text.ensures.told files told))
+    (c.in_err-style.ensures.told files (c.in_ok-text.ensures.held ∙ told))
+    (λ failed. reads_after c.in_ok-text.ensures.honest c.in_ok-text.ensures.faults failed))
+
+pub returns-in_err-lines-clause-told : goal.returns-in_err-lines-clause-told
+returns-in_err-lines-clause-told g c files reading read told reads reads_script =
+    let held = c.in_ok-style.ensures.held ∙ c.in_ok-text.ensures.held ∙ told in
+    ends_stopped c.from_residual-in_err-lines.result c.from_residual-in_err-lines.ensures
+    (ends_no_text files _ _ _ (at_text files _ _ _ (at_text files _ _ _ (at_start _ _) (c.in_ok-text.ensures.told files told))
+    (c.in_ok-style.ensures.told files (c.in_ok-text.ensures.held ∙ told)))
+    (c.in_err-lines.ensures.told files held)
+    (λ failed. reads_after c.in_ok-text.ensures.honest c.in_ok-text.ensures.faults (reads_after c.in_ok-style.ensures.honest c.in_ok-style.ensures.faults failed)))
+
+pub returns-in_err-tree-clause-told : goal.returns-in_err-tree-clause-told
+returns-in_err-tree-clause-told g c files reading read told reads reads_script =
+    let text : text_in (Word 1) (files (chars c.args.document.now)) ≡ Ok c.in_ok-text.text = c.in_ok-text.ensures.told files told in
+    let style : text_in (Word 2) (files (chars c.args.sheet.now)) ≡ Ok c.in_ok-style.style = c.in_ok-style.ensures.told files (c.in_ok-text.ensures.held ∙ told) in
+    let lines : text_in (Word 3) (files (chars c.args.script.now)) ≡ Ok c.in_ok-lines.lines = c.in_ok-lines.ensures.told files (c.in_ok-style.ensures.held ∙ c.in_ok-text.ensures.held ∙ told) in
+    ends_stopped c.from_residual-in_err-tree.result c.from_residual-in_err-tree.ensures
+    (ends_not_given _ (at_text files _ _ _ (at_text files _ _ _ (at_text files _ _ _ (at_start _ _) text) style) lines)
+    (c.in_err-tree.ensures.tree reading (rw c.as_str.ensures.characters (reads c.in_ok-text.text c.in_ok-style.style text style))))
+
+pub returns-in_err-commands-clause-told : goal.returns-in_err-commands-clause-told
+returns-in_err-commands-clause-told g c files reading read told reads reads_script =
+    let text : text_in (Word 1) (files (chars c.args.document.now)) ≡ Ok c.in_ok-text.text = c.in_ok-text.ensures.told files told in
+    let style : text_in (Word 2) (files (chars c.args.sheet.now)) ≡ Ok c.in_ok-style.style = c.in_ok-style.ensures.told files (c.in_ok-text.ensures.held ∙ told) in
+    let lines : text_in (Word 3) (files (chars c.args.script.now)) ≡ Ok c.in_ok-lines.lines = c.in_ok-lines.ensures.told files (c.in_ok-style.ensures.held ∙ c.in_ok-text.ensures.held ∙ told) in
+    ends_stopped c.from_residual-in_err-commands.result c.from_residual-in_err-commands.ensures
+    (ends_not_given _ (at_value _ (at_text files _ _ _ (at_text files _ _ _ (at_text files _ _ _ (at_start _ _) text) style) lines)
+    (c.in_ok-tree.ensures.tree reading (rw c.as_str.ensures.characters (reads c.in_ok-text.text c.in_ok-style.style text style))))
+    (c.in_err-commands.ensures.commands read (rw c.as_str-2.ensures.characters (reads_script c.in_ok-text.text c.in_ok-style.style c.in_ok-lines.lines text style lines))))
+
+pub returns-in_err-engine-clause-told : goal.returns-in_err-engine-clause-told
+returns-in_err-engine-clause-told g c files reading read told reads reads_script =
+    let text : text_in (Word 1) (files (chars c.args.document.now)) ≡ Ok c.in_ok-text.text = c.in_ok-text.ensures.told files told in
+    let style : text_in (Word 2) (files (chars c.args.sheet.now)) ≡ Ok c.in_ok-style.style = c.in_ok-style.ensures.told files (c.in_ok-text.ensures.held ∙ told) in
+    let lines : text_in (Word 3) (files (chars c.args.script.now)) ≡ Ok c.in_ok-lines.lines = c.in_ok-lines.ensures.told files (c.in_ok-style.ensures.held ∙ c.in_ok-text.ensures.held ∙ told) in
+    ends_stopped c.from_residual-in_err-engine.result c.from_residual-in_err-engine.ensures
+    (ends_no_memory (at_value _ (at_value _ (at_text files _ _ _ (at_text files _ _ _ (at_text files _ _ _ (at_start _ _) text) style) lines)
+    (c.in_ok-tree.ensures.tree reading (rw c.as_str.ensures.characters (reads c.in_ok-text.text c.in_ok-style.style text style))))
+    (c.in_ok-commands.ensures.commands read (rw c.as_str-2.ensures.characters (reads_script c.in_ok-text.text c.in_ok-style.style c.in_ok-lines.lines text style lines)))) refl)
+
+pub returns-clause-told : goal.returns-clause-told
+returns-clause-told g c files reading read told reads reads_script =
+    let text : text_in (Word 1) (files (chars c.args.document.now)) ≡ Ok c.in_ok-text.text = c.in_ok-text.ensures.told files told in
+    let style : text_in (Word 2) (files (chars c.args.sheet.now)) ≡ Ok c.in_ok-style.style = c.in_ok-style.ensures.told files (c.in_ok-text.ensures.held ∙ told) in
+    let lines : text_in (Word 3) (files (chars c.args.script.now)) ≡ Ok c.in_ok-lines.lines = c.in_ok-lines.ensures.told files (c.in_ok-style.ensures.held ∙ c.in_ok-text.ensures.held ∙ told) in
+    ends_part _ _
+    (at_same (λ i. play files (sym c.as_slice.ensures.items i) (record { tree = sym c.in_ok-engine.ensures.tree i; sheet = sym (c.in_ok-engine.ensures.sheet ∙ c.as_str-3.ensures.characters) i }))
+    (at_value _ (at_value _ (at_text files _ _ _ (at_text files _ _ _ (at_text files _ _ _ (at_start _ _) text) style) lines)
+    (c.in_ok-tree.ensures.tree reading (rw c.as_str.ensures.characters (reads c.in_ok-text.text c.in_ok-style.style text style))))
+    (c.in_ok-commands.ensures.commands read (rw c.as_str-2.ensures.characters (reads_script c.in_ok-text.text c.in_ok-style.style c.in_ok-lines.lines text style lines)))))
+    (c.play.ensures.told files (c.in_ok-lines.ensures.held ∙ c.in_ok-style.ensures.held ∙ c.in_ok-text.ensures.held ∙ told))
+    (λ failed. reads_after (c.in_ok-lines.ensures.honest ∙ c.in_ok-style.ensures.honest ∙ c.in_ok-text.ensures.honest) (omega (arith, c.in_ok-text.ensures.faults, c.in_ok-style.ensures.faults, c.in_ok-lines.ensures.faults)) failed)
+    (λ failed. failed)
+
+pub returns-clause-commands : goal.returns-clause-commands
+returns-clause-commands g c files read told reads_script tells =
+    let text : text_in (Word 1) (files (chars c.args.document.now)) ≡ Ok c.in_ok-text.text = c.in_ok-text.ensures.told files told in
+    let style : text_in (Word 2) (files (chars c.args.sheet.now)) ≡ Ok c.in_ok-style.style = c.in_ok-style.ensures.told files (c.in_ok-text.ensures.held ∙ told) in
+    let lines : text_in (Word 3) (files (chars c.args.script.now)) ≡ Ok c.in_ok-lines.lines = c.in_ok-lines.ensures.told files (c.in_ok-style.ensures.held ∙ c.in_ok-text.ensures.held ∙ told) in
+    given_commands read _ (c.in_ok-commands.ensures.commands read (rw c.as_str-2.ensures.characters (reads_script c.in_ok-text.text c.in_ok-style.style c.in_ok-lines.lines text style lines)))

@@ -1,0 +1,17 @@
+use Rattle.std.proofs.Common.{◌≡◌, ◌≤◌, drop}
+use Rattle.std.specs.Prelude.{Some}
+use Rattle.ports.specs.Files.{Files}
+use Rattle.marker_cli.specs.Edit.{play}
+use Rattle.marker_cli.specs.Stands.{IsAt}
+use Rattle.marker_cli.proofs.play.play.Given as goal
+
+abbrev pub invariant-loop-command : goal.invariant-loop-command
+invariant-loop-command g l = record {
+  told : (files : Files) → g.S.Shelf.held l.initial.shelf ≡ Some files
+      → IsAt (play files l.commands l.initial.engine) (g.O.Sink.out l.initial.out) (g.O.Sink.out l.out) (play files (drop l.command-index l.commands) l.engine);
+  held : g.S.Shelf.held l.shelf ≡ g.S.Shelf.held l.initial.shelf;
+  honest : g.S.Shelf.honest l.shelf ≡ g.S.Shelf.honest l.initial.shelf;
+  faults : g.S.Shelf.faults l.initial.shelf ≤ g.S.Shelf.faults l.shelf;
+  taken : g.S.Shelf.taken l.initial.shelf ≤ g.S.Shelf.taken l.shelf;
+  put_faults : g.O.Sink.faults l.initial.out ≤ g.O.Sink.faults l.out;
+}

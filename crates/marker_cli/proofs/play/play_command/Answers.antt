@@ -1,0 +1,12 @@
+use Rattle.marker_cli.proofs.EndsLemmas.{at_start}
+use Rattle.marker_cli.proofs.PlayLemmas.{goes_put, goes_weaker}
+use Rattle.marker_cli.proofs.play.play_command.Goals as goal
+
+pub returns-in-SheetFile-clause-told : goal.returns-in-SheetFile-clause-told
+returns-in-SheetFile-clause-told g c files next told =
+    rw c.in-SheetFile.is (goes_weaker c.play_sheet.result (λ failed. failed) (λ none. absurd none)
+    (rw c.as_str.ensures.characters at c.play_sheet.ensures.told files (g.O.Sink.out c.args.out.now) next told))
+
+pub returns-in-Show-clause-told : goal.returns-in-Show-clause-told
+returns-in-Show-clause-told g c files next told =
+    rw c.in-Show.is (goes_put c.put_shown.result (at_start _ _) c.put_shown.ensures.ok c.put_shown.ensures.failed c.put_shown.ensures.cause)

@@ -1,0 +1,13 @@
+use Rattle.marker_cli.proofs.EndsLemmas.{at_start, at_text, ends_no_text}
+use Rattle.marker_cli.proofs.PlayLemmas.{goes_replaced, goes_stopped}
+use Rattle.marker_cli.proofs.play.play_sheet.Goals as goal
+
+pub returns-in_err-text-clause-told : goal.returns-in_err-text-clause-told
+returns-in_err-text-clause-told g c files before next told =
+    goes_stopped c.from_residual.result c.from_residual.ensures
+    (ends_no_text files _ _ _ (at_start _ _) (c.in_err-text.ensures.told files told) (λ failed. failed))
+
+pub returns-clause-told : goal.returns-clause-told
+returns-clause-told g c files before next told =
+    goes_replaced next c.replace_sheet.result (at_text files _ _ _ (at_start _ _) (c.in_ok-text.ensures.told files told))
+    c.replace_sheet.ensures.ok c.replace_sheet.ensures.cause

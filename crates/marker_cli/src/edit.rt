@@ -1,0 +1,55 @@
+//! The command `edit DOC SHEET SCRIPT`.
+
+ghost use Rattle.std.specs.Prelude.{◌≡◌, ◌≤◌, ℕ, List, Ok, Result, Some};
+ghost use Rattle.std.specs.Str.{chars};
+ghost use Rattle.edit_script.specs.declared.command.Command as command;
+ghost use Rattle.ports.specs.Causes.{Rose, RoseAbove};
+ghost use Rattle.ports.specs.Files.{Files};
+ghost use Rattle.marker_cli.specs.Dump.{DocumentReadsAs, Reading};
+ghost use Rattle.marker_cli.specs.Edit.{ScriptReadsAs, edit_output};
+ghost use Rattle.marker_cli.specs.Ends.{EndsAs, IsCaused, ReadsFailed, ended};
+ghost use Rattle.marker_cli.specs.Names.{TellsOfLine};
+
+use crate::fetch_text::fetch_text;
+use crate::play::play;
+use crate::read_texts::{read_commands, read_tree};
+use crate::status::{FileAt, Status};
+use edit_script::command::Command;
+use marker_engine::engine::Engine;
+use plain_types::list::List;
+use ports::shelf::Shelf;
+use ports::sink::Sink;
+use std::alloc::Global;
+use std::sync::ledger::Ledger;
+use steps::Steps;
+
+/// Does the commands of the script of that name with the document and the sheet of these names. The commands are
+/// left in `commands` once they are read: they have the names of the files that the script's lines name.
+pub fn edit<S: Shelf, O: Sink, L: Ledger>(
+    alloc: Global,
+    document: &str,
+    sheet: &str,
+    script: &str,
+    commands: &mut List<Command>,
+    shelf: &mut S,
+    out: &mut O,
+    steps: &mut Steps<L>,
+) -> Result<(), Status>
+    ensures told { (files : Files) (reading : Reading) (read : Result (List command.Command) ℕ) → S.held shelf.old ≡ Some files
+        → DocumentReadsAs files (chars document.now) (chars sheet.now) reading → ScriptReadsAs files (chars document.now) (chars sheet.now) (chars script.now) read
+        → EndsAs (ReadsFailed (S.honest shelf.old) (S.faults shelf.old) (S.faults shelf.new)) (Rose (O.faults out.old) (O.faults out.new))
+        (edit_output files (chars document.now) (chars sheet.now) (chars script.now) reading read) (O.out out.old) (O.out out.new) (ended result) }
+    ensures commands { (files : Files) (read : Result (List command.Command) ℕ) → S.held shelf.old ≡ Some files
+        → ScriptReadsAs files (chars document.now) (chars sheet.now) (chars script.now) read → TellsOfLine (ended result) → read ≡ Ok commands.new }
+    ensures cause { IsCaused ⊥ (Rose (S.faults shelf.old) (S.faults shelf.new)) (RoseAbove 16777216 (S.taken shelf.old) (S.taken shelf.new))
+        (Rose (O.faults out.old) (O.faults out.new)) (ended result) }
+    ensures faults { O.faults out.old ≤ O.faults out.new }
+{
+    let text = fetch_text(alloc, shelf, FileAt::Word(1), document)?;
+    let style = fetch_text(alloc, shelf, FileAt::Word(2), sheet)?;
+    let lines = fetch_text(alloc, shelf, FileAt::Word(3), script)?;
+    let tree = read_tree(alloc, text.as_str())?;
+    *commands = read_commands(alloc, lines.as_str())?;
+    let mut engine = Engine::start(alloc, tree, style.as_str(), steps)?;
+    play(alloc, commands.as_slice(), &mut engine, shelf, out, steps)
+}

@@ -1,0 +1,110 @@
+//! The command `gen SEED COUNT`.
+
+ghost use Rattle.std.specs.Prelude.{◌≡◌, ◌≤◌, ◌<◌, ◌+◌, ◌^◌, IfOk, OnOk, OnErr};
+ghost use Rattle.marker_engine.specs.Edited.{edited};
+ghost use Rattle.ports.specs.Causes.{HasCause, Rose};
+ghost use Rattle.ports.specs.Grown.{grown, GrowsByFront};
+ghost use Rattle.marker_cli.specs.Ends.{EndsAs, IsCaused, ended};
+ghost use Rattle.marker_cli.specs.Generated.{after_edits, counted, generated_output, number_lines, tallied, unedited};
+
+use crate::put_number::put_numbered;
+use crate::status::Status;
+use edit_script::generate;
+use edit_script::generator::GeneratedRun;
+use marker_engine::census::Census;
+use marker_engine::edit_fault::EditFault;
+use marker_engine::engine::Engine;
+use plain_types::edit::Edit;
+use plain_types::memory::Memory;
+use ports::failed::Failed;
+use ports::sink::Sink;
+use std::alloc::Global;
+use std::sync::ledger::Ledger;
+use steps::Steps;
+
+/// How many edits were accepted and refused.
+#[derive(Clone, Copy)]
+struct Tally {
+    accepted: usize,
+    refused: usize,
+}
+
+/// Does an edit and counts it, as accepted or as refused.
+fn apply_counted<L: Ledger>(
+    alloc: Global,
+    edit: &Edit,
+    engine: &mut Engine,
+    tally: Tally,
+    steps: &mut Steps<L>,
+) -> Result<Tally, Memory>
+    requires few { tally.accepted + tally.refused + 1 < 2 ^ 64 }
+    ensures counted { IfOk result (λ new. tallied engine.new new ≡ counted (tallied engine.old tally) (edited engine.old edit.now)) }
+    ensures sum { IfOk result (λ new. new.accepted + new.refused ≡ tally.accepted + tally.refused + 1) }
+{
+    match engine.apply(alloc, edit, steps) {
+        Ok(()) => Ok(Tally {
+            accepted: tally.accepted + 1,
+            refused: tally.refused,
+        }),
+        Err(EditFault::NoPlace | EditFault::IntoItself) => Ok(Tally {
+            accepted: tally.accepted,
+            refused: tally.refused + 1,
+        }),
+        Err(EditFault::Memory) => Err(Memory),
+    }
+}
+
+/// Does the edits in their order.
+fn apply_all<L: Ledger>(
+    alloc: Global,
+    edits: &[Edit],
+    engine: &mut Engine,
+    steps: &mut Steps<L>,
+) -> Result<Tally, Memory>
+    ensures tally { IfOk result (λ tally. tallied engine.new tally ≡ after_edits edits.now (unedited engine.old)) }
+{
+    let mut tally = Tally {
+        accepted: 0,
+        refused: 0,
+    };
+    for edit in edits {
+        tally = apply_counted(alloc, edit, engine, tally, steps)?;
+    }
+    Ok(tally)
+}
+
+/// Puts the lines about a run.
+fn put_numbers<O: Sink>(census: Census, tally: Tally, out: &mut O) -> Result<(), Failed>
+    ensures ok { OnOk result (O.out out.new ≡ grown (O.out out.old) (number_lines census.elements census.boxes tally.accepted tally.refused census.lines)) }
+    ensures failed { OnErr result (GrowsByFront (O.out out.old) (O.out out.new) (number_lines census.elements census.boxes tally.accepted tally.refused census.lines)) }
+    ensures cause { HasCause (O.faults out.old) (O.faults out.new) result }
+{
+    put_numbered(b"elements ", census.elements, b"\n", out)?;
+    put_numbered(b"boxes ", census.boxes, b"\n", out)?;
+    put_numbered(b"accepted ", tally.accepted, b"\n", out)?;
+    put_numbered(b"refused ", tally.refused, b"\n", out)?;
+    put_numbered(b"lines ", census.lines, b"\n", out)
+}
+
+/// Makes up the run of this seed with so many edits, does it, and writes how much there is of its document then,
+/// and how many edits were accepted and refused.
+pub fn generated<O: Sink, L: Ledger>(
+    alloc: Global,
+    seed: u32,
+    count: u32,
+    out: &mut O,
+    steps: &mut Steps<L>,
+) -> Result<(), Status>
+    ensures told { EndsAs ⊥ (Rose (O.faults out.old) (O.faults out.new)) (generated_output seed count) (O.out out.old) (O.out out.new) (ended result) }
+    ensures cause { IsCaused ⊥ ⊥ ⊥ (Rose (O.faults out.old) (O.faults out.new)) (ended result) }
+    ensures faults { O.faults out.old ≤ O.faults out.new }
+{
+    let GeneratedRun {
+        document,
+        sheet,
+        edits,
+    } = generate(alloc, seed, count)?;
+    let mut engine = Engine::start(alloc, document, sheet.as_str(), steps)?;
+    let tally = apply_all(alloc, edits.as_slice(), &mut engine, steps)?;
+    Ok(put_numbers(engine.census(steps), tally, out)?)
+}

@@ -1,0 +1,166 @@
+//! The commands of a script, one after another.
+
+ghost use Rattle.std.specs.Prelude.{◌≡◌, ◌≤◌, ◌⊎◌, ℕ, List, Option, Some, IfErr, OnOk, OnErr};
+ghost use Rattle.std.specs.Str.{chars};
+ghost use Rattle.marker_engine.specs.Edited.{edited};
+ghost use Rattle.marker_engine.specs.Engines.{Source};
+ghost use Rattle.ports.specs.Causes.{Rose, RoseAbove};
+ghost use Rattle.ports.specs.Files.{Files};
+ghost use Rattle.ports.specs.Grown.{grown, GrowsByFront};
+ghost use Rattle.marker_cli.specs.declared.status.FileAt.TheVariants.{Line};
+ghost use Rattle.marker_cli.specs.declared.status.Status.TheVariants as status;
+ghost use Rattle.marker_cli.specs.Edit.{action_output, after_edit, play, shown, with_sheet};
+ghost use Rattle.marker_cli.specs.Ends.{EndsAs, IsCaused, ReadsFailed, ended};
+ghost use Rattle.marker_cli.specs.Output.{Output};
+ghost use Rattle.marker_cli.specs.Stands.{Goes};
+ghost use Rattle.marker_cli.specs.Turns.{with_text};
+
+use crate::fetch_text::fetch_text;
+use crate::put_number::put_numbered;
+use crate::show::show;
+use crate::status::{FileAt, Status};
+use edit_script::action::Action;
+use edit_script::command::Command;
+use marker_engine::edit_fault::EditFault;
+use marker_engine::engine::Engine;
+use plain_types::edit::Edit;
+use plain_types::text::Text;
+use ports::shelf::Shelf;
+use ports::sink::{Sink, put_all};
+use std::alloc::Global;
+use std::sync::ledger::Ledger;
+use steps::Steps;
+
+/// Does the edit of the line of this number, or tells that it is refused.
+fn play_edit<O: Sink, L: Ledger>(
+    alloc: Global,
+    number: usize,
+    edit: &Edit,
+    engine: &mut Engine,
+    out: &mut O,
+    steps: &mut Steps<L>,
+) -> Result<(), Status>
+    ensures told { (next : Source → Output) → Goes ⊥ (Rose (O.faults out.old) (O.faults out.new))
+        (after_edit number engine.old (edited engine.old edit.now) next) (O.out out.old) (O.out out.new) (next engine.new) result }
+    ensures cause { IsCaused ⊥ ⊥ ⊥ (Rose (O.faults out.old) (O.faults out.new)) (ended result) }
+    ensures faults { O.faults out.old ≤ O.faults out.new }
+{
+    match engine.apply(alloc, edit, steps) {
+        Ok(()) => Ok(()),
+        Err(EditFault::NoPlace) => Ok(put_numbered(b"refused ", number, b" no-place\n", out)?),
+        Err(EditFault::IntoItself) => Ok(put_numbered(
+            b"refused ",
+            number,
+            b" into-itself\n",
+            out,
+        )?),
+        Err(EditFault::Memory) => Err(Status::Memory),
+    }
+}
+
+/// Puts the sheet of this text in the place of the sheet.
+fn replace_sheet<L: Ledger>(
+    alloc: Global,
+    text: Text,
+    engine: &mut Engine,
+    steps: &mut Steps<L>,
+) -> Result<(), Status>
+    ensures ok { OnOk result (engine.new ≡ with_sheet text engine.old) }
+    ensures cause { IfErr result (λ error. error ≡ status.Memory) }
+{
+    match engine.apply(alloc, &Edit::ReplaceSheet { text }, steps) {
+        Ok(()) => Ok(()),
+        Err(_) => Err(Status::Memory),
+    }
+}
+
+/// Reads the file that the line of this number names, and takes its text as the sheet.
+fn play_sheet<S: Shelf, L: Ledger>(
+    alloc: Global,
+    number: usize,
+    name: &str,
+    engine: &mut Engine,
+    shelf: &mut S,
+    steps: &mut Steps<L>,
+) -> Result<(), Status>
+    ensures told { (files : Files) (before : Option (List ℕ)) (next : Source → Output) → S.held shelf.old ≡ Some files
+        → Goes (ReadsFailed (S.honest shelf.old) (S.faults shelf.old) (S.faults shelf.new)) ⊥
+        (with_text files (Line number) (chars name.now) (λ text. next (with_sheet text engine.old))) before before (next engine.new) result }
+    ensures cause { IsCaused ⊥ (Rose (S.faults shelf.old) (S.faults shelf.new)) (RoseAbove 16777216 (S.taken shelf.old) (S.taken shelf.new)) ⊥ (ended result) }
+    ensures faults { S.faults shelf.old ≤ S.faults shelf.new }
+    ensures taken { S.taken shelf.old ≤ S.taken shelf.new }
+    ensures held { S.held shelf.new ≡ S.held shelf.old }
+    ensures honest { S.honest shelf.new ≡ S.honest shelf.old }
+{
+    let text = fetch_text(alloc, shelf, FileAt::Line(number), name)?;
+    replace_sheet(alloc, text, engine, steps)
+}
+
+/// Puts what the `show` of the line of this number shows.
+fn put_shown<O: Sink, L: Ledger>(
+    alloc: Global,
+    number: usize,
+    engine: &Engine,
+    out: &mut O,
+    steps: &mut Steps<L>,
+) -> Result<(), Status>
+    ensures ok { OnOk result (O.out out.new ≡ grown (O.out out.old) (shown number engine.now)) }
+    ensures failed { OnErr result (GrowsByFront (O.out out.old) (O.out out.new) (shown number engine.now)) }
+    ensures cause { IfErr result (λ error. (error ≡ status.Memory) ⊎ ((error ≡ status.WriteFault) × Rose (O.faults out.old) (O.faults out.new))) }
+    ensures faults { O.faults out.old ≤ O.faults out.new }
+{
+    put_numbered(b"show ", number, b"\n", out)?;
+    show(alloc, engine, out, steps)?;
+    Ok(put_all(out, b"end\n")?)
+}
+
+/// Does one command.
+fn play_command<S: Shelf, O: Sink, L: Ledger>(
+    alloc: Global,
+    command: &Command,
+    engine: &mut Engine,
+    shelf: &mut S,
+    out: &mut O,
+    steps: &mut Steps<L>,
+) -> Result<(), Status>
+    ensures told { (files : Files) (next : Source → Output) → S.held shelf.old ≡ Some files
+        → Goes (ReadsFailed (S.honest shelf.old) (S.faults shelf.old) (S.faults shelf.new)) (Rose (O.faults out.old) (O.faults out.new))
+        (action_output files command.now.line command.now.action engine.old next) (O.out out.old) (O.out out.new) (next engine.new) result }
+    ensures cause { IsCaused ⊥ (Rose (S.faults shelf.old) (S.faults shelf.new)) (RoseAbove 16777216 (S.taken shelf.old) (S.taken shelf.new))
+        (Rose (O.faults out.old) (O.faults out.new)) (ended result) }
+    ensures put_faults { O.faults out.old ≤ O.faults out.new }
+    ensures faults { S.faults shelf.old ≤ S.faults shelf.new }
+    ensures taken { S.taken shelf.old ≤ S.taken shelf.new }
+    ensures held { S.held shelf.new ≡ S.held shelf.old }
+    ensures honest { S.honest shelf.new ≡ S.honest shelf.old }
+{
+    let number = command.line;
+    match &command.action {
+        Action::Change(edit) => play_edit(alloc, number, edit, engine, out, steps),
+        Action::SheetFile(name) => play_sheet(alloc, number, name.as_str(), engine, shelf, steps),
+        Action::Show => put_shown(alloc, number, engine, out, steps),
+    }
+}
+
+/// Does the commands in their order. A refused edit is told and ends nothing; the first file that cannot be
+/// used, and the first write that fails, end the run.
+pub fn play<S: Shelf, O: Sink, L: Ledger>(
+    alloc: Global,
+    commands: &[Command],
+    engine: &mut Engine,
+    shelf: &mut S,
+    out: &mut O,
+    steps: &mut Steps<L>,
+) -> Result<(), Status>
+    ensures told { (files : Files) → S.held shelf.old ≡ Some files
+        → EndsAs (ReadsFailed (S.honest shelf.old) (S.faults shelf.old) (S.faults shelf.new)) (Rose (O.faults out.old) (O.faults out.new))
+        (play files commands.now engine.old) (O.out out.old) (O.out out.new) (ended result) }
+    ensures cause { IsCaused ⊥ (Rose (S.faults shelf.old) (S.faults shelf.new)) (RoseAbove 16777216 (S.taken shelf.old) (S.taken shelf.new))
+        (Rose (O.faults out.old) (O.faults out.new)) (ended result) }
+    ensures put_faults { O.faults out.old ≤ O.faults out.new }
+{
+    for command in commands {
+        play_command(alloc, command, engine, shelf, out, steps)?;
+    }
+    Ok(())
+}

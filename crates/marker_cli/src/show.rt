@@ -1,0 +1,35 @@
+//! The dump of what an engine stands for.
+
+ghost use Rattle.std.specs.Prelude.{◌≡◌, ◌≤◌, ◌⊎◌, IfErr, OnOk, OnErr};
+ghost use Rattle.generated_texts.specs.Lines.{fresh_dump};
+ghost use Rattle.ports.specs.Causes.{Rose};
+ghost use Rattle.ports.specs.Grown.{grown, GrowsByFront};
+ghost use Rattle.marker_cli.specs.declared.status.Status.TheVariants as status;
+
+use crate::status::Status;
+use marker_engine::engine::Engine;
+use marker_engine::show_fault::ShowFault;
+use ports::sink::Sink;
+use std::alloc::Global;
+use std::sync::ledger::Ledger;
+use steps::Steps;
+
+/// Puts the dump.
+pub fn show<O: Sink, L: Ledger>(
+    alloc: Global,
+    engine: &Engine,
+    out: &mut O,
+    steps: &mut Steps<L>,
+) -> Result<(), Status>
+    ensures ok { OnOk result (O.out out.new ≡ grown (O.out out.old) (fresh_dump engine.now.sheet engine.now.tree)) }
+    ensures failed { OnErr result (GrowsByFront (O.out out.old) (O.out out.new) (fresh_dump engine.now.sheet engine.now.tree)) }
+    ensures cause { IfErr result (λ error. (error ≡ status.Memory) ⊎ ((error ≡ status.WriteFault) × Rose (O.faults out.old) (O.faults out.new))) }
+    ensures faults { O.faults out.old ≤ O.faults out.new }
+    ensures steps { steps.new ≡ steps.old }
+{
+    match engine.show(alloc, out, steps) {
+        Ok(()) => Ok(()),
+        Err(ShowFault::WriteFault) => Err(Status::WriteFault),
+        Err(ShowFault::Memory) => Err(Status::Memory),
+    }
+}
