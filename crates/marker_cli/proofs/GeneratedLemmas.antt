@@ -11,10 +11,11 @@ use Rattle.node_arena.specs.Document.{HasElementRoot}
 use Rattle.plain_types.specs.declared.edit.Edit.{Edit}
 use Rattle.plain_types.specs.declared.node.Node.{Node}
 use Rattle.marker_cli.specs.declared.generated.Tally.{Tally}
-use Rattle.marker_cli.specs.Generated.{Edits, after_edits, counted, generated, number_lines, numbers, tallied, unedited}
+use Rattle.marker_cli.specs.Generated.{Outcome, after_edits, counted, generated, number_lines, numbers, unedited}
+use Rattle.marker_cli.specs.Tallies.{tallied}
 
 -- the next edit
-pub edits_next : (edits : List Edit) (place : ℕ) (edit : Edit) (now : Edits) → place < length edits → edit ≡ get_or edits place edit
+pub edits_next : (edits : List Edit) (place : ℕ) (edit : Edit) (now : Outcome) → place < length edits → edit ≡ get_or edits place edit
     → after_edits (drop place edits) now ≡ after_edits (drop (place + 1) edits) (counted now (edited now.source edit))
 edits_next edits place edit now below is = rw (add-one, drop-cons edits place edit below, ← is) refl
 
@@ -29,8 +30,8 @@ pub run_is : (seed count : ℕ) (start : Source) (edits : List Edit) → start.t
 run_is seed count start edits tree_is sheet_is edits_is = λ i. after_edits (edits_is i) (unedited (record { tree = tree_is i; sheet = sheet_is i }))
 
 -- the lines about them
-pub numbers_are : (source : Source) (elements boxes lines : ℕ) (tally : Tally) (edits : Edits) → elements ≡ saturated (element_count source.tree)
-    → boxes ≡ saturated (box_count source.sheet source.tree) → lines ≡ saturated (length (document_lines source.sheet source.tree)) → tallied source tally ≡ edits
-    → number_lines elements boxes tally.accepted tally.refused lines ≡ numbers edits
-numbers_are source elements boxes lines tally edits first second third same =
+pub numbers_are : (source : Source) (elements boxes lines : ℕ) (tally : Tally) (outcome : Outcome) → elements ≡ saturated (element_count source.tree)
+    → boxes ≡ saturated (box_count source.sheet source.tree) → lines ≡ saturated (length (document_lines source.sheet source.tree)) → tallied source tally ≡ outcome
+    → number_lines elements boxes tally.accepted tally.refused lines ≡ numbers outcome
+numbers_are source elements boxes lines tally outcome first second third same =
     (λ i. number_lines (first i) (second i) tally.accepted tally.refused (third i)) ∙ ap numbers same

@@ -22,7 +22,7 @@ abbrev pub ReadsAs : List ℕ → Reading → Type 0
 ReadsAs text (well_formed tree) = IsDocumentText text tree
 ReadsAs text (malformed line column) = FailsAsDocument text line column
 
--- DOC reads as this, where a run comes to read it: both files have texts
+-- DOC reads as this, where both files have texts
 abbrev pub DocumentReadsAs : Files → List ℕ → List ℕ → Reading → Type 0
 DocumentReadsAs files document sheet reading =
     (text style : List ℕ) → text_in (Word 1) (files document) ≡ Ok text → text_in (Word 2) (files sheet) ≡ Ok style → ReadsAs text reading

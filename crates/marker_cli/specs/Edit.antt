@@ -19,8 +19,7 @@ use Rattle.marker_cli.specs.Dump.{Reading, tree_of}
 use Rattle.marker_cli.specs.Output.{Output, ends, writes, goes_on}
 use Rattle.marker_cli.specs.Turns.{text_in, with_text}
 
--- SCRIPT reads as these commands, or its first bad line has this number, where a run comes to read it: all
--- three files have texts
+-- SCRIPT reads as these commands, or its first bad line has this number, where all three files have texts
 abbrev pub ScriptReadsAs : Files → (document sheet script : List ℕ) → Result (List Command) ℕ → Type 0
 ScriptReadsAs files document sheet script reading =
     (text style lines : List ℕ) → text_in (Word 1) (files document) ≡ Ok text → text_in (Word 2) (files sheet) ≡ Ok style

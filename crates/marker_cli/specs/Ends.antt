@@ -1,5 +1,5 @@
 -- How a run may end, against its output (our own).
-use Rattle.std.specs.Prelude.{◌≡◌, ◌⊎◌, ℕ, Bool, false, List, Option, Result, Ok, Err}
+use Rattle.std.specs.Prelude.{◌≡◌, ◌⊎◌, ℕ, Bool, false, List, Option, Result, Ok, Err, IfErr}
 use Rattle.ports.specs.Causes.{Rose}
 use Rattle.ports.specs.Grown.{grown, GrowsByFront}
 use Rattle.marker_cli.specs.declared.status.FileAt.{FileAt}
@@ -45,3 +45,7 @@ IsCaused usage read large write WriteFault = write
 abbrev pub Gives : {A : Type 0} → Result A Status → Result A Status → Type 0
 Gives given (Ok value) = given ≡ Ok value
 Gives given (Err refusal) = (refusal ≡ Memory) ⊎ (given ≡ Err refusal)
+
+-- a part that writes stops for want of memory, or since a write failed
+abbrev pub IsPutCaused : {A : Type 0} → Type 0 → Result A Status → Type 0
+IsPutCaused failed result = IfErr result (λ error. (error ≡ Memory) ⊎ ((error ≡ WriteFault) × failed))

@@ -8,32 +8,31 @@ use Rattle.marker_engine.specs.Edited.{edited}
 use Rattle.marker_engine.specs.Engines.{Source}
 use Rattle.node_arena.specs.declared.place_fault.PlaceFault.{PlaceFault}
 use Rattle.plain_types.specs.declared.edit.Edit.{Edit}
-use Rattle.marker_cli.specs.declared.generated.Tally.{Tally}
 use Rattle.marker_cli.specs.declared.status.Status.TheVariants as status
 use Rattle.marker_cli.specs.Output.{Output, ends, writes}
 
 -- a document under its sheet after some edits, and how many of these were accepted and refused
-pub record Edits : Type 0 where
+pub record Outcome : Type 0 where
   pub source : Source
   pub accepted : ℕ
   pub refused : ℕ
 
 -- one more edit
-abbrev pub counted : Edits → Result Source PlaceFault → Edits
-counted edits (Ok source) = record { source = source; accepted = edits.accepted + 1; refused = edits.refused }
-counted edits (Err fault) = record { source = edits.source; accepted = edits.accepted; refused = edits.refused + 1 }
+abbrev pub counted : Outcome → Result Source PlaceFault → Outcome
+counted outcome (Ok source) = record { source = source; accepted = outcome.accepted + 1; refused = outcome.refused }
+counted outcome (Err fault) = record { source = outcome.source; accepted = outcome.accepted; refused = outcome.refused + 1 }
 
 -- these edits, in their order
-abbrev pub after_edits : List Edit → Edits → Edits
-after_edits [] edits = edits
-after_edits (edit ∷ more) edits = after_edits more (counted edits (edited edits.source edit))
+abbrev pub after_edits : List Edit → Outcome → Outcome
+after_edits [] outcome = outcome
+after_edits (edit ∷ edits) outcome = after_edits edits (counted outcome (edited outcome.source edit))
 
 -- no edit yet
-abbrev pub unedited : Source → Edits
+abbrev pub unedited : Source → Outcome
 unedited source = record { source = source; accepted = 0; refused = 0 }
 
 -- the run of this seed with so many edits
-abbrev pub generated : ℕ → ℕ → Edits
+abbrev pub generated : ℕ → ℕ → Outcome
 generated seed count = after_edits (edits_of seed count) (unedited (record { tree = document seed count; sheet = sheet }))
 
 -- a line with a number
@@ -49,15 +48,11 @@ number_lines elements boxes accepted refused lines =
     ++ number_line (codes "lines ") lines)))
 
 -- the lines about a run: what there is of the document at its end, and what became of the edits
-abbrev pub numbers : Edits → List ℕ
-numbers edits =
-    number_lines (saturated (element_count edits.source.tree)) (saturated (box_count edits.source.sheet edits.source.tree)) edits.accepted edits.refused
-    (saturated (length (document_lines edits.source.sheet edits.source.tree)))
+abbrev pub numbers : Outcome → List ℕ
+numbers outcome =
+    number_lines (saturated (element_count outcome.source.tree)) (saturated (box_count outcome.source.sheet outcome.source.tree)) outcome.accepted outcome.refused
+    (saturated (length (document_lines outcome.source.sheet outcome.source.tree)))
 
 -- the output of `gen SEED COUNT`
 abbrev pub generated_output : ℕ → ℕ → Output
 generated_output seed count = writes (numbers (generated seed count)) (ends status.Ok)
-
--- a document under its sheet, and the numbers of edits that a tally has
-abbrev pub tallied : Source → Tally → Edits
-tallied source tally = record { source = source; accepted = tally.accepted; refused = tally.refused }

@@ -8,5 +8,6 @@ pub mod Output
 pub mod Run
 pub mod Stands
 pub mod Table
+pub mod Tallies
 pub mod Turns
 pub mod Words

@@ -20,7 +20,7 @@ pub record Readings : Type 0 where
   pub document : Reading
   pub script : Result (List Command) ℕ
 
--- they do read so, as far as the run comes to read them
+-- They do read so. Of files this is asked only where they have texts, as well as those that are read before them.
 pub record AreReadings (words : List (List ℕ)) (files : Files) (readings : Readings) : Type 0 where
   pub form : ReadsAsForm words readings.form
   pub document : DocumentReadsAs files (word words 1) (word words 2) readings.document

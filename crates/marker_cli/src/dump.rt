@@ -1,6 +1,6 @@
 //! The command `dump DOC SHEET`.
 
-ghost use Rattle.std.specs.Prelude.{◌≡◌, ◌≤◌, ◌+◌, ◌*◌, ◌⊎◌, Some, IfErr, OnOk, OnErr};
+ghost use Rattle.std.specs.Prelude.{◌≡◌, ◌≤◌, ◌+◌, ◌*◌, Some, IfErr, OnOk, OnErr};
 ghost use Rattle.std.specs.Str.{chars};
 ghost use Rattle.forest.specs.Forest.{size};
 ghost use Rattle.generated_texts.specs.Lines.{fresh_dump};
@@ -9,9 +9,8 @@ ghost use Rattle.ports.specs.Causes.{Rose, RoseAbove};
 ghost use Rattle.ports.specs.Files.{Files};
 ghost use Rattle.ports.specs.Grown.{grown, GrowsByFront};
 ghost use Rattle.marker_cli.specs.Dump.{DocumentReadsAs, Reading, dump_output, most_steps};
-ghost use Rattle.marker_cli.specs.Ends.{EndsAs, IsCaused, ReadsFailed, ended};
+ghost use Rattle.marker_cli.specs.Ends.{EndsAs, IsCaused, IsPutCaused, ReadsFailed, ended};
 ghost use Rattle.marker_cli.specs.Names.{TellsOfLine};
-ghost use Rattle.marker_cli.specs.declared.status.Status.TheVariants as status;
 
 use crate::fetch_text::fetch_text;
 use crate::read_texts::read_tree;
@@ -36,7 +35,7 @@ fn put_dump<O: Sink, L: Ledger>(
     requires element { HasElementRoot tree }
     ensures ok { OnOk result (O.out out.new ≡ grown (O.out out.old) (fresh_dump (chars sheet.now) tree)) }
     ensures failed { OnErr result (GrowsByFront (O.out out.old) (O.out out.new) (fresh_dump (chars sheet.now) tree)) }
-    ensures cause { IfErr result (λ error. (error ≡ status.Memory) ⊎ ((error ≡ status.WriteFault) × Rose (O.faults out.old) (O.faults out.new))) }
+    ensures cause { IsPutCaused (Rose (O.faults out.old) (O.faults out.new)) result }
     ensures faults { O.faults out.old ≤ O.faults out.new }
     ensures steps { steps.new ≤ steps.old + 6 * size tree }
 {

@@ -5,7 +5,8 @@ ghost use Rattle.marker_engine.specs.Edited.{edited};
 ghost use Rattle.ports.specs.Causes.{HasCause, Rose};
 ghost use Rattle.ports.specs.Grown.{grown, GrowsByFront};
 ghost use Rattle.marker_cli.specs.Ends.{EndsAs, IsCaused, ended};
-ghost use Rattle.marker_cli.specs.Generated.{after_edits, counted, generated_output, number_lines, tallied, unedited};
+ghost use Rattle.marker_cli.specs.Generated.{after_edits, counted, generated_output, number_lines, unedited};
+ghost use Rattle.marker_cli.specs.Tallies.{tallied};
 
 use crate::put_number::put_numbered;
 use crate::status::Status;

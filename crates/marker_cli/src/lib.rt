@@ -26,8 +26,9 @@
 //! definition computes; so it is with SCRIPT (`ReadsAsScript`). So `output` takes what the words and texts read as, the `Readings`, and the clause
 //! of `run` holds for all that are right where the run comes to read them (`AreReadings`).
 //!
-//! `Stands` says where a run stands between two of its parts. A command that joins has an `.._output` of its
-//! own in `specs/` and a line in `output`; a status that joins has a line in `code_of`, `message` and `IsCaused`.
+//! `Stands` says where a run stands between two of its parts. A command that joins has an `.._output` of its own in
+//! `specs/`, and a line in `IsForm` and `form_output`; a status that joins has a line in `code_of`, `message`, `IsCaused`
+//! and `TellsOfLine`.
 //!
 //! The words, the order of refusals and the lines are our own.
 //!

@@ -10,7 +10,7 @@ ghost use Rattle.ports.specs.Grown.{grown, GrowsByFront};
 ghost use Rattle.marker_cli.specs.declared.status.FileAt.TheVariants.{Line};
 ghost use Rattle.marker_cli.specs.declared.status.Status.TheVariants as status;
 ghost use Rattle.marker_cli.specs.Edit.{action_output, after_edit, play, shown, with_sheet};
-ghost use Rattle.marker_cli.specs.Ends.{EndsAs, IsCaused, ReadsFailed, ended};
+ghost use Rattle.marker_cli.specs.Ends.{EndsAs, IsCaused, IsPutCaused, ReadsFailed, ended};
 ghost use Rattle.marker_cli.specs.Output.{Output};
 ghost use Rattle.marker_cli.specs.Stands.{Goes};
 ghost use Rattle.marker_cli.specs.Turns.{with_text};
@@ -106,7 +106,7 @@ fn put_shown<O: Sink, L: Ledger>(
 ) -> Result<(), Status>
     ensures ok { OnOk result (O.out out.new ≡ grown (O.out out.old) (shown number engine.now)) }
     ensures failed { OnErr result (GrowsByFront (O.out out.old) (O.out out.new) (shown number engine.now)) }
-    ensures cause { IfErr result (λ error. (error ≡ status.Memory) ⊎ ((error ≡ status.WriteFault) × Rose (O.faults out.old) (O.faults out.new))) }
+    ensures cause { IsPutCaused (Rose (O.faults out.old) (O.faults out.new)) result }
     ensures faults { O.faults out.old ≤ O.faults out.new }
 {
     put_numbered(b"show ", number, b"\n", out)?;

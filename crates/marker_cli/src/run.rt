@@ -1,9 +1,10 @@
 //! A run.
 
-ghost use Rattle.std.specs.Prelude.{◌≡◌, ◌⊎◌, ◌≤◌, ◌+◌, [], IsTrue, Some, None, Ok};
+ghost use Rattle.std.specs.Prelude.{◌≡◌, ◌⊎◌, ◌≤◌, ◌+◌, [], List, IsTrue, Some, None, Ok};
 ghost use Rattle.ports.specs.Causes.{Rose, RoseAbove};
 ghost use Rattle.ports.specs.Files.{Files};
 ghost use Rattle.ports.specs.Grown.{grown};
+ghost use Rattle.edit_script.specs.declared.command.Command as command;
 ghost use Rattle.marker_cli.specs.Dump.{most_steps};
 ghost use Rattle.marker_cli.specs.Ends.{EndsAs, IsCaused, ReadsFailed, ended};
 ghost use Rattle.marker_cli.specs.Lines.{GoesOut, message};
@@ -153,6 +154,7 @@ pub fn run<S: Shelf, O: Sink, E: Sink, L: Ledger>(
     ensures too_large { (file : FileAt) → result ≡ status.TooLarge file → RoseAbove 16777216 (S.taken shelf.old) (S.taken shelf.new) }
     ensures write_fault { result ≡ status.WriteFault → Rose (O.faults out.old) (O.faults out.new) }
     ensures line { ¬ (TellsOfLine result) → GoesOut (Rose (E.faults err.old) (E.faults err.new)) (E.out err.old) (E.out err.new) (message words.now [] result) }
+    ensures any_line { (commands : List command.Command) × GoesOut (Rose (E.faults err.old) (E.faults err.new)) (E.out err.old) (E.out err.new) (message words.now commands result) }
     ensures sheet_line { (files : Files) (readings : Readings) → S.held shelf.old ≡ Some files → AreReadings words.now files readings → TellsOfLine result
         → GoesOut (Rose (E.faults err.old) (E.faults err.new)) (E.out err.old) (E.out err.new) (message words.now (commands_in readings.script) result) }
     ensures steps { (files : Files) (readings : Readings) → S.held shelf.old ≡ Some files → AreReadings words.now files readings

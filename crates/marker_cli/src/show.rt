@@ -1,10 +1,10 @@
 //! The dump of what an engine stands for.
 
-ghost use Rattle.std.specs.Prelude.{◌≡◌, ◌≤◌, ◌⊎◌, IfErr, OnOk, OnErr};
+ghost use Rattle.std.specs.Prelude.{◌≡◌, ◌≤◌, OnOk, OnErr};
 ghost use Rattle.generated_texts.specs.Lines.{fresh_dump};
 ghost use Rattle.ports.specs.Causes.{Rose};
 ghost use Rattle.ports.specs.Grown.{grown, GrowsByFront};
-ghost use Rattle.marker_cli.specs.declared.status.Status.TheVariants as status;
+ghost use Rattle.marker_cli.specs.Ends.{IsPutCaused};
 
 use crate::status::Status;
 use marker_engine::engine::Engine;
@@ -23,7 +23,7 @@ pub fn show<O: Sink, L: Ledger>(
 ) -> Result<(), Status>
     ensures ok { OnOk result (O.out out.new ≡ grown (O.out out.old) (fresh_dump engine.now.sheet engine.now.tree)) }
     ensures failed { OnErr result (GrowsByFront (O.out out.old) (O.out out.new) (fresh_dump engine.now.sheet engine.now.tree)) }
-    ensures cause { IfErr result (λ error. (error ≡ status.Memory) ⊎ ((error ≡ status.WriteFault) × Rose (O.faults out.old) (O.faults out.new))) }
+    ensures cause { IsPutCaused (Rose (O.faults out.old) (O.faults out.new)) result }
     ensures faults { O.faults out.old ≤ O.faults out.new }
     ensures steps { steps.new ≡ steps.old }
 {

@@ -1,6 +1,6 @@
 //! The command `table SHEET STYLE FROM TO`.
 
-ghost use Rattle.std.specs.Prelude.{◌≡◌, ◌≤◌, ◌⊎◌, Some, IfOk, IfErr, OnOk, OnErr};
+ghost use Rattle.std.specs.Prelude.{◌≡◌, ◌≤◌, Some, IfOk, IfErr, OnOk, OnErr};
 ghost use Rattle.std.specs.Str.{chars};
 ghost use Rattle.css_reader.specs.Sheets.{sheet as sheet_of};
 ghost use Rattle.definitions.specs.CounterStyles.{finished_styles};
@@ -9,10 +9,9 @@ ghost use Rattle.ports.specs.Causes.{Rose, RoseAbove};
 ghost use Rattle.ports.specs.Files.{Files};
 ghost use Rattle.ports.specs.Grown.{grown, GrowsByFront};
 ghost use Rattle.table_text.specs.Rows.{rows, values_between};
-ghost use Rattle.marker_cli.specs.Ends.{EndsAs, IsCaused, ReadsFailed, ended};
+ghost use Rattle.marker_cli.specs.Ends.{EndsAs, IsCaused, IsPutCaused, ReadsFailed, ended};
 ghost use Rattle.marker_cli.specs.Names.{TellsOfLine};
 ghost use Rattle.marker_cli.specs.Table.{table_output};
-ghost use Rattle.marker_cli.specs.declared.status.Status.TheVariants as status;
 
 use crate::fetch_text::fetch_text;
 use crate::status::{FileAt, Status};
@@ -47,7 +46,7 @@ fn put_values<O: Sink>(
 ) -> Result<(), Status>
     ensures ok { OnOk result (O.out out.new ≡ grown (O.out out.old) (rows table.now (Name (chars style.now)) (values_between from to))) }
     ensures failed { OnErr result (GrowsByFront (O.out out.old) (O.out out.new) (rows table.now (Name (chars style.now)) (values_between from to))) }
-    ensures cause { IfErr result (λ error. (error ≡ status.Memory) ⊎ ((error ≡ status.WriteFault) × Rose (O.faults out.old) (O.faults out.new))) }
+    ensures cause { IsPutCaused (Rose (O.faults out.old) (O.faults out.new)) result }
     ensures faults { O.faults out.old ≤ O.faults out.new }
 {
     let name = Text::from_str(alloc, style)?;

@@ -1,4 +1,4 @@
--- What an engine stands for.
+-- What an engine stands for (our own).
 use Rattle.std.specs.Prelude.{ℕ, List, refl}
 use Rattle.std.specs.Coded.{Coded, code_by, coded×, coded_list, coded_ℕ}
 use Rattle.forest.specs.Forest.{Forest, coded_forest}

@@ -2,10 +2,11 @@
 
 ghost use Rattle.std.specs.Prelude.{◌≡◌, ◌<◌};
 
+use crate::trees::tree_of;
 use css_reader::sheet::read_sheet;
 use mini_cascade::agent_sheet::AGENT_SHEET;
 use mini_cascade::style_of::style_of;
-use node_arena::arena::{Arena, has_element_root};
+use node_arena::arena::Arena;
 use plain_types::content::Content;
 use plain_types::memory::Memory;
 use plain_types::sheet::Sheet;
@@ -18,8 +19,6 @@ use std::marker::Brand;
 use std::sync::ledger::{Blank, Ledger};
 use std::test::Fail;
 use steps::Steps;
-use xhtml_reader::fault::DocFault;
-use xhtml_reader::read_document;
 
 /// A document in which each element has one child at most, a sheet, and the style of the innermost element.
 type Styled = (&'static str, &'static str, &'static str);
@@ -72,11 +71,9 @@ static SELECTED: [(&str, bool, bool); 4] = [
 
 /// The document in an arena; none where the text is no document.
 pub fn arena_of(alloc: Global, text: &str) -> Result<Option<Arena>, Memory> {
-    match read_document(alloc, text) {
-        Ok(tree) if has_element_root(&tree) => Ok(Some(Arena::from_tree(alloc, &tree)?)),
-        Ok(_) => Ok(None),
-        Err(DocFault::Malformed { line: _, column: _ }) => Ok(None),
-        Err(DocFault::Memory) => Err(Memory),
+    match tree_of(alloc, text)? {
+        Some(tree) => Ok(Some(Arena::from_tree(alloc, &tree)?)),
+        None => Ok(None),
     }
 }
 

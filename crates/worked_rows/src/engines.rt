@@ -3,9 +3,9 @@
 ghost use Rattle.std.specs.Prelude.{◌≡◌, ◌<◌};
 ghost use Rattle.node_arena.specs.Document.{HasElementRoot};
 
+use crate::trees::tree_of;
 use marker_engine::census::Census;
 use marker_engine::engine::Engine;
-use node_arena::arena::has_element_root;
 use plain_types::memory::Memory;
 use plain_types::text::Text;
 use plain_types::tree::Tree;
@@ -13,7 +13,6 @@ use std::marker::Brand;
 use std::sync::ledger::{Blank, Ledger};
 use std::test::Fail;
 use steps::Steps;
-use xhtml_reader::read_document;
 
 /// Documents, their sheets, and how many elements, boxes and lines they have.
 static NUMBERS: [(&str, &str, usize, usize, usize); 5] = [
@@ -63,12 +62,9 @@ fn has_numbers(
     sheet: &str,
     numbers: Census,
 ) -> Result<bool, Memory> {
-    let Ok(tree) = read_document(rt.alloc(), document) else {
+    let Some(tree) = tree_of(rt.alloc(), document)? else {
         return Ok(false);
     };
-    if !has_element_root(&tree) {
-        return Ok(false);
-    }
     let text = Text::from_str(rt.alloc(), sheet)?;
     let found = numbers_of::<Brand>(rt, Blank::new(1), tree, &text)?;
     Ok(found == numbers)

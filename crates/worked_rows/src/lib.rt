@@ -14,6 +14,8 @@ mod contents;
 #[cfg(test)]
 mod dumps;
 #[cfg(test)]
+mod edits;
+#[cfg(test)]
 mod engines;
 #[cfg(test)]
 mod evaluation;
@@ -32,5 +34,7 @@ mod starts;
 mod tables;
 #[cfg(test)]
 mod tests;
+#[cfg(test)]
+mod trees;
 #[cfg(test)]
 mod values;

@@ -1,5 +1,6 @@
 use Rattle.std.proofs.Common.{◌≡◌, ◌+◌, drop}
-use Rattle.marker_cli.specs.Generated.{after_edits, tallied, unedited}
+use Rattle.marker_cli.specs.Generated.{after_edits, unedited}
+use Rattle.marker_cli.specs.Tallies.{tallied}
 use Rattle.marker_cli.proofs.generated.apply_all.Given as goal
 
 abbrev pub invariant-loop-edit : goal.invariant-loop-edit

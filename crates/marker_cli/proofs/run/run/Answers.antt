@@ -65,3 +65,6 @@ returns-clause-sheet_line g c files readings told reads tells =
     let same = ap commands_in (c.perform-status.ensures.commands files readings told reads (tells_before _ _ _ c.flushed-status.ensures.outcome tells)) in
     subst (λ commands. GoesOut (Rose (g.E.Sink.faults c.args.err.now) (g.E.Sink.faults c.report.new.err)) (g.E.Sink.out c.args.err.now) (g.E.Sink.out c.report.new.err) (message c.args.words.now commands c.flushed-status.result))
     (c.as_slice.ensures.items ∙ sym same) c.report.ensures.line
+
+pub returns-clause-any_line : goal.returns-clause-any_line
+returns-clause-any_line g c = (c.as_slice.result.now, c.report.ensures.line)
