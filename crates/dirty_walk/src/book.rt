@@ -1,17 +1,19 @@
 //! A document and its sheet, evaluated.
 
-ghost use Rattle.std.specs.Prelude.{◌≡◌, ◌≤◌, ◌+◌, ◌*◌, ℕ, true, List, None, unwrap_or, IfOk, OnErr, option_copied};
+ghost use Rattle.std.specs.Prelude.{◌≡◌, ◌≤◌, ◌+◌, ◌*◌, ℕ, true, List, Some, None, IsSome, is_some, unwrap_or, IfOk, OnErr, option_copied};
 ghost use Rattle.std.specs.Str.{chars};
 ghost use Rattle.forest.specs.Forest.{size};
 ghost use Rattle.forest.specs.Keys.{without_keys};
 ghost use Rattle.node_arena.specs.Document.{HasElementRoot};
 ghost use Rattle.node_arena.specs.Edits.{place_fault, edited, edited_sheet, IsEdited};
+ghost use Rattle.node_arena.specs.Nodes.{name_of};
 ghost use Rattle.dirty_walk.specs.Books.{fresh_entry};
 ghost use Rattle.dirty_walk.specs.Plans.{settled_after, IsPlannedBy};
 
 use crate::fresh::fresh_entries;
 use crate::plan::Plan;
 use generated_texts::entry::NodeEntry;
+use generated_texts::laws::elements_have_entries;
 use node_arena::arena::Arena;
 use node_arena::reversal::Reversal;
 use plain_types::duplicate::Duplicate;
@@ -161,11 +163,25 @@ impl Book {
         self.sheet.as_str()
     }
 
+    /// What is kept of the element of this key. It takes no memory and constant time, and counts one step at most.
+    pub fn entry<L: Ledger>(&self, key: usize, steps: &mut Steps<L>) -> &NodeEntry
+        requires settled { self.now.settled ≡ true }
+        requires element { IsSome (name_of self.now.tree key) }
+        ensures entry { Some result.now ≡ fresh_entry self.now key }
+        ensures steps { steps.new ≤ steps.old + 1 }
+    {
+        self.find_entry(key).unwrap()
+    }
+
     /// What is kept of the element of this key; None exactly where no element has it. Constant time.
     pub fn find_entry(&self, key: usize) -> Option<&NodeEntry>
         requires settled { self.now.settled ≡ true }
         ensures entry { option_copied result ≡ fresh_entry self.now key }
+        ensures element { is_some result ≡ is_some (name_of self.now.tree key) }
     {
+        // The document has distinct keys, and then exactly its elements have entries.
+        let _root = self.arena.root();
+        elements_have_entries();
         self.entries.get(&key)
     }
 }

@@ -6,3 +6,4 @@ pub mod RekeyedBoxes
 pub mod RekeyedTrees
 pub mod RekeyedTexts
 pub mod EachKeying
+pub mod EntryKeys

@@ -1,12 +1,20 @@
--- Laws of generated texts: keys do not matter.
-use Rattle.std.specs.Prelude.{◌≡◌, ℕ, List}
+-- Laws of generated texts: which keys entries have, and that keys do not matter.
+use Rattle.std.specs.Prelude.{◌≡◌, ℕ, List, is_some}
 use Rattle.forest.specs.Forest.{Forest}
 use Rattle.forest.specs.Keys.{Keyed, HasDistinctKeys, numbered, without_keys}
 use Rattle.plain_types.specs.declared.node.Node.{Node}
 use Rattle.plain_types.specs.declared.sheet.Sheet.{Sheet}
+use Rattle.node_arena.specs.Nodes.{name_of}
 use Rattle.generated_texts.specs.Entries.{document_entries}
 use Rattle.generated_texts.specs.Keyings.{KeepsApart, rekeyed, rekeyed_entries}
 use Rattle.generated_texts.specs.Lines.{document_lines, keyed_lines}
+use Rattle.generated_texts.specs.References.{kept_at}
+
+-- The entries of a document have exactly the keys of its elements: the nodes that have a name.
+abbrev pub EntriesHaveKeysOfElements : Type 0
+EntriesHaveKeysOfElements =
+    (author : Sheet) (document : Forest (Keyed Node)) (key : ℕ) → HasDistinctKeys document
+    → is_some (kept_at (document_entries author document) key) ≡ is_some (name_of document key)
 
 -- Each document whose nodes have distinct keys is the one with the places in tree order as its keys, under
 -- other keys.

@@ -1,6 +1,6 @@
 //! Laws of generated texts. The functions do nothing: each contract is a law, proved of every document.
 
-ghost use Rattle.generated_texts.specs.Laws.{EachKeyingIsAnother, EntriesFollowKeys, LinesAreThoseOfTheTree, LinesKeepNoKeys};
+ghost use Rattle.generated_texts.specs.Laws.{EachKeyingIsAnother, EntriesFollowKeys, EntriesHaveKeysOfElements, LinesAreThoseOfTheTree, LinesKeepNoKeys};
 
 /// Whichever distinct keys the nodes of a document have, its generated texts are the same. Each keying is that by
 /// places in tree order under other keys, and under other keys all that is kept of elements is the same but for
@@ -10,4 +10,10 @@ pub fn keys_do_not_matter()
     ensures entries { EntriesFollowKeys }
     ensures lines { LinesKeepNoKeys }
     ensures tree { LinesAreThoseOfTheTree }
+{}
+
+/// The entries of a document have exactly the keys of its elements, where no two nodes have one key: each element has
+/// an entry, and a text has none.
+pub fn elements_have_entries()
+    ensures keys { EntriesHaveKeysOfElements }
 {}

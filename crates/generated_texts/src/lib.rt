@@ -11,8 +11,8 @@
 //! | `Lines.antt` | the lines of a dump, in tree order |
 //! | `Keyings.antt` | the same under other keys |
 //!
-//! An [`entry::NodeEntry`] is what is kept of an element. Nodes are named by keys, and whichever distinct keys they
-//! have, the texts are the same: that is the law of [`laws`].
+//! An [`entry::NodeEntry`] is what is kept of an element: each element of a document has one, and a text has none. Nodes
+//! are named by keys, and whichever distinct keys they have, the texts are the same. Both are laws of [`laws`].
 #![tactic(auto)]
 
 pub mod entry;

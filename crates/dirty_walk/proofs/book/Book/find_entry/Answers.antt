@@ -1,11 +1,25 @@
-use Rattle.std.proofs.Common.{◌∙◌, ap}
+use Rattle.std.proofs.Common.{◌≡◌, ◌∙◌, ap, subst, sym, true}
+use Rattle.std.specs.Prelude.{is_some}
+use Rattle.forest.specs.Forest.{Forest}
+use Rattle.forest.specs.Keys.{Keyed, HasDistinctKeys}
+use Rattle.plain_types.specs.declared.node.Node.{Node}
+use Rattle.css_reader.specs.Sheets.{sheet}
 use Rattle.dirty_walk.specs.Books.{StyledDocument, fresh_entry}
+use Rattle.dirty_walk.proofs.KeptLemmas.{copied_some}
 use Rattle.dirty_walk.proofs.book.Book.find_entry.Goals as goal
 
 pub returns : goal.returns
-returns c = record {
-  entry =
-      c.get.ensures.value
-      ∙ c.self.invariant.kept (ap (λ (styled : StyledDocument). styled.settled) c.self.view_is ∙ c.requires.settled) c.args.key
-      ∙ ap (λ (styled : StyledDocument). fresh_entry styled c.args.key) c.self.view_is;
-}
+returns c =
+    let tree : c.self.inside.arena.tree ≡ c.args.self.now.tree = ap (λ (styled : StyledDocument). styled.tree) c.self.view_is in
+    let kept =
+    c.get.ensures.value
+    ∙ c.self.invariant.kept (ap (λ (styled : StyledDocument). styled.settled) c.self.view_is ∙ c.requires.settled) c.args.key
+    ∙ ap (λ (styled : StyledDocument). fresh_entry styled c.args.key) c.self.view_is in
+    record {
+      entry = kept;
+      element =
+          sym (copied_some c.get.result)
+          ∙ ap is_some kept
+          ∙ c.elements_have_entries.ensures.keys (sheet c.args.self.now.sheet) c.args.self.now.tree c.args.key
+          (subst (λ (t : Forest (Keyed Node)). HasDistinctKeys t) tree c.root-root.ensures.document.distinct);
+    }
