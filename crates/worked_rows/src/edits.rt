@@ -40,7 +40,7 @@ struct Course {
 const PLAIN: &str = "b::before{content:\"b\"}";
 
 /// The children of a paragraph: a text, and then an element.
-const CHILDREN: Course = Course {
+static CHILDREN: Course = Course {
     start: ("<p/>", PLAIN, ""),
     rows: &[
         ("insert / 0 t", Ok(("<p>t</p>", PLAIN, ""))),
@@ -59,7 +59,7 @@ const CHILDREN: Course = Course {
     ],
 };
 
-const REFUSALS: Course = Course {
+static REFUSALS: Course = Course {
     start: ("<ol><li><b/><i/></li></ol>", "", "/0 marker \"1. \"\n"),
     rows: &[
         ("move /0 /0/1 0", Err(EditFault::IntoItself)),
@@ -77,7 +77,7 @@ const MOVED: State = (
 );
 
 /// The first item becomes the last: two are left once it is out, so that is the place 2.
-const FIRST_TO_LAST: Course = Course {
+static FIRST_TO_LAST: Course = Course {
     start: (
         "<ol><li id=\"a\"/><li id=\"b\"/><li id=\"c\"/></ol>",
         IDS,
@@ -94,7 +94,7 @@ const FIRST_TO_LAST: Course = Course {
 const NUMBERED: &str =
     "p{counter-reset:n}b{counter-increment:n}b::before{content:counter(n)attr(a)}";
 
-const INSERTIONS: Course = Course {
+static INSERTIONS: Course = Course {
     start: ("<p/>", NUMBERED, ""),
     rows: &[
         (
@@ -147,7 +147,7 @@ const INSERTIONS: Course = Course {
     ],
 };
 
-const MOVES_AND_REMOVALS: Course = Course {
+static MOVES: Course = Course {
     start: (
         "<p><b a=\"x\"/>t<b a=\"y\"><i/></b></p>",
         NUMBERED,
@@ -155,8 +155,6 @@ const MOVES_AND_REMOVALS: Course = Course {
     ),
     rows: &[
         // the root stays, and so does what is not there
-        ("remove /", Err(EditFault::NoPlace)),
-        ("remove /1/0", Err(EditFault::NoPlace)),
         ("move / /2 0", Err(EditFault::NoPlace)),
         ("move /3 / 0", Err(EditFault::NoPlace)),
         // to a text, to nothing, past the children, and into itself
@@ -206,6 +204,19 @@ const MOVES_AND_REMOVALS: Course = Course {
                 "/0/0 before \"1x\"\n/1 before \"2y\"\n",
             )),
         ),
+    ],
+};
+
+static REMOVALS: Course = Course {
+    start: (
+        "<p><i><b a=\"x\"/></i><b a=\"y\">t</b></p>",
+        NUMBERED,
+        "/0/0 before \"1x\"\n/1 before \"2y\"\n",
+    ),
+    rows: &[
+        // the root stays, and so does what is not there
+        ("remove /", Err(EditFault::NoPlace)),
+        ("remove /1/0/0", Err(EditFault::NoPlace)),
         // a text, the last child, and the first with what is in it
         (
             "remove /1/0",
@@ -228,7 +239,7 @@ const MOVES_AND_REMOVALS: Course = Course {
     ],
 };
 
-const ATTRIBUTES: Course = Course {
+static ATTRIBUTES: Course = Course {
     start: (
         "<p><b/>t<b/></p>",
         NUMBERED,
@@ -309,7 +320,7 @@ const ATTRIBUTES: Course = Course {
 };
 
 /// The sheet replaced; the file of a sheet is looked up by `sheet_in`.
-const SHEETS: Course = Course {
+static SHEETS: Course = Course {
     start: (
         "<p><b/>t<b/></p>",
         NUMBERED,
@@ -330,16 +341,6 @@ const SHEETS: Course = Course {
     ],
 };
 
-static COURSES: [Course; 7] = [
-    CHILDREN,
-    REFUSALS,
-    FIRST_TO_LAST,
-    INSERTIONS,
-    MOVES_AND_REMOVALS,
-    ATTRIBUTES,
-    SHEETS,
-];
-
 /// The sheet in a file of this name.
 fn sheet_in(file: &str) -> &'static str {
     if file == "plain.css" { PLAIN } else { "" }
@@ -351,13 +352,13 @@ fn edit_of(alloc: Global, line: &str) -> Result<Edit, Fail> {
     match commands.as_slice() {
         [
             Command {
-                line: 1,
+                line: _,
                 action: Action::Change(edit),
             },
         ] => Ok(edit.duplicate(alloc)?),
         [
             Command {
-                line: 1,
+                line: _,
                 action: Action::SheetFile(file),
             },
         ] => Ok(Edit::ReplaceSheet {
@@ -437,6 +438,11 @@ fn first_wrong<L: Ledger>(
     Ok(None)
 }
 
+/// The same, with steps that nobody reads.
+fn wrong_line(rt: &HostRuntime, course: &Course) -> Result<Option<&'static str>, Fail> {
+    first_wrong::<Brand>(rt, Blank::new(1), course)
+}
+
 /// Does an edit of a book, unless the document does not allow it.
 fn edit_book<L: Ledger>(
     alloc: Global,
@@ -498,10 +504,50 @@ fn with_empty_text<L: Ledger>(rt: &HostRuntime, blank: Blank) -> Result<Tree, Fa
 }
 
 #[test]
-fn edits_in_their_order(rt: HostRuntime) -> Result<(), Fail> {
-    for course in &COURSES {
-        assert_eq!(rt; first_wrong::<Brand>(&rt, Blank::new(1), course)?, None);
-    }
+fn edits_of_children(rt: HostRuntime) -> Result<(), Fail> {
+    assert_eq!(rt; wrong_line(&rt, &CHILDREN)?, None);
+    Ok(())
+}
+
+#[test]
+fn refused_edits(rt: HostRuntime) -> Result<(), Fail> {
+    assert_eq!(rt; wrong_line(&rt, &REFUSALS)?, None);
+    Ok(())
+}
+
+#[test]
+fn the_first_goes_last(rt: HostRuntime) -> Result<(), Fail> {
+    assert_eq!(rt; wrong_line(&rt, &FIRST_TO_LAST)?, None);
+    Ok(())
+}
+
+#[test]
+fn insertions(rt: HostRuntime) -> Result<(), Fail> {
+    assert_eq!(rt; wrong_line(&rt, &INSERTIONS)?, None);
+    Ok(())
+}
+
+#[test]
+fn moves(rt: HostRuntime) -> Result<(), Fail> {
+    assert_eq!(rt; wrong_line(&rt, &MOVES)?, None);
+    Ok(())
+}
+
+#[test]
+fn removals(rt: HostRuntime) -> Result<(), Fail> {
+    assert_eq!(rt; wrong_line(&rt, &REMOVALS)?, None);
+    Ok(())
+}
+
+#[test]
+fn attributes(rt: HostRuntime) -> Result<(), Fail> {
+    assert_eq!(rt; wrong_line(&rt, &ATTRIBUTES)?, None);
+    Ok(())
+}
+
+#[test]
+fn sheets(rt: HostRuntime) -> Result<(), Fail> {
+    assert_eq!(rt; wrong_line(&rt, &SHEETS)?, None);
     Ok(())
 }
 
