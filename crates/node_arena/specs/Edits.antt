@@ -1,5 +1,5 @@
 -- What an edit makes of a document and its sheet, and which edits are refused (our own).
-use Rattle.std.specs.Prelude.{◌≡◌, ◌+◌, ◌≤◌, ℕ, nat_le, nat_lt, Bool, true, false, not, ◌&&◌, if◌then◌else◌, List, [], ◌∷◌, length, filter, Option, Some, None, is_some, Result, Ok, Err}
+use Rattle.std.specs.Prelude.{◌≡◌, ◌+◌, ◌≤◌, ℕ, nat_le, nat_lt, Bool, true, false, not, ◌&&◌, if◌then◌else◌, List, [], ◌∷◌, length, filter, Option, Some, None, is_some}
 use Rattle.forest.specs.Forest.{Forest}
 use Rattle.forest.specs.Keys.{Keyed, times, without_keys}
 use Rattle.forest.specs.Spots.{keyed}
@@ -83,13 +83,6 @@ edited (ReplaceSheet text) tree = tree
 abbrev pub edited_sheet : Edit → List ℕ → List ℕ
 edited_sheet (ReplaceSheet text) sheet = text
 edited_sheet edit sheet = sheet
-
--- one step of a script: the new document and sheet, or why the edit is refused
-abbrev pub step : Forest Node × List ℕ → Edit → Result (Forest Node × List ℕ) PlaceFault
-step (tree, sheet) edit = elim (place_fault edit tree) [
-  | None ↦ Ok (edited edit tree, edited_sheet edit sheet)
-  | Some fault ↦ Err fault
-]
 
 -- The same of a document with keys.
 

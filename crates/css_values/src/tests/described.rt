@@ -1,0 +1,218 @@
+//! Descriptors of `@counter-style`, worked out by hand from their grammars.
+
+use super::showing::shown_descriptor;
+use crate::descriptors::read_descriptor;
+use css_tokens::lexer::tokens;
+use css_tokens::sheet_text::prepare_text;
+use std::alloc::Global;
+use std::test::Fail;
+
+/// Names and values of descriptors, and what they say; nothing where they are not read.
+static SYSTEMS_AND_SIGNS: [(&str, &str, &str); 52] = [
+    ("system", "cyclic", "system cyclic"),
+    ("SYSTEM", "Additive", "system additive"),
+    ("system", "fixed", "system fixed 1"),
+    ("system", "FIXED -3", "system fixed -3"),
+    ("system", "fixed 1.5", ""),
+    ("system", "fixed 3 4", ""),
+    (
+        "system",
+        "extends Lower-Roman",
+        "system extends lower-roman",
+    ),
+    ("system", "extends Mine", "system extends Mine"),
+    ("system", "extends none", ""),
+    ("system", "extends", ""),
+    ("system", "numeric numeric", ""),
+    ("system", "inherit", ""),
+    ("system", "numeric", "system numeric"),
+    ("system", "alphabetic", "system alphabetic"),
+    ("system", "Symbolic", "system symbolic"),
+    ("system", "fixed/**/7", "system fixed 7"),
+    ("system", "fixed 99999999999", "system fixed 2147483647"),
+    ("system", "EXTENDS DISC", "system extends disc"),
+    ("system", "", ""),
+    ("system", "fixed x", ""),
+    ("system", "extends a b", ""),
+    ("system", "extends \"a\"", ""),
+    ("system", "extends Unset", ""),
+    ("system", "additive 3", ""),
+    ("system", "disc", ""),
+    ("system", "\"cyclic\"", ""),
+    ("negative", "\"-\"", "negative '-' ''"),
+    ("negative", "\"(\" \")\"", "negative '(' ')'"),
+    ("negative", "minus none", "negative 'minus' 'none'"),
+    ("negative", "unset", ""),
+    ("negative", "\"a\" \"b\" \"c\"", ""),
+    ("negative", "5", ""),
+    ("Negative", "a", "negative 'a' ''"),
+    ("negative", "'a'/**/b", "negative 'a' 'b'"),
+    ("negative", "", ""),
+    ("negative", "\"a\", \"b\"", ""),
+    ("negative", "a default", ""),
+    ("negative", "a 1", ""),
+    ("prefix", "x", "prefix 'x'"),
+    ("prefix", "\"x\" \"y\"", ""),
+    ("prefix", "Default", ""),
+    ("PREFIX", "none", "prefix 'none'"),
+    ("prefix", "''", "prefix ''"),
+    ("prefix", "", ""),
+    ("prefix", "inherit", ""),
+    ("prefix", "1", ""),
+    ("prefix", "url(x)", ""),
+    ("suffix", "\") \"", "suffix ') '"),
+    ("suffix", "", ""),
+    ("suffix", "/**/x/**/", "suffix 'x'"),
+    ("suffix", "x y", ""),
+    ("suffix", "Revert", ""),
+];
+
+/// Values of `range`, `pad` and `fallback`.
+static RANGES_PADS_AND_FALLBACKS: [(&str, &str, &str); 52] = [
+    ("range", "auto", "range auto"),
+    ("range", "auto auto", ""),
+    ("range", "Infinite INFINITE", "range _ _,"),
+    ("range", "0 infinite", "range 0 _,"),
+    (
+        "range",
+        "99999999999 2147483647",
+        "range 2147483647 2147483647,",
+    ),
+    ("range", "1 2, 3", ""),
+    ("range", "1 2,", ""),
+    ("range", "1 2 3 4", ""),
+    ("range", ", 1 2", ""),
+    ("range", "1 2, 4 3", ""),
+    ("Range", "AUTO", "range auto"),
+    ("range", "1 1", "range 1 1,"),
+    ("range", "-5 -3", "range -5 -3,"),
+    ("range", "1 2/**/,/**/3 4", "range 1 2,3 4,"),
+    (
+        "range",
+        "-99999999999 -2147483648",
+        "range -2147483648 -2147483648,",
+    ),
+    ("range", "", ""),
+    ("range", "1", ""),
+    ("range", "-3 -5", ""),
+    ("range", "1,2", ""),
+    ("range", "1 2 3", ""),
+    ("range", "auto, 1 2", ""),
+    ("range", "1 2, auto", ""),
+    ("range", "1.0 2", ""),
+    ("range", "a b", ""),
+    ("range", "inherit", ""),
+    ("pad", "3 x", "pad 3 'x'"),
+    ("pad", "-0 x", "pad 0 'x'"),
+    ("pad", "-1 x", ""),
+    ("pad", "3", ""),
+    ("pad", "3 4", ""),
+    ("pad", "a b", ""),
+    ("pad", "3 x 4", ""),
+    ("PAD", "2 '0'", "pad 2 '0'"),
+    ("pad", "0 ''", "pad 0 ''"),
+    ("pad", "2/**/x", "pad 2 'x'"),
+    ("pad", "", ""),
+    ("pad", "'0'", ""),
+    ("pad", "2, '0'", ""),
+    ("pad", "2.0 '0'", ""),
+    ("pad", "'0' 2 2", ""),
+    ("pad", "'0' -1", ""),
+    ("pad", "2 inherit", ""),
+    ("fallback", "Disc", "fallback disc"),
+    ("fallback", "none", ""),
+    ("fallback", "x y", ""),
+    ("fallback", "\"x\"", ""),
+    ("FALLBACK", "LOWER-GREEK", "fallback lower-greek"),
+    ("fallback", "Mine", "fallback Mine"),
+    ("fallback", "", ""),
+    ("fallback", "inherit", ""),
+    ("fallback", "Default", ""),
+    ("fallback", "symbols('a')", ""),
+];
+
+/// Values of `symbols` and `additive-symbols`, and names of no descriptor.
+static SYMBOLS: [(&str, &str, &str); 30] = [
+    ("symbols", "\"a\" b none", "symbols 'a' 'b' 'none' "),
+    ("symbols", "\"a\", \"b\"", ""),
+    ("symbols", "a initial", ""),
+    ("symbols", "", ""),
+    ("Symbols", "'a'/**/'b'", "symbols 'a' 'b' "),
+    ("symbols", "a", "symbols 'a' "),
+    ("symbols", "1", ""),
+    ("symbols", "a 1", ""),
+    ("symbols", "a Revert-Layer", ""),
+    ("symbols", "url(x)", ""),
+    (
+        "additive-symbols",
+        "3 \"c\", \"b\" 2, 0 a",
+        "additive 3 'c',2 'b',0 'a',",
+    ),
+    ("additive-symbols", "3 a, 3 b", ""),
+    ("additive-symbols", "1 a, 2 b", ""),
+    ("additive-symbols", "-1 a", ""),
+    ("additive-symbols", "3 a 2 b", ""),
+    ("additive-symbols", "3 a,", ""),
+    ("Additive-Symbols", "a 1, 0 b", "additive 1 'a',0 'b',"),
+    (
+        "additive-symbols",
+        "10 a, 5 b, 1 c",
+        "additive 10 'a',5 'b',1 'c',",
+    ),
+    ("additive-symbols", "0 ''", "additive 0 '',"),
+    ("additive-symbols", "", ""),
+    ("additive-symbols", "a", ""),
+    ("additive-symbols", "1", ""),
+    ("additive-symbols", "1 a 2", ""),
+    ("additive-symbols", "1 unset", ""),
+    ("additive-symbols", "3 a, 1 b, 2 c", ""),
+    ("additive-symbols", "1 a,, 0 b", ""),
+    ("additive-symbols", "1.5 a", ""),
+    ("additive-symbols", "99999999999 a, 2147483647 b", ""),
+    ("speak-as", "auto", ""),
+    ("content", "none", ""),
+];
+
+/// Whether the descriptor says this with this value.
+fn describes(alloc: Global, name: &str, value: &str, expected: &str) -> Result<bool, Fail> {
+    let text = prepare_text(alloc, value)?;
+    let tokens = tokens(alloc, text.as_str())?;
+    let shown = match read_descriptor(alloc, name, tokens.as_slice())? {
+        Some(descriptor) => shown_descriptor(alloc, &descriptor)?,
+        None => String::new(alloc),
+    };
+    Ok(shown.as_str() == expected)
+}
+
+#[test]
+fn systems_and_signs(rt: HostRuntime) -> Result<(), Fail> {
+    for (name, value, expected) in &SYSTEMS_AND_SIGNS {
+        assert!(rt;
+            describes(rt.alloc(), name, value, expected)?,
+            "{name}: {value}"
+        );
+    }
+    Ok(())
+}
+
+#[test]
+fn ranges_pads_and_fallbacks(rt: HostRuntime) -> Result<(), Fail> {
+    for (name, value, expected) in &RANGES_PADS_AND_FALLBACKS {
+        assert!(rt;
+            describes(rt.alloc(), name, value, expected)?,
+            "{name}: {value}"
+        );
+    }
+    Ok(())
+}
+
+#[test]
+fn symbols(rt: HostRuntime) -> Result<(), Fail> {
+    for (name, value, expected) in &SYMBOLS {
+        assert!(rt;
+            describes(rt.alloc(), name, value, expected)?,
+            "{name}: {value}"
+        );
+    }
+    Ok(())
+}
