@@ -6,3 +6,4 @@ pub mod StackLemmas
 pub mod LeavingLemmas
 pub mod StateLemmas
 pub mod WalkLemmas
+pub mod LinkLemmas
