@@ -28,7 +28,7 @@ for name in sys.argv[1:]:
     status=0
     "$here/crates/marker/out/marker" dump "$file" empty.css >/dev/null 2>line || status=$?
     case $status in
-      0 | 9) read=$((read + 1)) ;;
+      0) read=$((read + 1)) ;;
       *)
         refused=$((refused + 1))
         sed "s#^#$package: #" line

@@ -1,9 +1,9 @@
 //! The count of steps, by which a contract bounds how much work a call does.
 //!
-//! A step is one `get`, `put` or `take` of the board of records, or one call of the cascade or of the
-//! element evaluator. Nothing else is a step. What takes a step is lent a `&mut Steps<L>` and ticks it
-//! once, so that a caller's clause can say how much the number rose, as
-//! `steps.new ≤ steps.old + 24 * (length keys + 1)`.
+//! A step is one call of the cascade for an element (`style_of` of `mini_cascade`), or of one of the two calls
+//! that evaluate an element (`eval_element` and `close_element` of `box_eval`). Nothing else is a step today.
+//! What takes a step is lent a `&mut Steps<L>` and ticks it once, so that a caller's clause can say how much
+//! the number rose, as `steps.new ≤ steps.old + 6 * size document`.
 //!
 //! The count takes no bytes when the program runs: contracts see a number, the code has none to read.
 //! The number has no end, so it never saturates and never wraps.
