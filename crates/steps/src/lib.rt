@@ -3,7 +3,7 @@
 //! A step is one `get`, `put` or `take` of the board of records, or one call of the cascade or of the
 //! element evaluator. Nothing else is a step. What takes a step is lent a `&mut Steps<L>` and ticks it
 //! once, so that a caller's clause can say how much the number rose, as
-//! `steps.new ≤ steps.old + 24 * (length keys + 1)`.
+//! `steps.new ≤ steps.old + 3 * size arena.now.tree`, three steps a node of a document.
 //!
 //! The count takes no bytes when the program runs: contracts see a number, the code has none to read.
 //! The number has no end, so it never saturates and never wraps.
