@@ -1,7 +1,8 @@
 //! What the scripts of `bench/` time.
 //!
-//! The program does one piece of work and prints how large it was; a script runs it at two sizes and
-//! compares the times. Its words are the piece of work and a size.
+//! The program does one piece of work and prints how large it was; a script runs it at two sizes and compares the
+//! times. Most words name the work and a size, or a file whose size counts; the `show-` words print what a script
+//! compares with the output of others.
 //!
 //! | Words | Work |
 //! |---|---|

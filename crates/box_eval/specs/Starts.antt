@@ -1,5 +1,5 @@
--- The starts of a document's reversed counters, and its evaluation with them: CSS Lists 3, 4.4. What a start is
--- told by does not depend on any start: it is read off the evaluation in which all are 0.
+-- The starts of a document's reversed counters, and its evaluation with them: our own after CSS Lists 3, 4.4. What
+-- a start is told by does not depend on any start: it is read off the evaluation in which all are 0.
 use Rattle.std.specs.Prelude.{ℕ, ℤ, pos, ◌&&◌, List, Option, map, filter}
 use Rattle.std.specs.Str.{bytes_eq}
 use Rattle.forest.specs.Forest.{Forest}

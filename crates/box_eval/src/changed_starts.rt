@@ -1,4 +1,4 @@
-//! The starts that a document's changes give (CSS Lists 3, 4.4).
+//! The starts that a document's changes give (our own after CSS Lists 3, 4.4).
 
 ghost use Rattle.std.specs.Prelude.{◌≡◌, ◌++◌, ◌∷◌, [], IfOk, OnOk, cond};
 ghost use Rattle.std.specs.Str.{IsUtf8};

@@ -41,8 +41,9 @@ use steps::Steps;
 /// The element's own box, its marker and its before box, where its parent has a box or it is the root. The
 /// element generates a box.
 ///
-/// It adds one step, whatever it answers, and takes time in the product of the counter properties and the
-/// sets' lengths.
+/// It adds one step, whatever it answers. It takes time in the product of the sets' lengths, for each entry of a
+/// counter property once more linear in them, and what `eval_items` takes. Where it answers `Memory`, nothing has
+/// changed but the steps.
 pub fn eval_element<L: Ledger>(
     alloc: Global,
     table: &Table,
@@ -74,8 +75,9 @@ pub fn eval_element<L: Ledger>(
 /// are those behind its children: `parent` has the element's own counters, `sibling` those of its last child
 /// box, `preceding` those of the last box before in tree order.
 ///
-/// It adds one step, whatever it answers, and takes time in the product of the counter properties and the
-/// sets' lengths.
+/// It adds one step, whatever it answers. It takes time in the product of the sets' lengths, for each entry of a
+/// counter property once more linear in them, and what `eval_items` takes. Where it answers `Memory`, nothing has
+/// changed but the steps.
 pub fn close_element<L: Ledger>(
     alloc: Global,
     table: &Table,

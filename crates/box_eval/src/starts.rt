@@ -1,4 +1,4 @@
-//! The starts of a document's reversed counters (CSS Lists 3, 4.4).
+//! The starts of a document's reversed counters (our own after CSS Lists 3, 4.4).
 
 ghost use Rattle.std.specs.Prelude.{◌≡◌, ℕ, ℤ, List};
 ghost use Rattle.std.specs.Str.{chars};

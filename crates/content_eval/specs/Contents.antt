@@ -1,4 +1,4 @@
--- The pieces that content items give: CSS Generated Content 3, 2, 3 and 5, and CSS Lists 3, 4.7.
+-- The pieces that content items give: CSS Generated Content 3, 2, 2.6 and 3, and CSS Lists 3, 4.7.
 use Rattle.std.specs.Prelude.{ℕ, Bool, List, [], ◌∷◌, filter, find, fold, unwrap_or}
 use Rattle.std.specs.List.{join_by}
 use Rattle.std.specs.Option.{option_map_or}
@@ -27,7 +27,7 @@ use Rattle.content_eval.specs.declared.generated.Piece.TheVariants as piece
 abbrev pub attribute : List Attr → List ℕ → List ℕ
 attribute attrs name = option_map_or (λ (attr : Attr). attr.value) (find (λ (attr : Attr). bytes_eq attr.name name) attrs) []
 
--- 5: the url of a target
+-- 2.6: the url of a target
 abbrev pub url_of : List Attr → Url → List ℕ
 url_of attrs (Given url) = url
 url_of attrs (FromAttr name) = attribute attrs name

@@ -9,7 +9,7 @@ use plain_types::style_ref::StyleRef;
 use plain_types::text::Text;
 use std::alloc::Global;
 
-/// What an item gives: characters, or a target function (CSS Generated Content 3, 5) with its url looked up.
+/// What an item gives: characters, or a target function (CSS Generated Content 3, 2.6) with its url looked up.
 #[derive(Drop)]
 pub enum Piece {
     Chars(Text),

@@ -10,6 +10,7 @@
 //! | `specs/Counting.antt` | what a box does to the counters of one name |
 //! | `specs/Scopes.antt` | which boxes create counters of a name, and in whose scope a box is |
 //! | `specs/Values.antt` | what boxes do to counters one after the other, and the value of a counter at a box |
+//! | `specs/Laws.antt` | that the sets of boxes, and what is told of changes, are so |
 //!
 //! A box creates a counter of a name where it resets the name, or where it increments, sets or uses it and is in
 //! the scope of no counter of the name. The scope of a counter is, of its creator and the creator's later sibling

@@ -12,7 +12,7 @@
 //! ```text
 //! // @counter-style z { system: extends decimal; pad: 4 "0" }
 //! let table = build(alloc, &styles)?;
-//! let style = table.find("z");        // its digits are those of decimal, its pad is its own
+//! let place = table.find("z");        // the style there has the digits of decimal, and a pad of its own
 //! ```
 #![tactic(auto)]
 

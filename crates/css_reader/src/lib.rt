@@ -3,7 +3,7 @@
 //! The floor above tokens, values and selectors. `sheet` reads a whole text: what goes in is the text as it
 //! was fetched, what comes out its style rules and counter styles in the types of `plain_types`. Every text
 //! is a sheet; what is not understood is left out, as CSS leaves it out. `features` tells what the selectors
-//! of a sheet look at, for those who keep styles right under edits.
+//! of a sheet look at, for those who will keep styles right under edits; nothing uses it yet.
 //!
 //! Below them `pieces` cuts tokens where no block is open, `rules` cuts a sheet into rules and a block into
 //! what may be declarations, and `declarations` reads these. Nothing recurses on brackets: a piece is cut by

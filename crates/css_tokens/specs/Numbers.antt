@@ -35,11 +35,12 @@ abbrev pub or_stay : Option (List ℕ) → List ℕ → List ℕ
 or_stay (Some rest) characters = rest
 or_stay None characters = characters
 
--- the nearest count
+-- a number with its sign
 abbrev pub signed : Bool → ℕ → ℤ
 signed false number = pos number
 signed true number = neg_ℤ (pos number)
 
+-- the nearest count
 abbrev pub saturated : Bool → ℕ → ℤ
 saturated negative number = int_max COUNT_LOW (int_min (signed negative number) COUNT_HIGH)
 

@@ -1,4 +1,4 @@
--- The values of `content` and `quotes`: CSS Generated Content 3, 2, 3 and 5, and CSS Lists 3, 4.7.
+-- The values of `content` and `quotes`: CSS Generated Content 3, 2, 2.6 and 3, and CSS Lists 3, 4.7.
 use Rattle.std.specs.Prelude.{ℕ, if◌then◌else◌, List, Option, Some, None, codes}
 use Rattle.plain_types.specs.declared.content.Content.{Content}
 use Rattle.plain_types.specs.declared.content.Content.TheVariants as content
@@ -99,21 +99,21 @@ counters_at kinds =
 abbrev pub target_at : List ℕ → List TokenKind → Option (Url × List TokenKind)
 target_at function kinds = past_function function kinds then url_at
 
--- 5.1: `target-counter( [ <string> | <url> ] , <counter-name> [, <counter-style> ]? )`, where our own rule
+-- 2.6.1: `target-counter( [ <string> | <url> ] , <counter-name> [, <counter-style> ]? )`, where our own rule
 -- also takes an attribute as the address, and `none` as the style
 unfoldable pub target_counter_at : List TokenKind → Option (Item × List TokenKind)
 target_counter_at kinds =
     target_at (codes "target-counter") kinds then λ url. past_comma url.1 then λ next. name_at next then λ name. last_style_at name.1 then λ style.
     Some (item.TargetCounter url.0 name.0 style.0, style.1)
 
--- 5.2: `target-counters( [ <string> | <url> ] , <counter-name> , <string> [, <counter-style> ]? )`, and our own
+-- 2.6.2: `target-counters( [ <string> | <url> ] , <counter-name> , <string> [, <counter-style> ]? )`, and our own
 -- rule likewise
 unfoldable pub target_counters_at : List TokenKind → Option (Item × List TokenKind)
 target_counters_at kinds =
     target_at (codes "target-counters") kinds then λ url. past_comma url.1 then λ next. name_between_at next then λ names. last_style_at names.1 then λ style.
     Some (item.TargetCounters url.0 names.0.0 names.0.1 style.0, style.1)
 
--- 5.3: `content | before | after | first-letter` (our own: no `first-letter`)
+-- 2.6.3: `content | before | after | first-letter` (our own: no `first-letter`)
 abbrev pub part_word : List ℕ → Option Part
 part_word word =
     if is_word word (codes "content") then Some part.Content
@@ -129,7 +129,7 @@ last_part_at kinds =
     (past_comma kinds then λ rest. one_at part_of rest then λ part. past_close part.1 then λ end. Some (part.0, end))
     otherwise (past_close kinds then λ end. Some (part.Content, end))
 
--- 5.3: `target-text( [ <string> | <url> ] [, <part> ]? )`, and our own rule likewise
+-- 2.6.3: `target-text( [ <string> | <url> ] [, <part> ]? )`, and our own rule likewise
 unfoldable pub target_text_at : List TokenKind → Option (Item × List TokenKind)
 target_text_at kinds =
     target_at (codes "target-text") kinds then λ url. last_part_at url.1 then λ part.

@@ -1,4 +1,4 @@
--- What a book stands for, and what it keeps.
+-- What a book stands for, and what it keeps (our own).
 use Rattle.std.specs.Prelude.{◌≡◌, ℕ, nat_eq, Bool, true, List, Option, IfSome, refl}
 use Rattle.std.specs.Coded.{Coded, code_by, coded×, coded_bool, coded_list, coded_ℕ}
 use Rattle.std.specs.HashMap.{HashMap, get}

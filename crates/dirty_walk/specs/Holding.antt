@@ -1,4 +1,4 @@
--- The index of a document.
+-- The index of a document: which elements hold an id (DOM, 4.9). How it is filled is our own.
 use Rattle.std.specs.Prelude.{◌≡◌, ℕ, Bool, false, List, [], ◌∷◌, codes, flat_map}
 use Rattle.std.specs.Option.{option_map_or}
 use Rattle.forest.specs.Forest.{Forest}

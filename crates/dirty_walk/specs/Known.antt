@@ -1,4 +1,4 @@
--- What is known of the elements that ids name, where records and flat texts are kept under keys.
+-- What is known of the elements that ids name, where records and flat texts are kept under keys (our own).
 use Rattle.std.specs.Prelude.{◌≡◌, ℕ, List, Option, Some, None, cond, nat_eq, map, option_copied, option_map}
 use Rattle.std.specs.Borrow.{Bor}
 use Rattle.std.specs.HashMap.{HashMap, get}

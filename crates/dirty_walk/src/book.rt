@@ -75,7 +75,8 @@ impl Book {
     /// The book of a document and the text of its sheet. The root is an element.
     ///
     /// It takes time and memory linear in the document, its sheet and its texts, beside what sets and selectors
-    /// cost; `Memory` where that is wanting.
+    /// cost, and for each reference time in the elements that hold its id, each by its depth; `Memory` where
+    /// memory is wanting.
     pub fn begin<L: Ledger>(
         alloc: Global,
         document: &Tree,
@@ -102,7 +103,8 @@ impl Book {
     /// Makes ready for an edit that the document allows. The document is then the edited one, and all memory is
     /// taken that `commit` needs; `Memory` where that is wanting, and then the book is as before.
     ///
-    /// The edited document is evaluated whole, which costs what `begin` costs.
+    /// The edited document is evaluated whole, which costs what `begin` costs, beside what the arena's `prepare` and
+    /// `commit` cost.
     pub fn plan<L: Ledger>(
         &mut self,
         alloc: Global,
@@ -133,7 +135,8 @@ impl Book {
         }
     }
 
-    /// Does the planned edit. It takes no memory.
+    /// Does the planned edit. It takes no memory, and time linear in what is let go: the entries from before, and
+    /// the nodes that the edit took out.
     pub fn commit<L: Ledger>(&mut self, plan: Plan, steps: &mut Steps<L>)
         requires planned { IsPlannedBy self.old plan }
         ensures settled { self.new ≡ settled_after self.old plan }
@@ -147,7 +150,7 @@ impl Book {
         }
     }
 
-    /// The document under its keys.
+    /// The document under its keys. It takes no memory and constant time.
     pub fn arena(&self) -> &Arena
         requires settled { self.now.settled ≡ true }
         ensures tree { result.now.tree ≡ self.now.tree }
@@ -155,7 +158,7 @@ impl Book {
         &self.arena
     }
 
-    /// The text of the sheet.
+    /// The text of the sheet. It takes no memory and constant time.
     pub fn sheet(&self) -> &str
         requires settled { self.now.settled ≡ true }
         ensures text { chars result.now ≡ self.now.sheet }
@@ -173,7 +176,8 @@ impl Book {
         self.find_entry(key).unwrap()
     }
 
-    /// What is kept of the element of this key; None exactly where no element has it. Constant time.
+    /// What is kept of the element of this key; None exactly where no element has it. It takes no memory and constant
+    /// time.
     pub fn find_entry(&self, key: usize) -> Option<&NodeEntry>
         requires settled { self.now.settled ≡ true }
         ensures entry { option_copied result ≡ fresh_entry self.now key }

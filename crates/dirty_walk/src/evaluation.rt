@@ -34,7 +34,8 @@ use std::sync::ledger::Ledger;
 use steps::Steps;
 use target_index::index::Index;
 
-/// What a document's boxes do to counters, which tells the starts of its reversed counters.
+/// What a document's boxes do to counters, which tells the starts of its reversed counters. The records of this walk
+/// are thrown away: they were made with every start at 0.
 fn document_changes<L: Ledger>(
     alloc: Global,
     arena: &Arena,

@@ -8,6 +8,17 @@
 //! An edit is planned and then committed. `plan` does all that can want memory, `commit` cannot fail; between the two
 //! the book isn't settled, and can't be asked.
 //!
+//! The layer above knows this crate by `fresh_entry` of `specs/Books.antt`, what a fresh evaluation keeps of an element,
+//! and by `settled_after` and `IsPlannedBy` of `specs/Plans.antt`: what a planned edit makes of a book, and which plans
+//! are a book's.
+//!
+//! ```text
+//! let mut book = Book::begin(alloc, &tree, "h1 { counter-increment: section }", steps)?;
+//! let plan = book.plan(alloc, &edit, steps)?;      // where `book.arena().allows(&edit)` was None
+//! book.commit(plan, steps);
+//! let entry = book.entry(book.arena().root(), steps);
+//! ```
+//!
 //! [`NodeEntry`]: generated_texts::entry::NodeEntry
 #![tactic(auto)]
 

@@ -1,4 +1,4 @@
-//! The starts of an element's reversed counters (CSS Lists 3, 4.4).
+//! The starts of an element's reversed counters (our own after CSS Lists 3, 4.4).
 
 ghost use Rattle.std.specs.Prelude.{◌≡◌, ◌++◌, ◌∷◌, ◌&&◌, [], IfOk, OnOk, true, not, is_some, cond};
 ghost use Rattle.std.specs.List.{list_any};

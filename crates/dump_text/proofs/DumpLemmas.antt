@@ -1,4 +1,4 @@
--- A dump that goes out line by line: `PieceLemmas` of `ports` at these pieces are the lemmas of its loop.
+-- The bytes of a dump, line by line.
 use Rattle.std.proofs.Common.{◌≡◌, ℕ, List, encode_utf8_all}
 use Rattle.std.specs.List.{flat_map}
 use Rattle.definitions.specs.Dump.{Line, dump, line_text}

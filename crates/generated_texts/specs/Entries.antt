@@ -1,4 +1,4 @@
--- What is kept of a document's elements: their counters and depths, and the texts of their boxes.
+-- What is kept of a document's elements: their counters and depths, and the texts of their boxes (our own).
 use Rattle.std.specs.Prelude.{ℕ, List, map, option_map}
 use Rattle.forest.specs.Forest.{Forest}
 use Rattle.forest.specs.Keys.{Keyed}

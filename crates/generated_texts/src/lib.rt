@@ -8,8 +8,12 @@
 //! | `Documents.antt` | which styles and counter styles a document has under a sheet, and what its evaluation says of its elements |
 //! | `References.antt` | which element an id names, and what is known of it |
 //! | `Entries.antt` | what is kept of an element: its counters, depths, and the texts of its boxes |
-//! | `Lines.antt` | the lines of a dump, in tree order |
+//! | `Lines.antt` | the lines of a dump, in tree order, and the dump |
 //! | `Keyings.antt` | the same under other keys |
+//! | `Laws.antt` | which keys the entries have, and that keys do not matter |
+//!
+//! The layers above know it by `fresh_dump sheet_text tree` (`Lines.antt`): the dump of a fresh evaluation of a document
+//! and the text of its sheet.
 //!
 //! An [`entry::NodeEntry`] is what is kept of an element: each element of a document has one, and a text has none. Nodes
 //! are named by keys, and whichever distinct keys they have, the texts are the same. Both are laws of [`laws`].

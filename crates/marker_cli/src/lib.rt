@@ -17,14 +17,15 @@
 //! - `Words`: which words are of which form;
 //! - `Turns` and `Dump`: the events of `dump DOC SHEET`;
 //! - `Edit`: `play`, the events of commands, and with it those of `edit DOC SHEET SCRIPT`;
-//! - `Table` and `Generated`: those of the other two;
+//! - `Table`, `Generated` and `Tallies`: those of the other two;
 //! - `Run`: `output`, the events of any words;
 //! - `Ends`: `EndsAs`, how a run may end against its output;
 //! - `Names` and `Lines`: the line and the code of a status.
 //!
 //! A text such as DOC reads as one tree or fails at one place, and this is a relation (`ReadsAs`), which no
-//! definition computes; so it is with SCRIPT (`ReadsAsScript`). So `output` takes what the words and texts read as, the `Readings`, and the clause
-//! of `run` holds for all that are right where the run comes to read them (`AreReadings`).
+//! definition computes; so it is with SCRIPT (`ReadsAsScript`). So `output` takes what the words and texts read as,
+//! the `Readings`, and the clause of `run` holds for all that are right where the run comes to read them
+//! (`AreReadings`).
 //!
 //! `Stands` says where a run stands between two of its parts. A command that joins has an `.._output` of its own in
 //! `specs/`, and a line in `IsForm` and `form_output`; a status that joins has a line in `code_of`, `message`, `IsCaused`
@@ -32,7 +33,7 @@
 //!
 //! The words, the order of refusals and the lines are our own.
 //!
-//! ```
+//! ```text
 //! // with d.xhtml `<ol><li/></ol>` and an empty s.css it writes the line /0 marker "1. "
 //! let status = run(alloc, words.as_slice(), &mut shelf, &mut out, &mut err, &mut steps);
 //! ```

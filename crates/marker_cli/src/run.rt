@@ -124,8 +124,9 @@ fn flushed<O: Sink>(outcome: Status, out: &mut O) -> Status
 /// that line is done. The first status other than Ok ends the run; what was written until then stays. A refused
 /// edit is told in the output and ends nothing. A fault of `err` changes no status.
 ///
-/// It takes time linear in the files and the output, and memory for the files and the document; and for each edit
-/// and each `sheet` line what an evaluation of the document costs.
+/// It takes time linear in the files and the output, and what an evaluation of the document costs, once and for each
+/// accepted edit and `sheet` line; memory for the files, the commands, the document and what is kept of its elements.
+/// A run that is made up takes time and memory for its COUNT edits too.
 pub fn run<S: Shelf, O: Sink, E: Sink, L: Ledger>(
     alloc: Global,
     words: &[Text],

@@ -40,7 +40,7 @@ pub enum Status {
 }
 
 impl Status {
-    /// The number with which the program exits.
+    /// The number with which the program exits. It takes no memory and constant time.
     pub fn code(&self) -> u8
         ensures code { result ≡ code_of self.now }
     {

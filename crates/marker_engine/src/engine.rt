@@ -50,7 +50,8 @@ impl Engine {
     /// An engine that stands for a document and the text of its sheet. The root is an element.
     ///
     /// It takes time and memory linear in the document, its sheet and its texts, beside what sets and selectors
-    /// cost; `Memory` where that is wanting.
+    /// cost, and for each reference time in the elements that hold its id, each by its depth; `Memory` where
+    /// memory is wanting.
     pub fn start<L: Ledger>(
         alloc: Global,
         document: Tree,
@@ -77,7 +78,8 @@ impl Engine {
 
     /// Does an edit. After a fault the document and the sheet are as before, and a refused edit counts no step.
     ///
-    /// The edited document is evaluated whole, which costs what `start` costs.
+    /// The edited document is evaluated whole, which costs what `start` costs, beside what the calls of the arena
+    /// cost by which the edit is done.
     pub fn apply<L: Ledger>(
         &mut self,
         alloc: Global,
@@ -129,7 +131,7 @@ impl Engine {
         put_lines(alloc, &self.book, out)
     }
 
-    /// The text of the sheet.
+    /// The text of the sheet. It takes no memory and constant time.
     pub fn sheet(&self) -> &str
         ensures text { chars result.now ≡ self.now.sheet }
     {

@@ -4,6 +4,9 @@
 //! two alone, without keys: what it shows is the dump of a fresh evaluation of them (`generated_texts`), and an
 //! edit makes of them what `edited` says, or leaves both.
 //!
+//! The layer above knows this crate by `Source` and `source_of` (`specs/Engines.antt`), `edited` and `edit_fault`
+//! (`specs/Edited.antt`), and `element_count` and `box_count` (`specs/Census.antt`).
+//!
 //! ```text
 //! let mut engine = Engine::start(alloc, tree, "h1 { counter-increment: section }", steps)?;
 //! engine.apply(alloc, &Edit::Remove { path: Path::of(alloc, &[0])? }, steps)?;

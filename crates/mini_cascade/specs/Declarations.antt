@@ -53,7 +53,7 @@ declared_with pseudo origin declared specificity =
     map (λ (d : Declared). ranked (record { level = cascade_level origin d.important; specificity = specificity }) d.what)
     (filter (λ (d : Declared). counts_for pseudo d.what) declared)
 
--- CSS 2.2, 6.4.4: hints are normal declarations of the author with specificity 0, before all rules
+-- CSS 2.2, 6.4.4: hints are normal declarations of the author with specificity 0, before all of the author's rules
 abbrev pub hint_rank : Rank
 hint_rank = record { level = level.Author; specificity = nothing }
 

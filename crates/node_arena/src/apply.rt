@@ -36,6 +36,7 @@ impl Arena {
         requires room { HasRoom self.old.entries place.parent }
         ensures { IsPutIn self.old self.new key place }
     {
+        // The contract of `len` says that the count fits.
         let _count = self.nodes.len();
         put_child(&mut self.nodes, place.parent, place.index, key);
     }

@@ -52,6 +52,7 @@ impl Model for Arena {
 pub fn has_element_root(tree: &Tree) -> bool
     ensures { IsTrue result ↔ HasElementRoot tree.now }
 {
+    // The contract of `len` says that there is a node.
     let _count = tree.len();
     match tree.node(0) {
         NodeView::Element { name: _, attrs: _ } => true,

@@ -378,7 +378,10 @@ fn setting(alloc: Global, path: &str, name: &str, value: Option<&str>) -> Result
 #[test]
 fn insertions(rt: HostRuntime) -> Result<(), Fail> {
     for (shape, parent, index, fragment, expected) in &INSERTIONS {
-        assert!(rt; inserts(rt.alloc(), shape, parent, *index, fragment, expected)?);
+        assert!(rt;
+            inserts(rt.alloc(), shape, parent, *index, fragment, expected)?,
+            "{fragment} into {parent} of {shape}"
+        );
     }
     Ok(())
 }
@@ -386,7 +389,10 @@ fn insertions(rt: HostRuntime) -> Result<(), Fail> {
 #[test]
 fn removals(rt: HostRuntime) -> Result<(), Fail> {
     for (shape, path, expected) in &REMOVALS {
-        assert!(rt; removes(rt.alloc(), shape, path, expected)?);
+        assert!(rt;
+            removes(rt.alloc(), shape, path, expected)?,
+            "{path} of {shape}"
+        );
     }
     Ok(())
 }
@@ -394,7 +400,10 @@ fn removals(rt: HostRuntime) -> Result<(), Fail> {
 #[test]
 fn moves_among_siblings(rt: HostRuntime) -> Result<(), Fail> {
     for (shape, from, parent, index, expected) in &MOVES {
-        assert!(rt; moves(rt.alloc(), shape, from, parent, *index, expected)?);
+        assert!(rt;
+            moves(rt.alloc(), shape, from, parent, *index, expected)?,
+            "{from} into {parent} of {shape}"
+        );
     }
     Ok(())
 }
@@ -402,7 +411,10 @@ fn moves_among_siblings(rt: HostRuntime) -> Result<(), Fail> {
 #[test]
 fn moves_away(rt: HostRuntime) -> Result<(), Fail> {
     for (shape, from, parent, index, expected) in &MOVES_AWAY {
-        assert!(rt; moves(rt.alloc(), shape, from, parent, *index, expected)?);
+        assert!(rt;
+            moves(rt.alloc(), shape, from, parent, *index, expected)?,
+            "{from} into {parent} of {shape}"
+        );
     }
     Ok(())
 }
@@ -414,7 +426,10 @@ fn attributes_are_set_and_unset(rt: HostRuntime) -> Result<(), Fail> {
     };
     for (path, name, value, expected) in &SETTINGS {
         let edit = setting(rt.alloc(), path, name, *value)?;
-        assert!(rt; becomes(rt.alloc(), &mut arena, &edit, expected)?);
+        assert!(rt;
+            becomes(rt.alloc(), &mut arena, &edit, expected)?,
+            "{name} of {path}"
+        );
     }
     Ok(())
 }

@@ -4,10 +4,11 @@
 //!   of memory (`memory`), and copies (`duplicate`).
 //! - Documents: nodes with their attributes (`node`, `attr`), and trees of them with their builder
 //!   (`tree`, `tree_builder`). A tree is seen as the forest of its root, `specs/Tree.antt`; code walks
-//!   it in tree order, `specs/Rows.antt`.
-//! - Style sheets as they are read (`selector`, `declaration`, `counter_style`, `sheet`), and styles as
-//!   the cascade makes them (`style`, `content`), in the terms of the CSS modules.
-//! - Tables of finished counter styles (`table`), and the names under which they are kept (`style_name`).
+//!   it in tree order, node by node with its depth (`row`), `specs/Rows.antt`.
+//! - Style sheets as they are read (`selector` and `selector_parts`, `declaration`, `counter_style`, `sheet`), and
+//!   styles as the cascade makes them (`style`, `content`), in the terms of the CSS modules.
+//! - Tables of finished counter styles (`table`), the names under which they are kept (`style_name`), and the
+//!   systems of styles and what names one (`style_ref`).
 //! - Counters and boxes (`count`, `counter`, `box_id`, `box_kind`), and edits (`edit`).
 //!
 //! ```text

@@ -34,7 +34,8 @@ impl Model for Table {
 impl Table {
     ghost use Rattle.plain_types.specs.Table.{IsTable, has_its_symbols, place_named};
 
-    /// The table of these styles, in this order. It takes no memory.
+    /// The table of these styles, in this order. Their names are distinct, the `decimal` of CSS is among them, and
+    /// each has the symbols that its system asks for. It takes no memory.
     pub fn of(styles: List<CounterStyle>) -> Table
         requires table { IsTable styles }
         ensures styles { result ≡ styles }
@@ -42,7 +43,8 @@ impl Table {
         Table { styles }
     }
 
-    /// How many styles there are.
+    /// How many styles there are. Constant time. What every table is, `IsTable` says: distinct names, the `decimal`
+    /// of CSS, and the symbols that each system asks for.
     pub fn len(&self) -> usize
         ensures length { result ≡ length self.now }
         ensures table { IsTable self.now }

@@ -81,6 +81,7 @@ impl TreeBuilder {
             depth: self.begun,
             node,
         })?;
+        // The contract of `len` says that the count fits.
         let _count = self.nodes.len();
         self.begun += 1;
         Ok(())

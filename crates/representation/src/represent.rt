@@ -36,7 +36,9 @@ pub fn represent(
 }
 
 /// Appends prefix, representation and suffix of the value. Prefix and suffix are those of the style that is
-/// meant, whichever style writes the value.
+/// meant, whichever style writes the value. Not for `none`, whose markers have no text.
+///
+/// It costs what `represent` costs, once more time linear in the table, and the prefix and the suffix.
 pub fn represent_marker(
     alloc: Global,
     table: &Table,

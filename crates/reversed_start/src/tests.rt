@@ -54,7 +54,8 @@ fn start_by(alloc: Global, rows: &[Row]) -> Result<Count, Memory> {
 #[test]
 fn starts_are_these(rt: HostRuntime) -> Result<(), Fail> {
     for (rows, start) in &STARTS {
-        assert!(rt; start_by(rt.alloc(), rows)? == *start);
+        let found = start_by(rt.alloc(), rows)?;
+        assert_eq!(rt; found, *start);
     }
     Ok(())
 }

@@ -168,7 +168,8 @@ fn run_ancestors(arena: &Arena, selector: &Selector, key: usize, place: usize) -
 /// and nothing by a selector without compounds or whose combinators are not one less.
 ///
 /// It takes no memory. Its time is at most that of the tests of all compounds on all ancestors and, where
-/// there are `+` and `~`, on all earlier siblings of each of these.
+/// there are `+` and `~`, on all earlier siblings of each of these. A test of a position takes the number of
+/// siblings, and `*=` the product of the two lengths; every other test takes the length of attribute and value.
 pub fn matches(arena: &Arena, key: usize, selector: &Selector) -> bool
     requires { IsLive arena.now.tree key }
     ensures matches { result ≡ matches arena.now.tree key selector.now }

@@ -1,10 +1,25 @@
-//! Whole runs over memory, and layers together over texts, as tables.
+//! Whole runs over memory, and layers together over texts, as tables of tests.
 //!
-//! The crate has tests, and the list of elements that those on references ask: runs of `marker_cli::run` over files in memory, each with the words, the
-//! files, and what must come out on both sinks and as code; styles of elements (`cascade`), and what comes of
-//! an element's boxes (`evaluation`), each from the texts of a document and a sheet. Their expected values are
-//! worked out by hand from the rules in docs/, those of predefined counter styles are the standard's. Beside
-//! them stand tests of the plain types. All stand here, above the other crates, so that those are proved once.
+//! | Module | Its rows |
+//! |---|---|
+//! | `tests` | runs of `marker_cli::run` that end with a fault; and `comes_out`, by which each row of a run is tried |
+//! | `dumps` | runs of `dump DOC SHEET`, and fronts of sheets and deep documents |
+//! | `scripts` | runs of `edit DOC SHEET SCRIPT` and of `gen SEED COUNT` |
+//! | `tables` | runs of `table SHEET STYLE FROM TO`, with the author's styles |
+//! | `predefined` | the same with the predefined styles, at the ends of their ranges |
+//! | `cascade` | styles of elements, from the texts of a document and a sheet |
+//! | `evaluation` | what boxes make of counters, quotes and content, from the same |
+//! | `contents` | what values of `content` give |
+//! | `references` | what content gives that refers to other elements |
+//! | `starts` | the starts of reversed counters, by what boxes do to counters |
+//! | `edits` | edits of documents and sheets by calls, without a script |
+//! | `engines` | how many elements, boxes and lines there are |
+//! | `values` | the plain types: each call once, and copies |
+//!
+//! A row of a run has the words, the files in memory, and what must come out on both sinks and as code (`rows`). Trees
+//! are read and compared by `trees`; [`listed`] has the elements that the rows on references ask. What is expected is
+//! worked out by hand from the rules in docs/; of the predefined counter styles it is the standard's. All stand here,
+//! above the other crates, so that those are proved once.
 #![tactic(auto)]
 
 #[cfg(test)]

@@ -10,7 +10,7 @@ ghost use Rattle.xhtml_items.specs.Tokens.{Reads, text_view, two_texts};
 use crate::characters::{Class, is_blank, is_name_start};
 use crate::passing::are_characters;
 
-/// The first character, and the text after it.
+/// The first character, and the text after it; None where there is none. It takes constant time.
 pub fn first_char(text: &str) -> Option<(char, &str)>
     ensures bytes { MatchOption result (text.now ≡ []) (λ x. text.now ≡ encode_utf8 x.0 ++ x.1.now) }
     ensures chars { MatchOption result (chars text.now ≡ []) (λ x. chars text.now ≡ x.0 ∷ chars x.1.now) }
@@ -30,7 +30,7 @@ pub(crate) fn past(wanted: char, text: &str) -> Option<&str>
     if c == wanted { Some(after) } else { None }
 }
 
-/// The text after this word.
+/// The text after this word; None where the word does not stand at the front. It takes time linear in the word.
 pub fn past_word<'a>(word: &str, text: &'a str) -> Option<&'a str>
     requires { IsTrue (is_ascii word.now) }
     ensures reads { Reads text_view result (past_word word.now (chars text.now)) }
@@ -101,7 +101,7 @@ pub(crate) fn past_blanks(text: &str) -> Option<&str>
     }
 }
 
-/// A name, and the text after it.
+/// A name, and the text after it, in time linear in the name; None where none stands at the front.
 #[tactic(auto, unfolding(crate::specs::Reading::name_at))]
 pub fn split_name(text: &str) -> Option<(&str, &str)>
     ensures reads { Reads two_texts result (name_at (chars text.now)) }
@@ -116,7 +116,8 @@ pub fn split_name(text: &str) -> Option<(&str, &str)>
     }
 }
 
-/// What stands before the first of these words, and what stands after it.
+/// What stands before the first of these words, and what stands after it; None where it stands nowhere. It takes
+/// time linear in the text.
 pub fn split_once<'a>(word: &str, text: &'a str) -> Option<(&'a str, &'a str)>
     requires ascii { IsTrue (is_ascii word.now) }
     requires filled { word.now ≢ [] }

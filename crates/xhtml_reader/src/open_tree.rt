@@ -94,6 +94,7 @@ impl<'a> OpenTree<'a> {
         }
         Ok(())
     }
+
     /// Adds the start of an element, if one may come now.
     fn add_start(&mut self, alloc: Global, name: &'a str, attrs: List<Attr>) -> Result<bool, Memory>
         requires { HasDistinctNames attrs }
@@ -209,6 +210,7 @@ impl<'a> OpenTree<'a> {
             Token::Character(character) => self.add_character(character),
         }
     }
+
     /// Adds what the text goes on with, an item or several plain characters, if it may come now, and
     /// gives the text after it.
     pub(crate) fn advance(

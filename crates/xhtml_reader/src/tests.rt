@@ -95,7 +95,7 @@ static DOCUMENTS: [(&str, &str); 19] = [
 fn documents(rt: HostRuntime) -> Result<(), Fail> {
     for (text, answer) in &DOCUMENTS {
         let found = told(&rt, read_document(rt.alloc(), text))?;
-        assert_eq!(rt; found.as_str(), *answer);
+        assert_eq!(rt; found.as_str(), *answer, "{text}");
     }
     Ok(())
 }
@@ -150,7 +150,7 @@ static NO_DOCUMENTS: [(&str, &str); 41] = [
 fn no_documents(rt: HostRuntime) -> Result<(), Fail> {
     for (text, answer) in &NO_DOCUMENTS {
         let found = told(&rt, read_document(rt.alloc(), text))?;
-        assert_eq!(rt; found.as_str(), *answer);
+        assert_eq!(rt; found.as_str(), *answer, "{text}");
     }
     Ok(())
 }
@@ -199,7 +199,7 @@ static FRAGMENTS: [(&str, &str); 17] = [
 fn fragments(rt: HostRuntime) -> Result<(), Fail> {
     for (text, answer) in &FRAGMENTS {
         let found = told(&rt, read_fragment(rt.alloc(), text))?;
-        assert_eq!(rt; found.as_str(), *answer);
+        assert_eq!(rt; found.as_str(), *answer, "{text}");
     }
     Ok(())
 }

@@ -1,6 +1,5 @@
-//! What declarations, descriptors and tokens say, as short texts for the tables.
+//! What declarations and descriptors say, as short texts for the tables.
 
-use css_tokens::token::{Token, TokenKind};
 use plain_types::content::{Content, Item, Part, QuoteKind, Url};
 use plain_types::counter_style::{Bounds, Descriptor, Weight};
 use plain_types::declaration::{Declaration, Said};
@@ -219,7 +218,10 @@ fn keyword<T>(said: &Said<T>) -> &'static str {
     }
 }
 
-pub(super) fn shown_declaration(alloc: Global, declaration: &Declaration) -> Result<String, AllocError> {
+pub(super) fn shown_declaration(
+    alloc: Global,
+    declaration: &Declaration,
+) -> Result<String, AllocError> {
     match declaration {
         Declaration::Display(Said::Value(value)) => format!(in alloc; "{}", shown_display(value)),
         Declaration::Content(Said::Value(value)) => shown_content(alloc, value),
@@ -274,7 +276,10 @@ fn shown_weights(alloc: Global, weights: &[Weight]) -> Result<String, AllocError
     Ok(all)
 }
 
-pub(super) fn shown_descriptor(alloc: Global, descriptor: &Descriptor) -> Result<String, AllocError> {
+pub(super) fn shown_descriptor(
+    alloc: Global,
+    descriptor: &Descriptor,
+) -> Result<String, AllocError> {
     match descriptor {
         Descriptor::System(system) => {
             let system = shown_system(alloc, system)?;
@@ -301,30 +306,4 @@ pub(super) fn shown_descriptor(alloc: Global, descriptor: &Descriptor) -> Result
         }
         Descriptor::Additive(weights) => shown_weights(alloc, weights.as_slice()),
     }
-}
-
-/// The token as a word and its value; only of those kinds that the table has.
-fn shown_token(alloc: Global, token: &Token) -> Result<String, AllocError> {
-    let (start, end) = (token.start, token.end);
-    match &token.kind {
-        TokenKind::Blank => format!(in alloc; "[blank {start} {end}]"),
-        TokenKind::Word(name) => format!(in alloc; "[word {} {start} {end}]", name.as_str()),
-        TokenKind::BadString => format!(in alloc; "[bad-string {start} {end}]"),
-        TokenKind::Number { whole: true, value } => format!(in alloc;
-            "[integer {} {start} {end}]",
-            *value
-        ),
-        TokenKind::Number { .. } => format!(in alloc; "[number {start} {end}]"),
-        TokenKind::Url(value) => format!(in alloc; "[url {} {start} {end}]", value.as_str()),
-        _ => format!(in alloc; "[? {start} {end}]"),
-    }
-}
-
-pub(super) fn shown_tokens(alloc: Global, tokens: &[Token]) -> Result<String, AllocError> {
-    let mut all = String::new(alloc);
-    for token in tokens {
-        let one = shown_token(alloc, token)?;
-        all.push_str(one.as_str())?;
-    }
-    Ok(all)
 }
