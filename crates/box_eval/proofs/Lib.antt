@@ -12,3 +12,4 @@ pub mod DocumentLemmas
 pub mod GroupLemmas
 pub mod ValueLemmas
 pub mod StartLemmas
+mod AskingLemmas

@@ -1,5 +1,5 @@
 -- Laws of the evaluation of whole documents.
-use Rattle.std.specs.Prelude.{◌≡◌, ℕ, ℤ, Bool, true, List, ◌∷◌, Option, Some, None}
+use Rattle.std.specs.Prelude.{◌≡◌, ℕ, ℤ, Bool, true, false, List, ◌∷◌, Option, Some, None}
 use Rattle.std.specs.List.{AllByRecursion}
 use Rattle.forest.specs.Forest.{Forest, Empty, Tree}
 use Rattle.forest.specs.Keys.{Keyed, HasDistinctKeys}
@@ -14,8 +14,8 @@ use Rattle.counter_sets.specs.Sets.{is_by_peer, is_missing_in}
 use Rattle.box_eval.specs.declared.made.Made.{Made}
 use Rattle.box_eval.specs.Boxes.{box_of}
 use Rattle.box_eval.specs.Elements.{Handed, Replacing, Styled, after_of, at_root, before_of, behind_marker, by_parent, by_peers, inside, marker_of, own_counted}
-use Rattle.box_eval.specs.Evaluation.{Element, StyledNode, all_changes, changes, inputs, is_boxed, past_node, past_trees, records, styled, within}
-use Rattle.box_eval.specs.Starts.{document_starts, no_starts, started, starts_by}
+use Rattle.box_eval.specs.Evaluation.{Element, StyledNode, all_changes, changes, evaluation, inputs, is_boxed, past_node, past_trees, records, styled, within}
+use Rattle.box_eval.specs.Starts.{ask, document_records, document_starts, no_starts, started, starts_by}
 
 -- Of a box's counters, those that the parent's set lacks were created by the box itself or by a sibling box
 -- before it, and no others were: what its peers created is what the parent's set lacks.
@@ -83,3 +83,9 @@ StartsKeepChanges =
 abbrev pub StartsAreOwn : Type 0
 StartsAreOwn =
     (table : List CounterStyle) (style : ℕ → Option Style → ElementStyle) (document : Forest (Keyed Node)) → document_starts table style document ≡ starts_by (all_changes table (started table style document))
+
+-- And where no box asks for a start, the evaluation with all of them 0 is that with the document's.
+abbrev pub StartsMatterWhereAsked : Type 0
+StartsMatterWhereAsked =
+    (table : List CounterStyle) (style : ℕ → Option Style → ElementStyle) (document : Forest (Keyed Node))
+    → ask true (styled style no_starts document) ≡ false → document_records table style document ≡ evaluation table (styled style no_starts document)

@@ -1,8 +1,8 @@
 -- The starts of a document's reversed counters, and its evaluation with them: our own after CSS Lists 3, 4.4. What
 -- a start is told by does not depend on any start: it is read off the evaluation in which all are 0.
-use Rattle.std.specs.Prelude.{ℕ, ℤ, pos, ◌&&◌, List, Option, map, filter}
+use Rattle.std.specs.Prelude.{ℕ, ℤ, pos, Bool, true, false, ◌&&◌, ◌||◌, List, [], ◌∷◌, Option, map, filter}
 use Rattle.std.specs.Str.{bytes_eq}
-use Rattle.forest.specs.Forest.{Forest}
+use Rattle.forest.specs.Forest.{Forest, Empty, Tree}
 use Rattle.forest.specs.Keys.{Keyed}
 use Rattle.plain_types.specs.declared.box_id.BoxId.{BoxId}
 use Rattle.plain_types.specs.declared.counter_style.CounterStyle.{CounterStyle}
@@ -14,7 +14,8 @@ use Rattle.reversed_start.specs.Starts.{start}
 use Rattle.reversed_start.specs.declared.event.Event.{Event}
 use Rattle.box_eval.specs.declared.change.Change.{Change}
 use Rattle.box_eval.specs.declared.element_record.ElementRecord.{ElementRecord}
-use Rattle.box_eval.specs.Evaluation.{StyledNode, all_changes, evaluation, styled}
+use Rattle.box_eval.specs.declared.inputs.Start.{Start}
+use Rattle.box_eval.specs.Evaluation.{Element, StyledNode, all_changes, evaluation, is_boxed, styled}
 
 -- the events of the counter of this name that this box created, in the order of the changes
 abbrev pub events_of : List Change → BoxId → List ℕ → List Event
@@ -39,3 +40,21 @@ module _ (table : List CounterStyle) (style : ℕ → Option Style → ElementSt
 
   abbrev pub document_records : List (ℕ × ElementRecord)
   document_records = evaluation table started
+
+-- Whether starts are asked for: a box asks for one where it creates a reversed counter without a number.
+
+abbrev pub asks : List Start → Bool
+asks [] = false
+asks (start ∷ starts) = true
+
+-- by a node, which has a box or not
+abbrev pub asks_in : Bool → StyledNode → Bool
+asks_in true (Element element) = asks element.starts
+asks_in _ label = false
+
+-- by trees side by side, whose parent has a box or not
+abbrev pub ask : Bool → Forest (Keyed StyledNode) → Bool
+ask boxed Empty = false
+ask boxed (Tree node children after) =
+    let has = is_boxed boxed node.label in
+    asks_in has node.label || (ask has children || ask boxed after)

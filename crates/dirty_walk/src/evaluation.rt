@@ -19,6 +19,7 @@ use crate::targets::DocumentTargets;
 use box_eval::change::Change;
 use box_eval::changed_starts::ChangedStarts;
 use box_eval::element_record::ElementRecord;
+use box_eval::laws::starts_matter_where_asked;
 use box_eval::starts::NoStarts;
 use content_eval::laws::no_reference_is_circular;
 use document_walk::evaluate::evaluate;
@@ -34,25 +35,28 @@ use std::sync::ledger::Ledger;
 use steps::Steps;
 use target_index::index::Index;
 
-/// What a document's boxes do to counters, which tells the starts of its reversed counters. The records of this walk
-/// are thrown away: they were made with every start at 0.
-fn document_changes<L: Ledger>(
+/// What the evaluation says of a document's elements, whose boxes do this to counters, which tells the starts of its
+/// reversed counters.
+fn records_with<L: Ledger>(
     alloc: Global,
     arena: &Arena,
     agent: &Sheet,
     author: &Sheet,
     table: &Table,
+    changes: &[Change],
     steps: &mut Steps<L>,
-) -> Result<List<Change>, Memory>
-    ensures changes { IfOk result (λ changes. changes ≡ all_changes table.now (styled (element_style arena.now.tree agent.now author.now) no_starts arena.now.tree)) }
+) -> Result<List<(usize, ElementRecord)>, Memory>
+    requires changes { changes.now ≡ all_changes table.now (styled (element_style arena.now.tree agent.now author.now) no_starts arena.now.tree) }
+    ensures records { IfOk result (λ records. records ≡ document_records table.now (element_style arena.now.tree agent.now author.now) arena.now.tree) }
     ensures steps { steps.new ≤ steps.old + 3 * size arena.now.tree }
 {
-    let evaluated = evaluate(alloc, arena, agent, author, table, &NoStarts, steps)?;
-    Ok(evaluated.changes)
+    let starts = ChangedStarts::of(alloc, changes)?;
+    let evaluated = evaluate(alloc, arena, agent, author, table, &starts, steps)?;
+    Ok(evaluated.records)
 }
 
-/// What the evaluation says of a document's elements: one walk tells the starts of the reversed counters, and a
-/// second one goes with them.
+/// What the evaluation says of a document's elements. One walk, with every start at 0, tells the starts of the reversed
+/// counters; where a box asks for one, a second walk goes with them.
 pub(crate) fn document_records<L: Ledger>(
     alloc: Global,
     arena: &Arena,
@@ -64,10 +68,21 @@ pub(crate) fn document_records<L: Ledger>(
     ensures records { IfOk result (λ records. records ≡ document_records table.now (element_style arena.now.tree agent.now author.now) arena.now.tree) }
     ensures steps { steps.new ≤ steps.old + 6 * size arena.now.tree }
 {
-    let changes = document_changes(alloc, arena, agent, author, table, steps)?;
-    let starts = ChangedStarts::of(alloc, changes.as_slice())?;
-    let evaluated = evaluate(alloc, arena, agent, author, table, &starts, steps)?;
-    Ok(evaluated.records)
+    starts_matter_where_asked();
+    let first = evaluate(alloc, arena, agent, author, table, &NoStarts, steps)?;
+    if first.asks {
+        let changes = first.changes;
+        return records_with(
+            alloc,
+            arena,
+            agent,
+            author,
+            table,
+            changes.as_slice(),
+            steps,
+        );
+    }
+    Ok(first.records)
 }
 
 /// The flat texts of a document's elements, of which this is said.

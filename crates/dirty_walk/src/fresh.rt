@@ -26,8 +26,8 @@ fn agent_sheet(alloc: Global) -> Result<Sheet, Memory>
     read_sheet(alloc, AGENT_SHEET)
 }
 
-/// What is kept of a document's elements, by key. Two walks evaluate it: one to learn the starts of its reversed
-/// counters, and one with them.
+/// What is kept of a document's elements, by key. One walk evaluates it, and where a box creates a reversed counter
+/// without a number a second one, with the starts that the first one tells.
 pub(crate) fn fresh_entries<L: Ledger>(
     alloc: Global,
     arena: &Arena,

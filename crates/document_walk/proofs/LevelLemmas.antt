@@ -12,6 +12,7 @@ use Rattle.plain_types.specs.declared.style.Style.{Style}
 use Rattle.box_eval.specs.declared.entry.Closing.{Closing}
 use Rattle.box_eval.specs.Elements.{Handed, by_parent}
 use Rattle.box_eval.specs.Evaluation.{Element, StyledNode, Text, changes, changes_in, past_trees, records, style_within, styled_trees, without_box}
+use Rattle.box_eval.specs.Starts.{ask}
 use Rattle.box_eval.proofs.EntryLemmas.{closing_any}
 use Rattle.box_eval.proofs.DocumentLemmas.{DiffersInEarlier, same_for, with_earlier}
 use Rattle.document_walk.specs.declared.frame.Frame.{Frame}
@@ -54,6 +55,14 @@ module _ (style : ℕ → Option Style → ElementStyle) (start : BoxId → List
     pub no_changes : (trees : Forest (Keyed StyledNode)) (handed : Handed) → changes table by_parent false handed trees ≡ []
     no_changes Empty handed = refl
     no_changes (Tree node children after) handed = no_changes_node node.key node.label children after handed (no_changes children handed) (no_changes after handed)
+
+    asks_no_node : (label : StyledNode) (children after : Forest (Keyed StyledNode)) (key : ℕ) → ask false children ≡ false → ask false after ≡ false → ask false (Tree (record { key = key; label = label }) children after) ≡ false
+    asks_no_node (Element element) children after key below beside = rw (below, beside) refl
+    asks_no_node Text children after key below beside = rw (below, beside) refl
+
+    pub asks_for_none : (trees : Forest (Keyed StyledNode)) → ask false trees ≡ false
+    asks_for_none Empty = refl
+    asks_for_none (Tree node children after) = asks_no_node node.label children after node.key (asks_for_none children) (asks_for_none after)
 
     -- their styles do not matter
     same_node : (key : ℕ) (label : Node) (children after : Forest (Keyed Node)) (first second : Option Style) (handed : Handed)

@@ -1,5 +1,5 @@
 -- The turns of the code, of a link that a match has read.
-use Rattle.std.proofs.Common.{◌≡◌, ◌+◌, ◌*◌, ◌≤◌, ◌<◌, ◌∷◌, ℕ, ℤ, List, [], true, false, Option, Some, None, sym, subst, ◌∙◌}
+use Rattle.std.proofs.Common.{◌≡◌, ◌+◌, ◌≤◌, ◌<◌, ◌∷◌, ℕ, ℤ, List, [], true, false, Option, Some, None, sym, subst, ◌∙◌}
 use Rattle.std.specs.Prelude.{is_some}
 use Rattle.forest.specs.Forest.{Forest}
 use Rattle.forest.specs.Keys.{Keyed, HasDistinctKeys}
@@ -12,6 +12,7 @@ use Rattle.plain_types.specs.declared.style.Style.{Style}
 use Rattle.node_arena.specs.Document.{IsKeyedDocument}
 use Rattle.node_arena.specs.Nodes.{name_of}
 use Rattle.box_eval.specs.Evaluation.{all_changes, evaluation, styled}
+use Rattle.box_eval.specs.Starts.{ask}
 use Rattle.box_eval.specs.Laws.{DoesParentTell, OfEachDocument}
 use Rattle.document_walk.specs.declared.frame.Frame.{Frame}
 use Rattle.document_walk.specs.declared.walk.Walk.{Walk}
@@ -76,9 +77,10 @@ module _ (table : List CounterStyle) (style : ℕ → Option Style → ElementSt
       pub record AllIsTold : Type 0 where
         pub records : walk.told.records ≡ evaluation table (styled style start document)
         pub changes : walk.told.changes ≡ all_changes table (styled style start document)
+        pub asks : walk.told.asks ≡ ask true (styled style start document)
 
       pub ends_here : OfEachDocument DoesParentTell → HasDistinctKeys document → frames_of walk ≡ [] → AllIsTold
       ends_here law distinct none =
           let all = walks.ends table style start document walk steps most at_none none in
           let tells = law table (styled style start document) (styled_distinct style start document None distinct) in
-          record { records = all.0 ∙ sym tells.records; changes = all.1 ∙ sym tells.changes }
+          record { records = all.records ∙ sym tells.records; changes = all.changes ∙ sym tells.changes; asks = all.asks }

@@ -1,5 +1,5 @@
 -- One turn of a walk: an element is opened or left, or a text is passed.
-use Rattle.std.proofs.Common.{◌≡◌, ◌++◌, ◌∷◌, ℕ, ℤ, List, [], Bool, true, false, cond, Option, Some, None, refl, sym, ap, ◌∙◌, append_assoc}
+use Rattle.std.proofs.Common.{◌≡◌, ◌++◌, ◌∷◌, ℕ, ℤ, List, [], Bool, true, false, ◌||◌, cond, Option, Some, None, refl, sym, ap, ◌∙◌, append_assoc}
 use Rattle.std.specs.Prelude.{option_map, unwrap_or}
 use Rattle.std.specs.Option.{option_or}
 use Rattle.forest.specs.Forest.{Forest}
@@ -20,12 +20,13 @@ use Rattle.box_eval.specs.declared.made.Made.{Made}
 use Rattle.box_eval.specs.Boxes.{box_of}
 use Rattle.box_eval.specs.Elements.{Handed, Styled, before_of, by_parent, children_handed, closing_of, entry_of, inside, marker_of, own_counted, past_formed}
 use Rattle.box_eval.specs.Evaluation.{Element, StyledNode, changes, changes_in, element_starts, first_changes, last_changes, past_node, past_trees, records, records_of, styled_trees, within, without_box}
+use Rattle.box_eval.specs.Starts.{ask, asks_in}
 use Rattle.box_eval.proofs.EntryLemmas.{closing_any}
 use Rattle.box_eval.proofs.DocumentLemmas.{DiffersInEarlier, same_for, with_earlier}
 use Rattle.document_walk.specs.declared.frame.Frame.{Frame}
 use Rattle.document_walk.specs.declared.frame.Opened.{Opened}
-use Rattle.document_walk.specs.Walking.{changes_before, changes_past, handed_behind, handed_inside, handed_within, is_boxed_in, level_changes, level_records, opened_with, past_level, records_past, remaining_changes, remaining_records, style_over, told_opened}
-use Rattle.document_walk.proofs.LevelLemmas.{left_any, no_changes, past_no_box, same_without_box}
+use Rattle.document_walk.specs.Walking.{asks_before, asks_past, changes_before, changes_past, handed_behind, handed_inside, handed_within, is_boxed_in, level_asks, level_changes, level_records, opened_with, past_level, records_past, remaining_asks, remaining_changes, remaining_records, style_over, told_opened}
+use Rattle.document_walk.proofs.LevelLemmas.{asks_for_none, left_any, no_changes, past_no_box, same_without_box}
 
 -- What the children of an element are handed is told by what was made of it.
 
@@ -51,6 +52,11 @@ regroup_four : {A : Type 0} (first below last level rest : List A) → (first ++
 regroup_four first below last level rest =
     append_assoc first (below ++ (last ++ level)) rest
     ∙ ap (λ all. first ++ all) (append_assoc below (last ++ level) rest ∙ ap (λ all. below ++ all) (append_assoc last level rest))
+
+regroup_or : (own below level rest : Bool) → ((own || (below || level)) || rest) ≡ (own || (below || (level || rest)))
+regroup_or true below level rest = refl
+regroup_or false true level rest = refl
+regroup_or false false level rest = refl
 
 module _ (table : List CounterStyle) (style : ℕ → Option Style → ElementStyle) (start : BoxId → List ℕ → ℤ) (document : Forest (Keyed Node)) where
   -- To open an element is to go on with its children.
@@ -93,9 +99,13 @@ module _ (table : List CounterStyle) (style : ℕ → Option Style → ElementSt
         ++ (last_changes table by_parent has key (Element element) (behind_if has) ++ level_changes table style start document frames (next_if has) after)))
         ++ changes_past table style start document frames (past_level table style start document frames (next_if has) after)
 
+    abbrev pub asks_if : Bool → Bool
+    asks_if has = (asks_in has (Element element) || (ask has inner || level_asks table style start document frames after)) || asks_past table style start document frames
+
     pub record Entered (has : Bool) : Type 0 where
       pub records : records_if has ≡ remaining_records table style start document (frames_if has) (handed_within (opened_if has) handed) children
       pub changes : changes_if has ≡ changes_before (opened_if has) ++ remaining_changes table style start document (frames_if has) (handed_within (opened_if has) handed) children
+      pub asks : asks_if has ≡ (asks_before (opened_if has) || remaining_asks table style start document (frames_if has) (handed_within (opened_if has) handed) children)
 
     with_box : Entered true
     with_box =
@@ -137,6 +147,7 @@ module _ (table : List CounterStyle) (style : ℕ → Option Style → ElementSt
               ∙ ap (λ closing. changed_too ++ (last closing ++ (level_changes table style start document frames next after ++ later))) closing_is
               ∙ ap (λ all. changed_too ++ (last (closing_of table by_parent key element behind_too) ++ (all ++ later))) level.changes
               ∙ ap (λ all. changed_too ++ (last (closing_of table by_parent key element behind_too) ++ (level_changes table style start document frames next_too after ++ all))) rest.changes);
+          asks = regroup_or (asks_in true (Element element)) (ask true inner) (level_asks table style start document frames after) (asks_past table style start document frames);
         }
 
     without : Entered false
@@ -160,6 +171,9 @@ module _ (table : List CounterStyle) (style : ℕ → Option Style → ElementSt
               regroup_four [] (changes table by_parent false handed inner) [] (level_too handed) (tail_too handed)
               ∙ ap (λ all. all ++ (level_too handed ++ tail_too handed)) (no_changes style start table inner handed ∙ sym (no_changes style start table inner_too handed))
               ∙ ap (λ next. changes table by_parent false handed inner_too ++ (level_too next ++ tail_too next)) (sym back);
+          asks =
+              regroup_or false (ask false inner) (level_asks table style start document frames after) (asks_past table style start document frames)
+              ∙ ap (λ below. below || (level_asks table style start document frames after || asks_past table style start document frames)) (asks_for_none style start table inner ∙ sym (asks_for_none style start table inner_too));
         }
 
     pub entered : (has : Bool) → Entered has

@@ -1,6 +1,7 @@
 -- A walk over a whole document: where it begins, its turns, and where it ends.
-use Rattle.std.proofs.Common.{◌≡◌, ◌+◌, ◌*◌, ◌≤◌, ◌<◌, ◌++◌, ◌∷◌, ◌&&◌, ℕ, ℤ, List, [], true, false, length, Option, Some, None, refl, sym, ap, subst, ◌∙◌, arith, append_assoc, append-nil, inl}
+use Rattle.std.proofs.Common.{◌≡◌, ◌+◌, ◌*◌, ◌≤◌, ◌<◌, ◌++◌, ◌∷◌, ◌&&◌, ◌||◌, ℕ, ℤ, List, [], true, false, length, Option, Some, None, refl, sym, ap, subst, ◌∙◌, arith, append_assoc, append-nil, inl}
 use Rattle.std.specs.Prelude.{is_some, option_map, unwrap_or}
+use Rattle.std.proofs.Math.Bool.{or_assoc, or-false}
 use Rattle.std.proofs.lemmas.Bool.{or_left}
 use Rattle.std.specs.Option.{option_and_then}
 use Rattle.std.specs.List.{AllByRecursion}
@@ -18,25 +19,25 @@ use Rattle.plain_types.specs.declared.style.Style.{Style}
 use Rattle.node_arena.specs.Document.{IsKeyedDocument}
 use Rattle.node_arena.specs.Nodes.{attrs_of, name_of, node_attrs, node_name}
 use Rattle.node_arena.proofs.ToTree.{sound-at}
-use Rattle.box_eval.specs.declared.change.Change.{Change}
-use Rattle.box_eval.specs.declared.element_record.ElementRecord.{ElementRecord}
 use Rattle.box_eval.specs.Boxes.{generates_box}
 use Rattle.box_eval.specs.Elements.{Handed, at_root, by_parent}
 use Rattle.box_eval.specs.Evaluation.{changes, records, styled_trees}
+use Rattle.box_eval.specs.Starts.{ask}
 use Rattle.document_walk.specs.declared.evaluated.Evaluated.{Evaluated}
 use Rattle.document_walk.specs.declared.frame.Frame.{Frame}
 use Rattle.document_walk.specs.declared.frame.Opened.{Opened}
 use Rattle.document_walk.specs.declared.walk.Walk.{Walk}
-use Rattle.document_walk.specs.Turns.{HasEntered, HasLeft, frames_of}
-use Rattle.document_walk.specs.Walking.{HandsOn, IsBehindBox, IsByNoAfter, IsByOther, changes_before, changes_behind, handed_by, handed_past, handed_within, is_boxed_in, opened_in, remaining_changes, remaining_records, style_over, told_of}
+use Rattle.document_walk.specs.Turns.{HasEntered, HasLeft, frames_of, nothing_told, told_entering, told_leaving}
+use Rattle.document_walk.specs.Walking.{HandsOn, IsBehindBox, IsByNoAfter, IsByOther, asks_before, changes_before, changes_behind, handed_by, handed_past, handed_within, is_boxed_in, opened_in, remaining_asks, remaining_changes, remaining_records, style_over, told_of}
 use Rattle.document_walk.proofs.TurnLemmas.{entered}
 use Rattle.document_walk.proofs.StateLemmas.{FrameHolds, FramesHold, IsDone, by_other, frames_hold, hands_on, has_open_box, opens_if, size_left, still_done, times_left}
 
 module _ (table : List CounterStyle) (style : ℕ → Option Style → ElementStyle) (start : BoxId → List ℕ → ℤ) (document : Forest (Keyed Node)) where
   -- these trees come next, of the open elements the first is the innermost, and this is told so far
-  pub record Walks (frames : List Frame) (handed : Handed) (trees : Forest (Keyed Node)) (told : List (ℕ × ElementRecord)) (changed : List Change) (steps most : ℕ) : Type 0 where
-    pub records : told ++ remaining_records table style start document frames handed trees ≡ records table by_parent true at_root (styled_trees style start None document)
-    pub changes : changed ++ remaining_changes table style start document frames handed trees ≡ changes table by_parent true at_root (styled_trees style start None document)
+  pub record Walks (frames : List Frame) (handed : Handed) (trees : Forest (Keyed Node)) (told : Evaluated) (steps most : ℕ) : Type 0 where
+    pub records : told.records ++ remaining_records table style start document frames handed trees ≡ records table by_parent true at_root (styled_trees style start None document)
+    pub changes : told.changes ++ remaining_changes table style start document frames handed trees ≡ changes table by_parent true at_root (styled_trees style start None document)
+    pub asks : (told.asks || remaining_asks table style start document frames handed trees) ≡ ask true (styled_trees style start None document)
     pub live : AllByRecursion (λ (frame : Frame). IsLive document frame.key) frames
     pub once : (key : ℕ) → times_left document key frames trees ≤ 1
     pub done : HandsOn (IsDone document frames trees) handed
@@ -48,10 +49,11 @@ module _ (table : List CounterStyle) (style : ℕ → Option Style → ElementSt
   abbrev pub left : List Frame → Forest (Keyed Node) → ℕ
   left frames trees = 2 * size_left document frames trees + length frames
 
-  begins : (steps : ℕ) → HasDistinctKeys document → Walks [] at_root document [] [] steps (steps + 3 * size document)
+  begins : (steps : ℕ) → HasDistinctKeys document → Walks [] at_root document nothing_told steps (steps + 3 * size document)
   begins steps distinct = record {
     records = append-nil (records table by_parent true at_root (styled_trees style start None document));
     changes = append-nil (changes table by_parent true at_root (styled_trees style start None document));
+    asks = or-false (ask true (styled_trees style start None document));
     live = tt;
     once = λ key. omega (arith, distinct key);
     done = record { parent = tt; sibling = tt };
@@ -60,14 +62,14 @@ module _ (table : List CounterStyle) (style : ℕ → Option Style → ElementSt
     few = omega arith;
   }
 
-  module _ (frames : List Frame) (handed : Handed) (told : List (ℕ × ElementRecord)) (changed : List Change) (steps later most : ℕ) where
+  module _ (frames : List Frame) (handed : Handed) (told : Evaluated) (steps later most : ℕ) where
     -- an element is opened
     opening : (key : ℕ) (name : List ℕ) (children : Forest (Keyed Node)) (opened : Option Opened)
-        → Walks frames handed (Tree (keyed key (node.Element name (attrs_of document key))) children (after_of document key)) told changed steps most
+        → Walks frames handed (Tree (keyed key (node.Element name (attrs_of document key))) children (after_of document key)) told steps most
         → IsLive document key
         → opened ≡ opened_in table style start document (is_boxed_in frames) key (style_over frames) handed
         → later ≤ steps + 2
-        → Walks (record { key = key; opened = opened } ∷ frames) (handed_within opened handed) children told (changed ++ changes_before opened) later most
+        → Walks (record { key = key; opened = opened } ∷ frames) (handed_within opened handed) children (told_entering told opened) later most
         × (left (record { key = key; opened = opened } ∷ frames) children < left frames (Tree (keyed key (node.Element name (attrs_of document key))) children (after_of document key)))
     opening key name children opened w live is few =
         let has = is_boxed_in frames && generates_box (style key (style_over frames)) in
@@ -79,9 +81,10 @@ module _ (table : List CounterStyle) (style : ℕ → Option Style → ElementSt
         still_done document table style start frames handed key label children its in
         let rest : Forest (Keyed Node) = children in
         let now : Option Opened → List Frame = λ opened. record { key = key; opened = opened } ∷ frames in
-        let all : Walks (now its) (handed_within its handed) children told (changed ++ changes_before its) later most = record {
-          records = ap (λ all. told ++ all) (sym turn.records) ∙ w.records;
-          changes = append_assoc changed (changes_before its) _ ∙ ap (λ all. changed ++ all) (sym turn.changes) ∙ w.changes;
+        let all : Walks (now its) (handed_within its handed) children (told_entering told its) later most = record {
+          records = ap (λ all. told.records ++ all) (sym turn.records) ∙ w.records;
+          changes = append_assoc told.changes (changes_before its) _ ∙ ap (λ all. told.changes ++ all) (sym turn.changes) ∙ w.changes;
+          asks = or_assoc told.asks (asks_before its) _ ∙ ap (λ rest. told.asks || rest) (sym turn.asks) ∙ w.asks;
           live = (live, w.live);
           once = λ other. let one = w.once other in omega (arith, one);
           done = opens.done;
@@ -89,19 +92,20 @@ module _ (table : List CounterStyle) (style : ℕ → Option Style → ElementSt
           behind = opens.behind;
           few = omega (arith, few, w.few);
         } in (
-          subst (λ opened. Walks (now opened) (handed_within opened handed) children told (changed ++ changes_before opened) later most) (sym is) all,
+          subst (λ opened. Walks (now opened) (handed_within opened handed) children (told_entering told opened) later most) (sym is) all,
           omega arith,
         )
 
     -- a text is passed
     passing : (key : ℕ) (characters : List ℕ) (after : Forest (Keyed Node))
-        → Walks frames handed (Tree (keyed key (node.Text characters)) Empty after) told changed steps most
-        → Walks frames handed after told changed steps most × (left frames after < left frames (Tree (keyed key (node.Text characters)) Empty after))
+        → Walks frames handed (Tree (keyed key (node.Text characters)) Empty after) told steps most
+        → Walks frames handed after told steps most × (left frames after < left frames (Tree (keyed key (node.Text characters)) Empty after))
     passing key characters after w =
         let still : (counter : Counter) → IsDone document frames (Tree (keyed key (node.Text characters)) Empty after) counter → IsDone document frames after counter = λ counter h. (omega (arith, h.0), h.1) in (
           record {
             records = w.records;
             changes = w.changes;
+            asks = w.asks;
             live = w.live;
             once = λ other. let one = w.once other in omega (arith, one);
             done = hands_on document (IsDone document frames (Tree (keyed key (node.Text characters)) Empty after)) (IsDone document frames after) still handed w.done;
@@ -122,17 +126,18 @@ module _ (table : List CounterStyle) (style : ℕ → Option Style → ElementSt
     behind_past key (Some opened) h = λ _. inl (refl, refl)
 
     closing : (frame : Frame)
-        → Walks (frame ∷ frames) handed Empty told changed steps most
+        → Walks (frame ∷ frames) handed Empty told steps most
         → later ≤ steps + 1
         → Walks frames (handed_past table document frame.key frame.opened handed) (after_of document frame.key)
-        (told ++ (frame.key, told_of table document frame.key frame.opened handed) ∷ []) (changed ++ changes_behind table document frame.key frame.opened handed) later most
+        (told_leaving table document told frame handed) later most
         × (left frames (after_of document frame.key) < left (frame ∷ frames) Empty)
     closing frame w few =
         let after = after_of document frame.key in
         let still : (counter : Counter) → IsDone document (frame ∷ frames) Empty counter → IsDone document frames after counter = λ counter h. (omega (arith, h.0), h.1) in (
           record {
-            records = append_assoc told ((frame.key, told_of table document frame.key frame.opened handed) ∷ []) _ ∙ w.records;
-            changes = append_assoc changed (changes_behind table document frame.key frame.opened handed) _ ∙ w.changes;
+            records = append_assoc told.records ((frame.key, told_of table document frame.key frame.opened handed) ∷ []) _ ∙ w.records;
+            changes = append_assoc told.changes (changes_behind table document frame.key frame.opened handed) _ ∙ w.changes;
+            asks = w.asks;
             live = w.live.1;
             once = λ other. let one = w.once other in omega (arith, one);
             done = done_past (IsDone document (frame ∷ frames) Empty) (IsDone document frames after) still frame.key frame.opened w.done w.kept.0;
@@ -148,43 +153,42 @@ module _ (table : List CounterStyle) (style : ℕ → Option Style → ElementSt
   -- a walk stands at a link
   pub record IsAt (walk : Walk) (link : Option ℕ) (steps most : ℕ) : Type 0 where
     pub leads : IsLink document link
-    pub walks : Walks (frames_of walk) (handed_by walk.around) (on_link document link) walk.told.records walk.told.changes steps most
+    pub walks : Walks (frames_of walk) (handed_by walk.around) (on_link document link) walk.told steps most
 
   abbrev pub left_at : Walk → Option ℕ → ℕ
   left_at walk link = left (frames_of walk) (on_link document link)
 
   module _ (steps most : ℕ) where
-    moved : (frames : List Frame) (handed : Handed) (trees : Forest (Keyed Node)) (told : List (ℕ × ElementRecord)) (changed : List Change) (walk : Walk) (link : Option ℕ)
-        → frames_of walk ≡ frames → handed_by walk.around ≡ handed → on_link document link ≡ trees → walk.told.records ≡ told → walk.told.changes ≡ changed → IsLink document link
-        → (most_left : ℕ) → Walks frames handed trees told changed steps most × (left frames trees < most_left)
+    moved : (frames : List Frame) (handed : Handed) (trees : Forest (Keyed Node)) (told : Evaluated) (walk : Walk) (link : Option ℕ)
+        → frames_of walk ≡ frames → handed_by walk.around ≡ handed → on_link document link ≡ trees → walk.told ≡ told → IsLink document link
+        → (most_left : ℕ) → Walks frames handed trees told steps most × (left frames trees < most_left)
         → IsAt walk link steps most × (left_at walk link < most_left)
-    moved frames handed trees told changed walk link frames_are handed_is trees_are told_is changed_is link_is most_left turn = (
+    moved frames handed trees told walk link frames_are handed_is trees_are told_is link_is most_left turn = (
       record {
         leads = link_is;
         walks =
-            subst (λ frames. Walks frames (handed_by walk.around) (on_link document link) walk.told.records walk.told.changes steps most) (sym frames_are)
-            (subst (λ handed. Walks frames handed (on_link document link) walk.told.records walk.told.changes steps most) (sym handed_is)
-            (subst (λ trees. Walks frames handed trees walk.told.records walk.told.changes steps most) (sym trees_are)
-            (subst (λ told. Walks frames handed trees told walk.told.changes steps most) (sym told_is)
-            (subst (λ changed. Walks frames handed trees told changed steps most) (sym changed_is) turn.0))));
+            subst (λ frames. Walks frames (handed_by walk.around) (on_link document link) walk.told steps most) (sym frames_are)
+            (subst (λ handed. Walks frames handed (on_link document link) walk.told steps most) (sym handed_is)
+            (subst (λ trees. Walks frames handed trees walk.told steps most) (sym trees_are)
+            (subst (λ told. Walks frames handed trees told steps most) (sym told_is) turn.0)));
       },
       subst (λ frames. left frames (on_link document link) < most_left) (sym frames_are)
           (subst (λ trees. left frames trees < most_left) (sym trees_are) turn.1),
     )
 
-  pub begins_at : (walk : Walk) (root steps : ℕ) → HasDistinctKeys document → Some root ≡ first_key document → frames_of walk ≡ [] → handed_by walk.around ≡ at_root → walk.told.records ≡ [] → walk.told.changes ≡ []
+  pub begins_at : (walk : Walk) (root steps : ℕ) → HasDistinctKeys document → Some root ≡ first_key document → frames_of walk ≡ [] → handed_by walk.around ≡ at_root → walk.told ≡ nothing_told
       → IsAt walk (Some root) steps (steps + 3 * size document)
-  begins_at walk root steps distinct first frames handed told changed =
+  begins_at walk root steps distinct first frames handed told =
       let trees : on_link document (Some root) ≡ document = ap (on_link document) first ∙ on_root document in
       let live : IsLink document (Some root) = subst (IsLink document) (sym first) (root_link document) in
-      (moved steps (steps + 3 * size document) [] at_root document [] [] walk (Some root) frames handed trees told changed live (left [] document + 1) (begins steps distinct, omega arith)).0
+      (moved steps (steps + 3 * size document) [] at_root document nothing_told walk (Some root) frames handed trees told live (left [] document + 1) (begins steps distinct, omega arith)).0
 
   module _ (walk : Walk) (key steps most : ℕ) (at : IsAt walk (Some key) steps most) where
     abbrev on_label : Node → Forest (Keyed Node)
     on_label label = Tree (keyed key label) (children_of document key) (after_of document key)
 
-    walks_on : (label : Node) → Some label ≡ label_of document key → Walks (frames_of walk) (handed_by walk.around) (on_label label) walk.told.records walk.told.changes steps most
-    walks_on label is = subst (λ trees. Walks (frames_of walk) (handed_by walk.around) trees walk.told.records walk.told.changes steps most) (on_key document key label at.leads is) at.walks
+    walks_on : (label : Node) → Some label ≡ label_of document key → Walks (frames_of walk) (handed_by walk.around) (on_label label) walk.told steps most
+    walks_on label is = subst (λ trees. Walks (frames_of walk) (handed_by walk.around) trees walk.told steps most) (on_key document key label at.leads is) at.walks
 
     left_on : (label : Node) → Some label ≡ label_of document key → left_at walk (Some key) ≡ left (frames_of walk) (on_label label)
     left_on label is = ap (left (frames_of walk)) (on_key document key label at.leads is)
@@ -209,9 +213,9 @@ module _ (table : List CounterStyle) (style : ℕ → Option Style → ElementSt
           let same : Some (node.Element name (attrs_of document key)) ≡ label_of document key = sym (ap (λ attrs. Some (node.Element name attrs)) its) ∙ is in
           let opened = opened_in table style start document (is_boxed_in (frames_of walk)) key (style_over (frames_of walk)) (handed_by walk.around) in
           let child = on_first document key d.distinct at.leads in
-          let turn = opening (frames_of walk) (handed_by walk.around) walk.told.records walk.told.changes steps later most key name (children_of document key) opened (walks_on (node.Element name (attrs_of document key)) same) at.leads refl few in
-          moved later most (record { key = key; opened = opened } ∷ frames_of walk) (handed_within opened (handed_by walk.around)) (children_of document key) walk.told.records (walk.told.changes ++ changes_before opened) new link
-          h.frames h.around (ap (on_link document) first ∙ child.0) h.records h.changes (subst (IsLink document) (sym first) child.1)
+          let turn = opening (frames_of walk) (handed_by walk.around) walk.told steps later most key name (children_of document key) opened (walks_on (node.Element name (attrs_of document key)) same) at.leads refl few in
+          moved later most (record { key = key; opened = opened } ∷ frames_of walk) (handed_within opened (handed_by walk.around)) (children_of document key) (told_entering walk.told opened) new link
+          h.frames h.around (ap (on_link document) first ∙ child.0) h.told (subst (IsLink document) (sym first) child.1)
           (left_at walk (Some key)) (turn.0, subst (λ most. left (record { key = key; opened = opened } ∷ frames_of walk) (children_of document key) < most) (sym (left_on (node.Element name (attrs_of document key)) same)) turn.1)
 
       pub enters : IsKeyedDocument document → is_some (name_of document key) ≡ true
@@ -227,22 +231,22 @@ module _ (table : List CounterStyle) (style : ℕ → Option Style → ElementSt
         let none : children_of document key ≡ Empty = sound-at document key (node.Text characters) d at.leads is in
         let sibling = on_next document key d.distinct at.leads in
         let on_text : Forest (Keyed Node) → Forest (Keyed Node) = λ children. Tree (keyed key (node.Text characters)) children (after_of document key) in
-        let here : Walks (frames_of walk) (handed_by walk.around) (on_text Empty) walk.told.records walk.told.changes steps most =
-        subst (λ children. Walks (frames_of walk) (handed_by walk.around) (on_text children) walk.told.records walk.told.changes steps most) none (walks_on (node.Text characters) is) in
-        let turn = passing (frames_of walk) (handed_by walk.around) walk.told.records walk.told.changes steps steps most key characters (after_of document key) here in
-        moved steps most (frames_of walk) (handed_by walk.around) (after_of document key) walk.told.records walk.told.changes walk link
-        refl refl (ap (on_link document) next ∙ sibling.0) refl refl (subst (IsLink document) (sym next) sibling.1)
+        let here : Walks (frames_of walk) (handed_by walk.around) (on_text Empty) walk.told steps most =
+        subst (λ children. Walks (frames_of walk) (handed_by walk.around) (on_text children) walk.told steps most) none (walks_on (node.Text characters) is) in
+        let turn = passing (frames_of walk) (handed_by walk.around) walk.told steps steps most key characters (after_of document key) here in
+        moved steps most (frames_of walk) (handed_by walk.around) (after_of document key) walk.told walk link
+        refl refl (ap (on_link document) next ∙ sibling.0) refl (subst (IsLink document) (sym next) sibling.1)
         (left_at walk (Some key)) (turn.0, subst (λ most. left (frames_of walk) (after_of document key) < most) (sym (left_on (node.Text characters) is ∙ ap (λ children. left (frames_of walk) (on_text children)) none)) turn.1)
 
     pub passes : (link : Option ℕ) → IsKeyedDocument document → is_some (name_of document key) ≡ false → link ≡ next_sibling_of document key → IsAt walk link steps most × (left_at walk link < left_at walk (Some key))
     passes link = pass_label link its_label.0 its_label.1
 
   module _ (walk popped : Walk) (frame : Frame) (steps most : ℕ) (at : IsAt walk None steps most) (top : frames_of walk ≡ frame ∷ frames_of popped) (around : handed_by walk.around ≡ handed_by popped.around) (told : walk.told ≡ popped.told) where
-    walks_top : Walks (frame ∷ frames_of popped) (handed_by popped.around) Empty popped.told.records popped.told.changes steps most
+    walks_top : Walks (frame ∷ frames_of popped) (handed_by popped.around) Empty popped.told steps most
     walks_top =
-        subst (λ frames. Walks frames (handed_by popped.around) Empty popped.told.records popped.told.changes steps most) top
-        (subst (λ handed. Walks (frames_of walk) handed Empty popped.told.records popped.told.changes steps most) around
-        (subst (λ (told : Evaluated). Walks (frames_of walk) (handed_by walk.around) Empty told.records told.changes steps most) told at.walks))
+        subst (λ frames. Walks frames (handed_by popped.around) Empty popped.told steps most) top
+        (subst (λ handed. Walks (frames_of walk) handed Empty popped.told steps most) around
+        (subst (λ (told : Evaluated). Walks (frames_of walk) (handed_by walk.around) Empty told steps most) told at.walks))
 
     -- what leaving asks for
     pub live_top : IsLive document frame.key
@@ -258,18 +262,26 @@ module _ (table : List CounterStyle) (style : ℕ → Option Style → ElementSt
         → IsAt new link later most × (left_at new link < left_at walk None)
     leaves new link later d h next few =
         let sibling = on_next document frame.key d.distinct live_top in
-        let turn = closing (frames_of popped) (handed_by popped.around) popped.told.records popped.told.changes steps later most frame walks_top few in
+        let turn = closing (frames_of popped) (handed_by popped.around) popped.told steps later most frame walks_top few in
         moved later most (frames_of popped) (handed_past table document frame.key frame.opened (handed_by popped.around)) (after_of document frame.key)
-        (popped.told.records ++ (frame.key, told_of table document frame.key frame.opened (handed_by popped.around)) ∷ []) (popped.told.changes ++ changes_behind table document frame.key frame.opened (handed_by popped.around)) new link
-        h.frames h.around (ap (on_link document) next ∙ sibling.0) h.records h.changes (subst (IsLink document) (sym next) sibling.1)
+        (told_leaving table document popped.told frame (handed_by popped.around)) new link
+        h.frames h.around (ap (on_link document) next ∙ sibling.0) h.told (subst (IsLink document) (sym next) sibling.1)
         (left_at walk None) (turn.0, subst (λ frames. left (frames_of popped) (after_of document frame.key) < left frames Empty) (sym top) turn.1)
 
   -- at the end all is told
-  pub ends : (walk : Walk) (steps most : ℕ) → IsAt walk None steps most → frames_of walk ≡ []
-      → (walk.told.records ≡ records table by_parent true at_root (styled_trees style start None document)) × (walk.told.changes ≡ changes table by_parent true at_root (styled_trees style start None document))
+  pub record Ends (walk : Walk) : Type 0 where
+    pub records : walk.told.records ≡ records table by_parent true at_root (styled_trees style start None document)
+    pub changes : walk.told.changes ≡ changes table by_parent true at_root (styled_trees style start None document)
+    pub asks : walk.told.asks ≡ ask true (styled_trees style start None document)
+
+  pub ends : (walk : Walk) (steps most : ℕ) → IsAt walk None steps most → frames_of walk ≡ [] → Ends walk
   ends walk steps most at none =
-      let w : Walks [] (handed_by walk.around) Empty walk.told.records walk.told.changes steps most = subst (λ frames. Walks frames (handed_by walk.around) Empty walk.told.records walk.told.changes steps most) none at.walks in
-      (sym (append-nil walk.told.records) ∙ w.records, sym (append-nil walk.told.changes) ∙ w.changes)
+      let w : Walks [] (handed_by walk.around) Empty walk.told steps most = subst (λ frames. Walks frames (handed_by walk.around) Empty walk.told steps most) none at.walks in
+      record {
+        records = sym (append-nil walk.told.records) ∙ w.records;
+        changes = sym (append-nil walk.told.changes) ∙ w.changes;
+        asks = sym (or-false walk.told.asks) ∙ w.asks;
+      }
 
   -- the steps of a turn are there
   one_tree : (frames : List Frame) (trees : Forest (Keyed Node)) (label : Keyed Node) (children after : Forest (Keyed Node)) → trees ≡ Tree label children after → 1 ≤ size_left document frames trees

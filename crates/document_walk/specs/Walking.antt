@@ -1,5 +1,5 @@
 -- What a walk over a document makes of an element, and what it has left to do while elements are open.
-use Rattle.std.specs.Prelude.{◌≡◌, ◌⊎◌, IsSome, ℕ, ℤ, ◌==◌, Bool, true, false, ◌&&◌, List, [], ◌∷◌, ◌++◌, Option, Some, None, cond, is_some, option_map, unwrap_or}
+use Rattle.std.specs.Prelude.{◌≡◌, ◌⊎◌, IsSome, ℕ, ℤ, ◌==◌, Bool, true, false, ◌&&◌, ◌||◌, List, [], ◌∷◌, ◌++◌, Option, Some, None, cond, is_some, option_map, unwrap_or}
 use Rattle.std.specs.List.{AllByRecursion}
 use Rattle.std.specs.Option.{option_or}
 use Rattle.forest.specs.Forest.{Forest}
@@ -24,6 +24,7 @@ use Rattle.box_eval.specs.declared.made.Made.{Made}
 use Rattle.box_eval.specs.Boxes.{generates_box}
 use Rattle.box_eval.specs.Elements.{Handed, Styled, by_parent, closing_of, entry_of}
 use Rattle.box_eval.specs.Evaluation.{changes, changes_in, element_starts, past_trees, records, styled_trees, without_box}
+use Rattle.box_eval.specs.Starts.{ask, asks}
 use Rattle.document_walk.specs.declared.frame.Frame.{Frame}
 use Rattle.document_walk.specs.declared.frame.Opened.{Opened}
 use Rattle.document_walk.specs.declared.surroundings.Surroundings.{Surroundings}
@@ -97,6 +98,11 @@ handed_within (Some opened) handed = handed_inside opened.entry
 abbrev pub changes_before : Option Opened → List Change
 changes_before None = []
 changes_before (Some opened) = opened.entry.changes ++ changes_in opened.entry.before
+
+-- whether one of its boxes asks for the start of a reversed counter
+abbrev pub asks_before : Option Opened → Bool
+asks_before None = false
+asks_before (Some opened) = asks opened.starts
 
 abbrev pub told_opened : ℕ → Entry → Closing → ElementRecord
 told_opened depth entry closing = record {
@@ -173,6 +179,9 @@ module _ (table : List CounterStyle) (style : ℕ → Option Style → ElementSt
     abbrev pub past_level : Handed
     past_level = past_trees table by_parent (is_boxed_in frames) handed (styled_trees style start (style_over frames) trees)
 
+  abbrev pub level_asks : List Frame → Forest (Keyed Node) → Bool
+  level_asks frames trees = ask (is_boxed_in frames) (styled_trees style start (style_over frames) trees)
+
   -- What is left to do behind them: the open elements are left, and after each come its siblings.
 
   abbrev pub records_past : List Frame → Handed → List (ℕ × ElementRecord)
@@ -189,6 +198,10 @@ module _ (table : List CounterStyle) (style : ℕ → Option Style → ElementSt
       let after = after_of document frame.key in
       changes_behind table document frame.key frame.opened behind ++ (level_changes frames next after ++ changes_past frames (past_level frames next after))
 
+  abbrev pub asks_past : List Frame → Bool
+  asks_past [] = false
+  asks_past (frame ∷ frames) = level_asks frames (after_of document frame.key) || asks_past frames
+
   -- What is left to do in all, where the first of these trees is handed this.
 
   module _ (frames : List Frame) (handed : Handed) (trees : Forest (Keyed Node)) where
@@ -197,3 +210,6 @@ module _ (table : List CounterStyle) (style : ℕ → Option Style → ElementSt
 
     abbrev pub remaining_changes : List Change
     remaining_changes = level_changes frames handed trees ++ changes_past frames (past_level frames handed trees)
+
+    abbrev pub remaining_asks : Bool
+    remaining_asks = level_asks frames trees || asks_past frames

@@ -1,11 +1,15 @@
 //! The walk over a whole document.
 
-ghost use Rattle.std.specs.Prelude.{◌≡◌, ◌+◌, ◌*◌, ◌≤◌, IfOk, is_some};
+ghost use Rattle.std.specs.Prelude.{◌≡◌, ◌+◌, ◌*◌, ◌≤◌, [], IfOk, OnOk, is_some, true};
 ghost use Rattle.forest.specs.Forest.{size};
 ghost use Rattle.forest.specs.Spots.{IsLive};
 ghost use Rattle.node_arena.specs.Nodes.{name_of};
 ghost use Rattle.mini_cascade.specs.Styles.{element_style};
+ghost use Rattle.box_eval.specs.Elements.{at_root};
 ghost use Rattle.box_eval.specs.Evaluation.{all_changes, evaluation, styled};
+ghost use Rattle.box_eval.specs.Starts.{ask};
+ghost use Rattle.document_walk.specs.Turns.{frames_of, nothing_told};
+ghost use Rattle.document_walk.specs.Walking.{handed_by};
 
 use crate::evaluated::Evaluated;
 use crate::sources::Sources;
@@ -36,9 +40,9 @@ pub fn evaluate<L: Ledger, T: Starts>(
 ) -> Result<Evaluated, Memory>
     ensures records { IfOk result (λ evaluated. evaluated.records ≡ evaluation table.now (styled (element_style arena.now.tree agent.now author.now) (T.starts starts.now) arena.now.tree)) }
     ensures changes { IfOk result (λ evaluated. evaluated.changes ≡ all_changes table.now (styled (element_style arena.now.tree agent.now author.now) (T.starts starts.now) arena.now.tree)) }
+    ensures asks { IfOk result (λ evaluated. evaluated.asks ≡ ask true (styled (element_style arena.now.tree agent.now author.now) (T.starts starts.now) arena.now.tree)) }
     ensures steps { steps.new ≤ steps.old + 3 * size arena.now.tree }
 {
-    parents_tell_scopes();
     let sources = Sources {
         arena,
         agent,
@@ -46,26 +50,45 @@ pub fn evaluate<L: Ledger, T: Starts>(
         table,
         starts,
     };
-    let root = arena.root();
     let mut walk = Walk::begin(alloc)?;
-    let mut link = Some(root);
-    'walk: loop {
+    go(&mut walk, alloc, &sources, steps)?;
+    Ok(walk.told)
+}
+
+/// Goes through the document, from its root on.
+fn go<L: Ledger, T: Starts>(
+    walk: &mut Walk,
+    alloc: Global,
+    sources: &Sources<T>,
+    steps: &mut Steps<L>,
+) -> Result<(), Memory>
+    requires frames { frames_of walk.old ≡ [] }
+    requires around { handed_by walk.old.around ≡ at_root }
+    requires nothing { walk.old.told ≡ nothing_told }
+    ensures records { OnOk result (walk.new.told.records ≡ evaluation sources.now.table.now (styled (element_style sources.now.arena.now.tree sources.now.agent.now sources.now.author.now) (T.starts sources.now.starts.now) sources.now.arena.now.tree)) }
+    ensures changes { OnOk result (walk.new.told.changes ≡ all_changes sources.now.table.now (styled (element_style sources.now.arena.now.tree sources.now.agent.now sources.now.author.now) (T.starts sources.now.starts.now) sources.now.arena.now.tree)) }
+    ensures asks { OnOk result (walk.new.told.asks ≡ ask true (styled (element_style sources.now.arena.now.tree sources.now.agent.now sources.now.author.now) (T.starts sources.now.starts.now) sources.now.arena.now.tree)) }
+    ensures steps { steps.new ≤ steps.old + 3 * size sources.now.arena.now.tree }
+{
+    parents_tell_scopes();
+    let mut link = Some(sources.arena.root());
+    'turns: loop {
         match link {
             Some(key) => {
-                if is_element(arena, key) {
-                    walk.enter(alloc, &sources, key, steps)?;
-                    link = arena.first_child(key);
+                if is_element(sources.arena, key) {
+                    walk.enter(alloc, sources, key, steps)?;
+                    link = sources.arena.first_child(key);
                 } else {
-                    link = arena.next_sibling(key);
+                    link = sources.arena.next_sibling(key);
                 }
             }
             None => match walk.stack.pop() {
                 Some(frame) => {
                     let key = frame.key;
-                    walk.leave(alloc, &sources, frame, steps)?;
-                    link = arena.next_sibling(key);
+                    walk.leave(alloc, sources, frame, steps)?;
+                    link = sources.arena.next_sibling(key);
                 }
-                None => return Ok(walk.told),
+                None => return Ok(()),
             },
         }
     }

@@ -2,7 +2,7 @@
 
 ghost use Rattle.std.specs.Prelude.{◌≡◌, ◌++◌, IfOk, OnOk, option_copied};
 ghost use Rattle.box_eval.specs.Evaluation.{changes_in, without_box};
-ghost use Rattle.document_walk.specs.Walking.{changes_before, told_opened};
+ghost use Rattle.document_walk.specs.Walking.{asks_before, changes_before, told_opened};
 
 use crate::frame::Opened;
 use box_eval::change::Change;
@@ -23,6 +23,8 @@ pub struct Evaluated {
     pub records: List<(usize, ElementRecord)>,
     /// In tree order.
     pub changes: List<Change>,
+    /// Whether some box creates a reversed counter without a number, and so asks for its start.
+    pub asks: bool,
 }
 
 /// What is said of an element without a box.
@@ -95,5 +97,15 @@ pub(crate) fn add_opened(
             add_made(alloc, changes, opened.entry.before.as_ref())
         }
         None => Ok(()),
+    }
+}
+
+/// Whether a box of an element asks for a start, where it has a box.
+pub(crate) fn asks_for_start(opened: Option<&Opened>) -> bool
+    ensures test { result ≡ asks_before (option_copied opened.entry) }
+{
+    match opened {
+        Some(opened) => !opened.starts.is_empty(),
+        None => false,
     }
 }

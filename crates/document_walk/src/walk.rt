@@ -1,6 +1,6 @@
 //! The state of a walk over a document.
 
-ghost use Rattle.std.specs.Prelude.{◌≡◌, ◌+◌, ◌≤◌, ◌++◌, ◌∷◌, [], IfOk, OnOk, is_some, true};
+ghost use Rattle.std.specs.Prelude.{◌≡◌, ◌+◌, ◌≤◌, ◌++◌, ◌∷◌, [], IfOk, OnOk, is_some, true, false};
 ghost use Rattle.forest.specs.Spots.{IsLive};
 ghost use Rattle.node_arena.specs.Nodes.{attrs_of};
 ghost use Rattle.mini_cascade.specs.Styles.{element_style};
@@ -10,7 +10,7 @@ ghost use Rattle.document_walk.specs.Walking.{HandsOn, IsBehindBox, IsByNoAfter,
 ghost use Rattle.document_walk.specs.Turns.{HasEntered, HasLeft, frames_of};
 
 use crate::element::{close, open};
-use crate::evaluated::{Evaluated, add_made, add_opened, told_opened, without_box};
+use crate::evaluated::{Evaluated, add_made, add_opened, asks_for_start, told_opened, without_box};
 use crate::frame::{Frame, Opened};
 use crate::sources::Sources;
 use crate::surroundings::Surroundings;
@@ -43,6 +43,7 @@ impl Walk {
         ensures around { IfOk result (λ walk. handed_by walk.around ≡ at_root) }
         ensures records { IfOk result (λ walk. walk.told.records ≡ []) }
         ensures changes { IfOk result (λ walk. walk.told.changes ≡ []) }
+        ensures asks { IfOk result (λ walk. walk.told.asks ≡ false) }
     {
         Ok(Walk {
             stack: Vec::new(alloc),
@@ -50,6 +51,7 @@ impl Walk {
             told: Evaluated {
                 records: List::new(alloc),
                 changes: List::new(alloc),
+                asks: false,
             },
         })
     }
@@ -69,6 +71,7 @@ impl Walk {
     {
         let opened = self.open_next(alloc, sources, key, steps)?;
         add_opened(alloc, &mut self.told.changes, opened.as_ref())?;
+        self.told.asks |= asks_for_start(opened.as_ref());
         self.around.go_inside(alloc, opened.as_ref())?;
         self.stack.push(Frame { key, opened })?;
         Ok(())
@@ -140,6 +143,7 @@ impl Walk {
         ensures changes { OnOk result (self.new.told.changes ≡ self.old.told.changes ++ changes_in (closing_with sources.now.table.now sources.now.arena.now.tree key opened (handed_by self.old.around)).after) }
         ensures frames { OnOk result (frames_of self.new ≡ frames_of self.old) }
         ensures records { OnOk result (self.new.told.records ≡ self.old.told.records) }
+        ensures asks { OnOk result (self.new.told.asks ≡ self.old.told.asks) }
         ensures step { steps.new ≤ steps.old + 1 }
     {
         let starts = opened.starts;
@@ -168,6 +172,7 @@ impl Walk {
         ensures stack { self.new.stack ≡ self.old.stack }
         ensures around { self.new.around ≡ self.old.around }
         ensures records { self.new.told.records ≡ self.old.told.records }
+        ensures asks { self.new.told.asks ≡ self.old.told.asks }
         ensures step { steps.new ≤ steps.old + 1 }
     {
         let inputs = self.around.inputs(alloc, key, starts)?;

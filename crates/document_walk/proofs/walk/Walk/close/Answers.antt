@@ -16,6 +16,7 @@ returns g c =
       stack = refl;
       around = refl;
       records = refl;
+      asks = refl;
       step = omega (arith, c.in_ok-closing.ensures.step);
     }
 

@@ -24,7 +24,8 @@ returns g c =
                 (ap (λ (walk : Walk). handed_by walk.around) w.self-is ∙ made.around)
                 (ap (λ (walk : Walk). walk.told.changes) w.self-is ∙ made.changes)
                 (ap frames_of w.self-is ∙ made.frames)
-                (ap (λ (walk : Walk). walk.told.records) w.self-is ∙ made.records);
+                (ap (λ (walk : Walk). walk.told.records) w.self-is ∙ made.records)
+                (ap (λ (walk : Walk). walk.told.asks) w.self-is ∙ made.asks);
             steps = omega (arith, w.steps-is, made.step);
           }
       | in-None+in_ok-record-in-None w ↦ record {

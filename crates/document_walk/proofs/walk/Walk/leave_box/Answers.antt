@@ -13,5 +13,6 @@ returns g c =
       changes = c.in_ok-closing.ensures.changes ∙ ap (λ (closing : Closing). c.args.self.now.told.changes ++ changes_in closing.after) c.in_ok-closing.ensures.closing;
       frames = ap (λ stack. reverse stack.items) c.close.ensures.stack;
       records = c.close.ensures.records;
+      asks = c.close.ensures.asks;
       step = c.close.ensures.step;
     }
