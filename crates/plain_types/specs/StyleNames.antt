@@ -20,7 +20,7 @@ predefined_names =
 abbrev pub lower_case : List ℕ → List ℕ
 lower_case name = map to_ascii_lowercase name
 
--- CSS Counter Styles 3, 2: the names of predefined styles count in any ASCII case and become lower-case,
--- all others count as they are written
+-- CSS Counter Styles 3, 3 `<counter-style-name>`: the names of predefined styles count in any ASCII case and
+-- become lower-case, all others count as they are written
 abbrev pub style_name : List ℕ → List ℕ
 style_name name = cond (list_any (bytes_eq (lower_case name)) predefined_names) (lower_case name) name

@@ -1,9 +1,5 @@
 //! The boxes of an element.
 
-use crate::duplicate::Duplicate;
-use crate::memory::Memory;
-use std::alloc::Global;
-
 /// Which box of an element: its own, or that of its pseudo-element `::marker`, `::before` or `::after`.
 #[derive(Clone, Copy, Debug, PartialEq, Eq)]
 pub enum BoxKind {
@@ -11,10 +7,4 @@ pub enum BoxKind {
     Marker,
     Before,
     After,
-}
-
-impl Duplicate for BoxKind {
-    fn duplicate(&self, _alloc: Global) -> Result<BoxKind, Memory> {
-        Ok(*self)
-    }
 }

@@ -31,12 +31,6 @@ pub enum Part {
     After,
 }
 
-impl Duplicate for Part {
-    fn duplicate(&self, _alloc: Global) -> Result<Part, Memory> {
-        Ok(*self)
-    }
-}
-
 /// The quote keywords of `content`.
 #[derive(Clone, Copy, Debug, PartialEq, Eq)]
 pub enum QuoteKind {
@@ -44,12 +38,6 @@ pub enum QuoteKind {
     Close,
     NoOpen,
     NoClose,
-}
-
-impl Duplicate for QuoteKind {
-    fn duplicate(&self, _alloc: Global) -> Result<QuoteKind, Memory> {
-        Ok(*self)
-    }
 }
 
 /// An item of `content`.

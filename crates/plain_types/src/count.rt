@@ -4,13 +4,13 @@ ghost use Rattle.std.specs.Prelude.{◌≡◌};
 ghost use Rattle.plain_types.specs.Counts.{count_sum, count_negation};
 
 /// A counter's value, and every integer that a sheet or a document gives to counters and their styles.
-pub type Count = i32;
+pub type Count = i64;
 
 /// The least count. Counts saturate here (our own; CSS Lists 3, 4 lets a program choose its limits).
-pub const COUNT_LOW: Count = i32::MIN;
+pub const COUNT_LOW: Count = i64::MIN;
 
 /// The greatest count.
-pub const COUNT_HIGH: Count = i32::MAX;
+pub const COUNT_HIGH: Count = i64::MAX;
 
 /// The sum of two counts, saturated at [`COUNT_LOW`] and [`COUNT_HIGH`].
 pub fn add_counts(a: Count, b: Count) -> Count

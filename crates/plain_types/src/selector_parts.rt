@@ -1,9 +1,5 @@
 //! The plain parts of selectors.
 
-use crate::duplicate::Duplicate;
-use crate::memory::Memory;
-use std::alloc::Global;
-
 /// A combinator (Selectors 4, 14): descendant, child, next sibling or subsequent sibling.
 #[derive(Clone, Copy, Debug, PartialEq, Eq)]
 pub enum Join {
@@ -16,12 +12,6 @@ pub enum Join {
     Later,
 }
 
-impl Duplicate for Join {
-    fn duplicate(&self, _alloc: Global) -> Result<Join, Memory> {
-        Ok(*self)
-    }
-}
-
 /// What a selector selects: the element itself, one of its pseudo-elements, or one that generates nothing.
 #[derive(Clone, Copy, Debug, PartialEq, Eq)]
 pub enum PseudoElement {
@@ -30,12 +20,6 @@ pub enum PseudoElement {
     Before,
     After,
     Never,
-}
-
-impl Duplicate for PseudoElement {
-    fn duplicate(&self, _alloc: Global) -> Result<PseudoElement, Memory> {
-        Ok(*self)
-    }
 }
 
 /// An attribute selector's test (Selectors 4, 6): the attribute is there, or its value is equal to the given
@@ -55,10 +39,4 @@ pub enum AttrTest {
     End,
     /// `*=`.
     Inside,
-}
-
-impl Duplicate for AttrTest {
-    fn duplicate(&self, _alloc: Global) -> Result<AttrTest, Memory> {
-        Ok(*self)
-    }
 }

@@ -18,12 +18,6 @@ pub enum Display {
     Plain,
 }
 
-impl Duplicate for Display {
-    fn duplicate(&self, _alloc: Global) -> Result<Display, Memory> {
-        Ok(*self)
-    }
-}
-
 /// The value of `list-style-type` (CSS Lists 3, 3.3): a string, or a counter style.
 #[derive(Drop)]
 pub enum ListType {
@@ -127,20 +121,6 @@ pub struct Style {
     pub quotes: Quotes,
 }
 
-impl Duplicate for Style {
-    fn duplicate(&self, alloc: Global) -> Result<Style, Memory> {
-        Ok(Style {
-            display: self.display,
-            content: self.content.duplicate(alloc)?,
-            resets: self.resets.duplicate(alloc)?,
-            increments: self.increments.duplicate(alloc)?,
-            assigns: self.assigns.duplicate(alloc)?,
-            list_type: self.list_type.duplicate(alloc)?,
-            quotes: self.quotes.duplicate(alloc)?,
-        })
-    }
-}
-
 /// The styles of an element and of its pseudo-elements `::marker`, `::before` and `::after`.
 #[derive(Drop)]
 pub struct ElementStyle {
@@ -148,15 +128,4 @@ pub struct ElementStyle {
     pub marker: Style,
     pub before: Style,
     pub after: Style,
-}
-
-impl Duplicate for ElementStyle {
-    fn duplicate(&self, alloc: Global) -> Result<ElementStyle, Memory> {
-        Ok(ElementStyle {
-            own: self.own.duplicate(alloc)?,
-            marker: self.marker.duplicate(alloc)?,
-            before: self.before.duplicate(alloc)?,
-            after: self.after.duplicate(alloc)?,
-        })
-    }
 }

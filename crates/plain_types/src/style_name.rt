@@ -47,7 +47,7 @@ static PREDEFINED: [&str; 36] = [
 ];
 
 /// The name under which a counter style is kept: that of a predefined style in lower case, any other
-/// as it is (CSS Counter Styles 3, 2). It takes no memory, and time linear in the name.
+/// as it is (CSS Counter Styles 3, 3). It takes no memory, and time linear in the name.
 pub fn style_name(name: &str) -> &str
     ensures name { chars result.now ≡ style_name (chars name.now) }
 {

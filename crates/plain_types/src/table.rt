@@ -5,11 +5,8 @@ ghost use Rattle.std.specs.List.{slice_get};
 ghost use Rattle.std.specs.Str.{chars};
 
 use crate::counter_style::CounterStyle;
-use crate::duplicate::Duplicate;
 use crate::list::List;
-use crate::memory::Memory;
 use crate::style_name::style_name;
-use std::alloc::Global;
 use std::marker::Model;
 
 /// The counter styles of a document, under distinct names. `decimal` is among them, and each has the
@@ -74,13 +71,5 @@ impl Table {
         ensures supplied { IsTrue (has_its_symbols result.now) }
     {
         &self.styles.as_slice()[place]
-    }
-}
-
-impl Duplicate for Table {
-    fn duplicate(&self, alloc: Global) -> Result<Table, Memory> {
-        Ok(Table {
-            styles: self.styles.duplicate(alloc)?,
-        })
     }
 }

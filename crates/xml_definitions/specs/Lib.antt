@@ -1,0 +1,9 @@
+pub mod Characters
+pub mod Documents
+pub mod Faults
+pub mod Fragments
+pub mod Items
+pub mod Nodes
+pub mod Normalized
+pub mod Spelling
+pub mod Texts
