@@ -15,6 +15,8 @@
 //! | `matching child ..` | the same, where all combinators but the last are `>` |
 //! | `matching later ..` | the same with `~` and the last of N siblings |
 //! | `styles N RULES` | gives N elements their styles by as many rules, of which one at most matches each |
+//! | `lanes WORK TIMES` | searches 16 MiB for a class of bytes so often, for the `first` place, the `count`, or all `runs` between |
+//! | `lanes WORK-plainly TIMES` | the same by a plain loop |
 //! | `tokens FILE` | reads the tokens of a style sheet |
 //! | `sheet FILE` | reads a style sheet, and answers how many rules and counter styles it has |
 //! | `show-tokens` | prints the tokens of the style sheet on standard input, one a line |
@@ -25,6 +27,7 @@
 mod arena;
 mod cascade;
 mod cutting;
+mod lanes;
 mod matching;
 mod sheet;
 
@@ -43,6 +46,10 @@ fn perform(rt: &HostRuntime, words: &[String]) -> Option<usize> {
             let elements = elements.as_str().parse::<usize>().ok()?;
             let rules = rules.as_str().parse::<usize>().ok()?;
             cascade::perform(rt, elements, rules)
+        }
+        [word, work, times] if word.as_str() == "lanes" => {
+            let times = times.as_str().parse::<usize>().ok()?;
+            lanes::perform(rt.alloc(), work.as_str(), times)
         }
         [shape, size, work] => {
             let size = size.as_str().parse::<usize>().ok()?;

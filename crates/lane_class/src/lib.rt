@@ -8,24 +8,24 @@
 //! byte`, that the byte lies in one of the ranges. What `first_in` answers is the `position` of the first
 //! such byte, and `count_in` counts them by `count_by`; both are words of std.
 //!
-//! Both go over the bytes in one pass. `first_in` looks at several bytes at once, range by range and without
-//! an early end, which a processor does in a few instructions, and at single bytes where one of those is in
-//! the class.
+//! Both go over the bytes in one pass: as many at once as a vector holds, range by range and without an early
+//! end, and the rest byte by byte.
 //!
 //! With the class of `<` and `&`, `first_in(b"ab&c<", &class)` is `Some(2)`, and `count_in` gives 2.
 #![tactic(auto)]
 
-ghost use Rattle.std.specs.Prelude.{◌≡◌, ◌≤◌, ◌&&◌, nat_le, SomeIff, length, count_by, position};
-ghost use Rattle.std.specs.List.{list_any};
+ghost use Rattle.std.specs.Prelude.{◌≡◌, ◌≤◌, SomeIff, length, map, count_by, position};
+ghost use Rattle.std.specs.Simd.Lanes.{mask_l};
 ghost use Rattle.lane_class.specs.Ranges.{is_in};
 
 use std::marker::Model;
+use std::simd::prelude::*;
 
 /// How many ranges a class may have.
 const MOST: usize = 8;
 
-/// How many bytes are looked at at once.
-const AT_ONCE: usize = 32;
+/// How many bytes a vector holds.
+const LANES: usize = 32;
 
 /// A set of bytes: those that lie in one of at most eight ranges. Contracts see the list of its ranges.
 #[derive(Drop)]
@@ -70,25 +70,18 @@ impl ByteClass {
             .any(|(first, last)| *first <= byte && byte <= *last)
     }
 
-    /// Whether one of the bytes lies in one of the ranges, range by range.
-    fn has_any(&self, bytes: &[u8]) -> bool
-        ensures { result ≡ list_any (λ range. list_any (λ byte. nat_le range.0 byte && nat_le byte range.1) bytes.now) self.now }
+    /// For each of these bytes a bit, the first one's lowest: whether it lies in one of the ranges.
+    #[inline(always)]
+    fn hits(&self, lanes: u8x32) -> u64
+        ensures { result ≡ mask_l (map (is_in self.now) lanes) }
     {
-        self.ranges[..self.len]
-            .iter()
-            .any(|(first, last)| has_between(bytes, *first, *last))
+        let mut inside = Mask::splat(false);
+        for (first, last) in &self.ranges[..self.len] {
+            let from_first = lanes.simd_ge(u8x32::splat(*first));
+            inside = inside | from_first & lanes.simd_le(u8x32::splat(*last));
+        }
+        inside.to_bitmask()
     }
-}
-
-/// Whether one of the bytes lies between these two.
-fn has_between(bytes: &[u8], first: u8, last: u8) -> bool
-    ensures { result ≡ list_any (λ byte. nat_le first byte && nat_le byte last) bytes.now }
-{
-    let mut found = false;
-    for byte in bytes {
-        found |= first <= *byte && *byte <= last;
-    }
-    found
 }
 
 /// The first place whose byte is in the class, byte by byte.
@@ -98,13 +91,24 @@ fn first_near(bytes: &[u8], class: &ByteClass) -> Option<usize>
     bytes.iter().position(|byte| class.contains(*byte))
 }
 
+/// How many bytes are in the class, byte by byte.
+fn count_near(bytes: &[u8], class: &ByteClass) -> usize
+    ensures { result ≡ count_by (is_in class.now) bytes.now }
+{
+    bytes.iter().filter(|byte| class.contains(**byte)).count()
+}
+
 /// The first place whose byte is in the class, in time linear in that place.
 pub fn first_in(bytes: &[u8], class: &ByteClass) -> Option<usize>
     ensures { result ≡ position (is_in class.now) bytes.now }
 {
     let mut start = 0;
-    'far: while bytes.len() - start >= AT_ONCE && !class.has_any(&bytes[start..start + AT_ONCE]) {
-        start += AT_ONCE;
+    'far: while bytes.len() - start >= LANES {
+        let hits = class.hits(u8x32::from_slice(&bytes[start..]));
+        if hits != 0 {
+            return Some(start + hits.trailing_zeros() as usize);
+        }
+        start += LANES;
     }
     match first_near(&bytes[start..], class) {
         Some(place) => Some(start + place),
@@ -116,7 +120,14 @@ pub fn first_in(bytes: &[u8], class: &ByteClass) -> Option<usize>
 pub fn count_in(bytes: &[u8], class: &ByteClass) -> usize
     ensures { result ≡ count_by (is_in class.now) bytes.now }
 {
-    bytes.iter().filter(|byte| class.contains(**byte)).count()
+    let mut start = 0;
+    let mut count = 0;
+    'far: while bytes.len() - start >= LANES {
+        let hits = class.hits(u8x32::from_slice(&bytes[start..]));
+        count += hits.count_ones() as usize;
+        start += LANES;
+    }
+    count + count_near(&bytes[start..], class)
 }
 
 #[cfg(test)]
@@ -134,30 +145,58 @@ mod tests {
         Ok(())
     }
 
-    /// Whether the one byte of the class is found at each place of texts up to this long.
-    fn is_found(class: &ByteClass, bytes: &mut [u8; 70], place: usize, len: usize) -> bool {
+    /// Whether the one byte of the class is found and counted, where it is put at this place of the text.
+    fn is_seen(class: &ByteClass, bytes: &mut [u8; 70], place: usize, len: usize) -> bool {
         if place >= bytes.len() || len > bytes.len() {
             return false;
         }
         bytes[place] = b'<';
         let wanted = if place < len { Some(place) } else { None };
         let found = first_in(&bytes[..len], class);
+        let count = count_in(&bytes[..len], class);
         bytes[place] = b'x';
-        found == wanted
+        found == wanted && count == usize::from(place < len)
     }
 
     #[test]
-    fn every_length(rt: HostRuntime) -> Result<(), Fail> {
+    fn every_place_of_every_length(rt: HostRuntime) -> Result<(), Fail> {
         let class = ByteClass::of(&[(b'<', b'<'), (0, 31), (0xef, 0xef)]).ok_or("three ranges")?;
         let mut bytes = [b'x'; 70];
         for len in 0..=70 {
             for place in 0..70 {
-                assert!(rt;
-                    is_found(&class, &mut bytes, place, len),
-                    "{place} of {len}"
-                );
+                assert!(rt; is_seen(&class, &mut bytes, place, len), "{place} of {len}");
             }
         }
+        Ok(())
+    }
+
+    #[test]
+    fn every_length_of_many(rt: HostRuntime) -> Result<(), Fail> {
+        let class = ByteClass::of(&[(b'0', b'9'), (b'<', b'<')]).ok_or("two ranges")?;
+        let bytes = b"0a<0a<0a<0a<0a<0a<0a<0a<0a<0a<0a<0a<0a<0a<0a<0a<0a<0a<0a<0a<0a<0a<0a<0";
+        let mut wanted: usize = 0;
+        for len in 0..70 {
+            assert_eq!(rt; count_in(&bytes[..len], &class), wanted);
+            let next = &bytes[len..];
+            let step = usize::from(next[0] != b'a');
+            wanted = wanted.saturating_add(step);
+            assert_eq!(rt; first_in(next, &class), Some(1 - step.min(1)));
+        }
+        Ok(())
+    }
+
+    #[test]
+    fn both_ends_of_a_range(rt: HostRuntime) -> Result<(), Fail> {
+        let class = ByteClass::of(&[(0, 1), (0x7f, 0x80), (0xff, 0xff), (9, 8)]).ok_or(
+            "four ranges",
+        )?;
+        let bytes = [0, 1, 2, 8, 9, 0x7e, 0x7f, 0x80, 0x81, 0xfe, 0xff];
+        let mut long = [2; 44];
+        long[33..].copy_from_slice(&bytes);
+        assert_eq!(rt; count_in(&bytes, &class), 5);
+        assert_eq!(rt; count_in(&long, &class), 5);
+        assert_eq!(rt; first_in(&long, &class), Some(33));
+        assert_eq!(rt; first_in(&long[12..], &class), Some(21));
         Ok(())
     }
 }

@@ -1,15 +1,18 @@
-use Rattle.std.proofs.Common.{◌≡◌, ◌+◌, ◌-◌, Some, None, take, drop, sym, ap, ◌∙◌, arith}
+use Rattle.std.proofs.Common.{ℕ, ◌+◌, Some, None, ap, ◌∙◌, arith}
 use Rattle.std.specs.List.{position}
 use Rattle.std.proofs.lemmas.List.{take_rest}
+use lib.Count.{count_trailing_zeros}
 use Rattle.lane_class.specs.Ranges.{is_in}
-use Rattle.lane_class.proofs.PlaceLaws.{found_behind, none_by_ranges, none_further}
+use Rattle.lane_class.proofs.PlaceLaws.{found_behind, found_here, none_further}
 use Rattle.lane_class.proofs.first_in.Goals as goal
 
+pub returns-then-hits-ne0 : goal.returns-then-hits-ne0
+returns-then-hits-ne0 c =
+    ap (λ (mask : ℕ). Some (c.far.start + count_trailing_zeros 64 mask)) (c.hits-hits.ensures)
+    ∙ found_here (is_in c.args.class.now) c.args.bytes.now c.far.start 32 (omega arith) (omega arith) c.far.invariant.none (omega (arith, c.hits-hits.ensures))
+
 pub far-preserved : goal.far-preserved
-far-preserved c =
-    let same : c.far.start + 32 - c.far.start ≡ 32 = omega arith in
-    let here = none_by_ranges c.args.class.now (take (c.far.start + 32 - c.far.start) (drop c.far.start c.args.bytes.now)) (sym c.has_any.ensures ∙ c.if-not-has_any.true) in
-    record { within = omega arith; none = none_further (is_in c.args.class.now) c.args.bytes.now c.far.start 32 c.far.invariant.none (rw same at here) }
+far-preserved c = record { within = omega arith; none = none_further (is_in c.args.class.now) c.args.bytes.now c.far.start 32 (omega arith) (omega (arith, c.hits-hits.ensures)) c.far.invariant.none }
 
 pub returns-in-Some : goal.returns-in-Some
 returns-in-Some c =
