@@ -2,13 +2,13 @@
 use Rattle.std.proofs.Common.{◌≡◌, ◌↔◌, ℕ, zero, suc, ◌-◌, ◌<◌, ◌≤◌, Bool, true, false, eqb, false-eqb, ◌&&◌, cond, List, [], ◌∷◌, length, drop, reverse, Option, Some, None, refl, sym, ap, ◌∙◌, arith}
 use Rattle.std.proofs.lemmas.Bool.{eqb-true}
 use Rattle.std.proofs.lemmas.List.{drop_at, length-append, length-reverse}
-use Rattle.definitions.proofs.Following.{Follows, here, later, Follows-trans, Follows-length, Follows-front, rest_if}
+use Rattle.reading.proofs.Following.{Follows, here, later, Follows-trans, Follows-length, Follows-front, rest_if}
 use Rattle.css_tokens.specs.declared.token.Token.{Token}
 use Rattle.css_tokens.specs.declared.token.TokenKind.{TokenKind}
-use Rattle.css_values.specs.Parts.{is_sign}
+use Rattle.css_tokens.specs.TokenReading.{is_sign}
 use Rattle.css_reader.specs.Blocks.{closing_bracket, past_value, past_values, past_piece}
 use Rattle.css_reader.specs.Grammar.{IsPast, nothing, ended, token, block}
-use Rattle.css_reader.specs.Waiting.{opened, waiting_after, is_none_waiting}
+use Rattle.css_reader.proofs.Waiting.{opened, waiting_after, is_none_waiting}
 
 -- ---- what is left is an end of the tokens
 
@@ -148,16 +148,3 @@ Cuts-drop ends whole waiting rest c =
 
 pub Cuts-within : (ends : TokenKind → Bool) (whole : List Token) (waiting : List ℕ) (rest : List Token) → Cuts ends whole waiting rest → length rest ≤ length whole
 Cuts-within ends whole waiting rest c = Follows-length c.follows
-
--- ---- the brackets that are waited for, whose innermost is the last that was pushed
-
-pub none_waiting : (brackets : List ℕ) (count : ℕ) → count ≡ length brackets → eqb count 0 ≡ true → is_none_waiting (reverse brackets) ≡ true
-none_waiting [] count is e = refl
-none_waiting (first ∷ rest) count is e = absurd (omega (arith, eqb-true count 0 e))
-
-pub some_waiting : (brackets : List ℕ) (count : ℕ) → count ≡ length brackets → eqb count 0 ≡ false → is_none_waiting (reverse brackets) ≡ false
-some_waiting brackets count is e = go (reverse brackets) (omega (arith, length-reverse brackets, false-eqb count 0 (sym e)))
-  where
-    go : (turned : List ℕ) → 0 < length turned → is_none_waiting turned ≡ false
-    go [] some = absurd (omega arith)
-    go (first ∷ rest) some = refl

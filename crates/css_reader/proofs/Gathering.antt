@@ -2,8 +2,8 @@
 use Rattle.std.proofs.Common.{◌≡◌, List, [], ◌∷◌, ◌++◌, Option, Some, None, sym, ap, ◌∙◌}
 use Rattle.std.specs.List.{filter_map}
 use Rattle.std.proofs.lemmas.List.Elements.{filter_map-append}
-use Rattle.definitions.specs.Reading.{run_at}
-use Rattle.definitions.proofs.Runs.{Goes, Goes-start, Goes-more, Goes-read, Shortens}
+use Rattle.reading.specs.Reading.{run_at}
+use Rattle.reading.proofs.Runs.{Goes, Goes-start, Goes-more, Goes-read, Shortens}
 
 module _ {E A B : Type 0} (piece_at : List E → Option (Option A × List E)) (read : A → Option B) where
   -- what is read from these pieces

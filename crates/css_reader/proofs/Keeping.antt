@@ -3,8 +3,8 @@ use Rattle.std.proofs.Common.{◌≡◌, Bool, true, false, not, ◌||◌, List,
 use Rattle.std.specs.List.{filter, filter_map, list_any}
 use Rattle.std.proofs.lemmas.Bool.{cases_Bool}
 use Rattle.plain_types.specs.declared.counter_style.Descriptor.{Descriptor}
-use Rattle.definitions.specs.Reading.{run_at}
-use Rattle.definitions.proofs.Following.{takes_shorter}
+use Rattle.reading.specs.Reading.{run_at}
+use Rattle.reading.proofs.Following.{takes_shorter}
 use Rattle.css_tokens.specs.declared.token.Token.{Token}
 use Rattle.css_reader.specs.Declarations.{descriptor_in, is_same_descriptor, last_of_each}
 use Rattle.css_reader.specs.Rules.{part_at}

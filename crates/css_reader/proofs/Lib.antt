@@ -2,3 +2,4 @@ pub mod Cutting
 pub mod Gathering
 pub mod Keeping
 pub mod Taking
+pub mod Waiting

@@ -1,8 +1,8 @@
 -- Each rule and each part of a block takes a token.
 use Rattle.std.proofs.Common.{◌≡◌, ◌≤◌, ℕ, Bool, true, false, cond, ◌||◌, List, [], ◌∷◌, length, drop, Option, Some, None, refl, sym}
-use Rattle.definitions.proofs.Following.{Follows, here, later, left, Follows-trans, Follows-length, follow_if, Leaves, leave_if, TakesOne}
+use Rattle.reading.proofs.Following.{Follows, here, later, left, Follows-trans, Follows-length, follow_if, Leaves, leave_if, TakesOne}
 use Rattle.css_tokens.specs.declared.token.Token.{Token}
-use Rattle.css_values.specs.Parts.{is_blank_kind}
+use Rattle.css_tokens.specs.TokenReading.{is_whitespace}
 use Rattle.css_reader.specs.Blocks.{past_values, past_piece}
 use Rattle.css_reader.specs.Rules.{Rule, is_semicolon, is_opening, is_closing, is_semicolon_or_opening, block_after, style_rule_at, at_rule_at, at_name, rule_begun, rule_at, is_between_rules, is_between_declarations, part_begun, part_at}
 use Rattle.css_reader.proofs.Cutting.{one_follows, piece_follows, piece_takes}
@@ -46,11 +46,11 @@ second true b e = absurd cc
 second false b e = e
 
 part_follows : (name : Option (List ℕ)) (first : Token) (rest : List Token) → is_between_declarations first.kind ≡ false → Follows rest (part_begun name (first ∷ rest) rest).1
-part_follows None first rest e = piece_takes is_semicolon first rest (second (is_blank_kind first.kind) (is_semicolon first.kind) e)
+part_follows None first rest e = piece_takes is_semicolon first rest (second (is_whitespace first.kind) (is_semicolon first.kind) e)
 part_follows (Some name) first rest e = at_follows name rest
 
 pub declaration_leaves : (first : Token) (rest : List Token) → is_between_declarations first.kind ≡ false → length (past_piece is_semicolon (first ∷ rest)) ≤ length rest
-declaration_leaves first rest e = Follows-length (piece_takes is_semicolon first rest (second (is_blank_kind first.kind) (is_semicolon first.kind) e))
+declaration_leaves first rest e = Follows-length (piece_takes is_semicolon first rest (second (is_whitespace first.kind) (is_semicolon first.kind) e))
 
 pub part_takes : TakesOne part_at
 unfolding part_at

@@ -1,10 +1,10 @@
 -- Blocks of a sheet, and what stands outside of them: CSS Syntax 3, 5 and 5.4.7 to 5.4.9.
 use Rattle.std.specs.Prelude.{ℕ, zero, suc, ◌-◌, Bool, ◌==◌, if◌then◌else◌, List, [], ◌∷◌, length, take, drop, Option, Some, None}
-use Rattle.definitions.specs.Punctuation.{left_parenthesis, right_parenthesis}
+use Rattle.reading.specs.Punctuation.{left_parenthesis, right_parenthesis}
 use Rattle.css_tokens.specs.declared.token.Token.{Token}
 use Rattle.css_tokens.specs.declared.token.TokenKind.{TokenKind}
 use Rattle.css_tokens.specs.declared.token.TokenKind.TheVariants as kind
-use Rattle.css_values.specs.Parts.{is_sign}
+use Rattle.css_tokens.specs.TokenReading.{is_sign}
 use Rattle.selectors.specs.Simples.{left_square_bracket, right_square_bracket}
 
 abbrev pub left_curly_bracket : ℕ

@@ -5,15 +5,15 @@ use Rattle.std.specs.Str.{bytes_eq}
 use Rattle.plain_types.specs.declared.counter_style.Descriptor.{Descriptor}
 use Rattle.plain_types.specs.declared.counter_style.Descriptor.TheVariants as descriptor
 use Rattle.plain_types.specs.declared.declaration.Declared.{Declared}
-use Rattle.definitions.specs.Punctuation.{exclamation_mark}
-use Rattle.definitions.specs.Reading.{◌then◌}
+use Rattle.reading.specs.Punctuation.{exclamation_mark}
+use Rattle.reading.specs.Reading.{◌then◌}
 use Rattle.css_tokens.specs.declared.token.Token.{Token}
 use Rattle.css_tokens.specs.declared.token.TokenKind.{TokenKind}
-use Rattle.css_values.specs.Parts.{is_sign, is_keyword, solid}
+use Rattle.css_tokens.specs.TokenReading.{is_sign, is_keyword, ident_at, past_delimiter, skip_whitespace}
+use Rattle.css_values.specs.Parts.{solid}
 use Rattle.css_values.specs.Declarations.{declared}
 use Rattle.css_values.specs.Descriptors.{described}
 use Rattle.selectors.specs.Compounds.{colon}
-use Rattle.selectors.specs.Parts.{name_at, past_sign, past_whitespace}
 use Rattle.css_reader.specs.Blocks.{piece, past_piece}
 use Rattle.css_reader.specs.Rules.{parts}
 
@@ -21,7 +21,7 @@ use Rattle.css_reader.specs.Rules.{parts}
 
 -- an identifier, whitespace if there is some, a colon, and what stands after it
 abbrev pub named_at : List Token → Option (List ℕ × List Token)
-named_at tokens = name_at tokens then λ name. past_sign colon (past_whitespace name.1) then λ value. Some (name.0, value)
+named_at tokens = ident_at tokens then λ name. past_delimiter colon (skip_whitespace name.1) then λ value. Some (name.0, value)
 
 abbrev pub is_exclamation : TokenKind → Bool
 is_exclamation kind = is_sign exclamation_mark kind
@@ -29,13 +29,13 @@ is_exclamation kind = is_sign exclamation_mark kind
 -- `important`, and nothing after it but whitespace
 abbrev pub is_important : List Token → Bool
 is_important [] = false
-is_important (word ∷ rest) = is_keyword (codes "important") word.kind && length (past_whitespace rest) == 0
+is_important (word ∷ rest) = is_keyword (codes "important") word.kind && length (skip_whitespace rest) == 0
 
 -- Whether a declaration is important, by what is left after its value: nothing, or `!` and `important`.
 -- With anything else it is none, since a value has no `!` of its own outside of blocks (8.2).
 abbrev pub importance : List Token → Option Bool
 importance [] = Some false
-importance (exclamation ∷ rest) = if is_important (past_whitespace rest) then Some true else None
+importance (exclamation ∷ rest) = if is_important (skip_whitespace rest) then Some true else None
 
 -- the name, the value up to the first `!`, and whether it is important
 abbrev pub cut_of : List ℕ → List Token → Option (List ℕ × List Token × Bool)

@@ -2,7 +2,7 @@
 use Rattle.std.specs.Prelude.{◌≡◌, ℕ, Bool, true, false, List, [], ◌∷◌, drop, Some, None}
 use Rattle.css_tokens.specs.declared.token.Token.{Token}
 use Rattle.css_tokens.specs.declared.token.TokenKind.{TokenKind}
-use Rattle.css_values.specs.Parts.{is_sign}
+use Rattle.css_tokens.specs.TokenReading.{is_sign}
 use Rattle.css_reader.specs.Blocks.{closing_bracket}
 
 -- What is left after the component values at the front of tokens: nothing at the end of the text; all, where

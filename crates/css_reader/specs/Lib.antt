@@ -1,8 +1,7 @@
 pub mod Blocks
 pub mod Declarations
 pub mod Features
+pub mod FoundRules
 pub mod Grammar
 pub mod Rules
-pub mod Seen
 pub mod Sheets
-pub mod Waiting

@@ -2,11 +2,11 @@
 use Rattle.std.specs.Prelude.{ℕ, Bool, true, false, ◌||◌, if◌then◌else◌, List, [], ◌∷◌, Option, Some, None, drop}
 use Rattle.std.specs.List.{filter_map}
 use Rattle.std.specs.Option.{option_map}
-use Rattle.definitions.specs.Reading.{run_at}
+use Rattle.reading.specs.Reading.{run_at}
 use Rattle.css_tokens.specs.declared.token.Token.{Token}
 use Rattle.css_tokens.specs.declared.token.TokenKind.{TokenKind}
 use Rattle.css_tokens.specs.declared.token.TokenKind.TheVariants as kind
-use Rattle.css_values.specs.Parts.{is_blank_kind, is_sign}
+use Rattle.css_tokens.specs.TokenReading.{is_whitespace, is_sign}
 use Rattle.css_reader.specs.Blocks.{left_curly_bracket, right_curly_bracket, piece, past_piece}
 
 abbrev pub semicolon : ℕ
@@ -78,7 +78,7 @@ rules tokens = filter_map (λ found. found) (run_at rule_at tokens).0
 
 -- 5.4.4: whitespace and `;` between declarations mean nothing
 abbrev pub is_between_declarations : TokenKind → Bool
-is_between_declarations kind = is_blank_kind kind || is_semicolon kind
+is_between_declarations kind = is_whitespace kind || is_semicolon kind
 
 -- What these tokens begin, by their first and those after it: an at-rule, which means nothing in a block
 -- that we read, or what may be a declaration, up to the next `;`.

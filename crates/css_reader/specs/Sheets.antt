@@ -4,12 +4,12 @@ use Rattle.std.specs.List.{filter_map}
 use Rattle.plain_types.specs.declared.counter_style.StyleDef.{StyleDef}
 use Rattle.plain_types.specs.declared.sheet.Sheet.{Sheet}
 use Rattle.plain_types.specs.declared.sheet.StyleRule.{StyleRule}
-use Rattle.definitions.specs.Reading.{◌then◌}
-use Rattle.definitions.specs.SheetText.{prepared}
-use Rattle.definitions.specs.Words.{is_word}
+use Rattle.reading.specs.Reading.{◌then◌}
+use Rattle.css_definitions.specs.SheetText.{prepared}
+use Rattle.css_definitions.specs.Words.{is_word}
 use Rattle.css_tokens.specs.Tokens.{tokens}
 use Rattle.css_tokens.specs.declared.token.Token.{Token}
-use Rattle.selectors.specs.Parts.{name_at, past_whitespace, only}
+use Rattle.css_tokens.specs.TokenReading.{ident_at, skip_whitespace, only}
 use Rattle.selectors.specs.Selectors.{selector_list}
 use Rattle.css_reader.specs.Declarations.{declarations, descriptors}
 use Rattle.css_reader.specs.Rules.{Rule, style_rule, at_rule, rules}
@@ -22,7 +22,7 @@ style_rule_of text (at_rule name prelude block) = None
 
 -- one identifier, and whitespace around it if there is some
 abbrev pub lone_name : List Token → Option (List ℕ)
-lone_name tokens = name_at (past_whitespace tokens) then λ name. only name.0 (past_whitespace name.1)
+lone_name tokens = ident_at (skip_whitespace tokens) then λ name. only name.0 (skip_whitespace name.1)
 
 -- CSS Counter Styles 3, 3: `@counter-style <counter-style-name> { .. }`; our own: every other at-rule is none
 abbrev pub style_def_of : Rule → Option StyleDef

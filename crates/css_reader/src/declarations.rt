@@ -1,19 +1,16 @@
 //! Declarations and descriptors of a block (CSS Syntax 3, 5.4.6; CSS Counter Styles 3, 3).
 
-ghost use Rattle.std.specs.Prelude.{◌≡◌, ◌++◌, ◌∷◌, [], List, not, IfOk, OnOk, codes};
+ghost use Rattle.std.specs.Prelude.{◌≡◌, ◌++◌, ◌∷◌, [], List, not, option_copied, IfOk, OnOk};
 ghost use Rattle.std.specs.List.{filter, filter_map};
-ghost use Rattle.definitions.specs.Reading.{Reads};
-ghost use Rattle.css_values.specs.Parts.{is_keyword};
+ghost use Rattle.reading.specs.Reading.{Reads};
 ghost use Rattle.css_reader.specs.Declarations.{named_at, is_important, importance, cut, declaration, declarations, descriptor_in, descriptor_name, is_same_descriptor, last_of_each, descriptors};
 ghost use Rattle.plain_types.specs.declared.counter_style.Descriptor.{Descriptor};
-ghost use Rattle.selectors.specs.Compounds.{colon};
-ghost use Rattle.selectors.specs.Parts.{name_at, past_sign, past_whitespace};
-ghost use Rattle.css_reader.specs.Seen.{tokens_seen_if};
 
-use crate::pieces::{PieceEnd, is_sign, piece};
+use crate::piece_end::ExclamationMark;
+use crate::pieces::piece;
 use crate::rules::part;
-use css_tokens::token::{Token, TokenKind};
-use css_tokens::words::is_word;
+use css_tokens::token::Token;
+use css_tokens::token_reading::{delimiter, ident, is_keyword, skip_whitespace};
 use css_values::declarations::read_declaration;
 use css_values::descriptors::read_descriptor;
 use plain_types::counter_style::Descriptor;
@@ -23,62 +20,13 @@ use plain_types::memory::Memory;
 use plain_types::text::Text;
 use std::alloc::Global;
 
-/// The tokens after the whitespace at the front.
-pub(crate) fn past_whitespace(tokens: &[Token]) -> &[Token]
-    ensures { result.now ≡ past_whitespace tokens.now }
-{
-    let mut rest = tokens;
-    'blanks: while let Some((token, after)) = rest.split_first() {
-        match &token.kind {
-            TokenKind::Blank => {
-                rest = after;
-            }
-            _ => {
-                return rest;
-            }
-        }
-    }
-    rest
-}
-
-/// `<ident-token>`
-pub(crate) fn name(tokens: &[Token]) -> Option<(&Text, &[Token])>
-    ensures { Reads (λ x. (x.0.now, x.1.now)) result (name_at tokens.now) }
-{
-    let (token, rest) = tokens.split_first()?;
-    match &token.kind {
-        TokenKind::Word(name) => Some((name, rest)),
-        _ => None,
-    }
-}
-
-fn past_colon(tokens: &[Token]) -> Option<&[Token]>
-    ensures { Reads (λ x. x.now) result (past_sign colon tokens.now) }
-{
-    let (token, rest) = tokens.split_first()?;
-    if is_sign(':', &token.kind) {
-        Some(rest)
-    } else {
-        None
-    }
-}
-
 /// The name of a declaration, and the tokens after its colon.
 fn named(tokens: &[Token]) -> Option<(&Text, &[Token])>
     ensures { Reads (λ x. (x.0.now, x.1.now)) result (named_at tokens.now) }
 {
-    let (name, rest) = name(tokens)?;
-    let value = past_colon(past_whitespace(rest))?;
+    let (name, rest) = ident(tokens)?;
+    let value = delimiter(':', skip_whitespace(rest))?;
     Some((name, value))
-}
-
-fn is_important_word(kind: &TokenKind) -> bool
-    ensures { result ≡ is_keyword (codes "important") kind.now }
-{
-    match kind {
-        TokenKind::Word(name) => is_word(name.as_str(), "important"),
-        _ => false,
-    }
 }
 
 /// Whether `important` stands there, and nothing after it but Blanks.
@@ -86,7 +34,8 @@ fn is_important(tokens: &[Token]) -> bool
     ensures { result ≡ is_important tokens.now }
 {
     match tokens.split_first() {
-        Some((word, rest)) => is_important_word(&word.kind) && past_whitespace(rest).is_empty(),
+        Some((word, rest)) => is_keyword("important", &word.kind)
+            && skip_whitespace(rest).is_empty(),
         None => false,
     }
 }
@@ -96,7 +45,7 @@ fn importance(tokens: &[Token]) -> Option<bool>
     ensures { result ≡ importance tokens.now }
 {
     match tokens.split_first() {
-        Some((_, rest)) if is_important(past_whitespace(rest)) => Some(true),
+        Some((_, rest)) if is_important(skip_whitespace(rest)) => Some(true),
         Some(_) => None,
         None => Some(false),
     }
@@ -116,7 +65,7 @@ pub fn cut<'a>(
     let Some((name, rest)) = named(tokens) else {
         return Ok(None);
     };
-    let (value, end) = piece(alloc, PieceEnd::Exclamation, rest)?;
+    let (value, end) = piece::<ExclamationMark>(alloc, rest)?;
     match importance(end) {
         Some(important) => Ok(Some((name, value, important))),
         None => Ok(None),
@@ -141,7 +90,7 @@ fn push_declaration(
     part: Option<&[Token]>,
     found: &mut List<Declared>,
 ) -> Result<(), Memory>
-    ensures ok { OnOk result (found.new ≡ found.old ++ filter_map declaration (filter_map (λ x. x) (tokens_seen_if part.entry ∷ []))) }
+    ensures ok { OnOk result (found.new ≡ found.old ++ filter_map declaration (filter_map (λ x. x) (option_copied part.entry ∷ []))) }
 {
     let Some(part) = part else {
         return Ok(());
@@ -216,7 +165,7 @@ fn put_descriptor(kept: &mut Vec<Descriptor>, descriptor: Descriptor) -> Result<
 }
 
 fn put_part(alloc: Global, part: Option<&[Token]>, kept: &mut Vec<Descriptor>) -> Result<(), Memory>
-    ensures ok { OnOk result ((found : List Descriptor) → kept.old.items ≡ last_of_each found → kept.new.items ≡ last_of_each (found ++ filter_map descriptor_in (filter_map (λ x. x) (tokens_seen_if part.entry ∷ [])))) }
+    ensures ok { OnOk result ((found : List Descriptor) → kept.old.items ≡ last_of_each found → kept.new.items ≡ last_of_each (found ++ filter_map descriptor_in (filter_map (λ x. x) (option_copied part.entry ∷ [])))) }
 {
     let Some(part) = part else {
         return Ok(());

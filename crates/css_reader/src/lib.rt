@@ -7,7 +7,7 @@
 //!
 //! Below them `pieces` cuts tokens where no block is open, `rules` cuts a sheet into rules and a block into
 //! what may be declarations, and `declarations` reads these. Nothing recurses on brackets: a piece is cut by
-//! one pass that keeps the closing brackets that it waits for. What is cut can be had by itself, before it is
+//! one pass that keeps the closing brackets that it waits for, up to what ends it (`piece_end`). What is cut can be had by itself, before it is
 //! read: `rules::rule`, `rules::part` and `declarations::cut`.
 //!
 //! The layers above know this crate by the words `sheet` (`specs/Sheets.antt`) and `features`
@@ -24,6 +24,7 @@
 pub mod declarations;
 pub mod features;
 pub mod laws;
+mod piece_end;
 mod pieces;
 pub mod rules;
 pub mod sheet;

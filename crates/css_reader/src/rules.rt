@@ -1,13 +1,14 @@
 //! Rules of a sheet and parts of a block, cut out of tokens and not read yet (CSS Syntax 3, 5.4.1 to 5.4.4).
 
-ghost use Rattle.std.specs.Prelude.{◌≡◌, ◌<◌, length, IfOk, IfSome};
-ghost use Rattle.definitions.specs.Reading.{Reads};
-ghost use Rattle.css_values.specs.Parts.{is_blank_kind};
+ghost use Rattle.std.specs.Prelude.{◌≡◌, ◌<◌, length, option_copied, option_map, IfOk, IfSome};
+ghost use Rattle.reading.specs.Reading.{Reads};
 ghost use Rattle.css_reader.specs.Rules.{is_between_rules, is_between_declarations, block_after, style_rule_at, at_rule_at, rule_at, part_at};
-ghost use Rattle.css_reader.specs.Seen.{rule_seen_if, tokens_seen_if};
+ghost use Rattle.css_reader.specs.FoundRules.{rule_found};
 
-use crate::pieces::{PieceEnd, is_sign, past_one, piece};
+use crate::piece_end::{ClosingBrace, OpeningBrace, Semicolon, SemicolonOrOpeningBrace};
+use crate::pieces::{past_one, piece};
 use css_tokens::token::{Token, TokenKind};
+use css_tokens::token_reading::{is_sign, is_whitespace};
 use plain_types::memory::Memory;
 use plain_types::text::Text;
 use std::alloc::Global;
@@ -28,15 +29,6 @@ pub enum FoundRule<'a> {
     },
 }
 
-fn is_blank(kind: &TokenKind) -> bool
-    ensures { result ≡ is_blank_kind kind.now }
-{
-    match kind {
-        TokenKind::Blank => true,
-        _ => false,
-    }
-}
-
 fn is_between_rules(kind: &TokenKind) -> bool
     ensures { result ≡ is_between_rules kind.now }
 {
@@ -51,7 +43,7 @@ fn is_between_rules(kind: &TokenKind) -> bool
 fn is_between_declarations(kind: &TokenKind) -> bool
     ensures { result ≡ is_between_declarations kind.now }
 {
-    is_blank(kind) || is_sign(';', kind)
+    is_whitespace(kind) || is_sign(';', kind)
 }
 
 /// After a prelude: the content of the block, and the tokens after it.
@@ -59,7 +51,7 @@ fn block<'a>(
     alloc: Global,
     tokens: &'a [Token],
 ) -> Result<(Option<&'a [Token]>, &'a [Token]), Memory>
-    ensures { IfOk result (λ x. block_after tokens.now ≡ (tokens_seen_if x.0, x.1.now)) }
+    ensures { IfOk result (λ x. block_after tokens.now ≡ (option_copied x.0, x.1.now)) }
 {
     let Some((first, after)) = tokens.split_first() else {
         return Ok((None, tokens));
@@ -67,7 +59,7 @@ fn block<'a>(
     if !is_sign('{', &first.kind) {
         return Ok((None, after));
     }
-    let (content, rest) = piece(alloc, PieceEnd::Closing, after)?;
+    let (content, rest) = piece::<ClosingBrace>(alloc, after)?;
     Ok((Some(content), past_one(rest)))
 }
 
@@ -76,9 +68,9 @@ fn style_rule<'a>(
     alloc: Global,
     tokens: &'a [Token],
 ) -> Result<(Option<FoundRule<'a>>, &'a [Token]), Memory>
-    ensures { IfOk result (λ x. style_rule_at tokens.now ≡ (rule_seen_if x.0, x.1.now)) }
+    ensures { IfOk result (λ x. style_rule_at tokens.now ≡ (option_map rule_found x.0, x.1.now)) }
 {
-    let (prelude, after) = piece(alloc, PieceEnd::Opening, tokens)?;
+    let (prelude, after) = piece::<OpeningBrace>(alloc, tokens)?;
     match block(alloc, after)? {
         (Some(block), rest) => Ok((Some(FoundRule::Style { prelude, block }), rest)),
         (None, rest) => Ok((None, rest)),
@@ -91,9 +83,9 @@ fn at_rule<'a>(
     name: &'a Text,
     tokens: &'a [Token],
 ) -> Result<(Option<FoundRule<'a>>, &'a [Token]), Memory>
-    ensures { IfOk result (λ x. at_rule_at name.now tokens.now ≡ (rule_seen_if x.0, x.1.now)) }
+    ensures { IfOk result (λ x. at_rule_at name.now tokens.now ≡ (option_map rule_found x.0, x.1.now)) }
 {
-    let (prelude, after) = piece(alloc, PieceEnd::SemicolonOrOpening, tokens)?;
+    let (prelude, after) = piece::<SemicolonOrOpeningBrace>(alloc, tokens)?;
     match block(alloc, after)? {
         (Some(block), rest) => Ok((
             Some(FoundRule::At {
@@ -116,7 +108,7 @@ pub fn rule<'a>(
     alloc: Global,
     tokens: &'a [Token],
 ) -> Result<Option<(Option<FoundRule<'a>>, &'a [Token])>, Memory>
-    ensures rule { IfOk result (λ r. Reads (λ x. (rule_seen_if x.0, x.1.now)) r (rule_at tokens.now)) }
+    ensures rule { IfOk result (λ r. Reads (λ x. (option_map rule_found x.0, x.1.now)) r (rule_at tokens.now)) }
     ensures fewer { IfOk result (λ r. IfSome r (λ x. length x.1.now < length tokens.now)) }
 {
     let Some((first, after)) = tokens.split_first() else {
@@ -139,7 +131,7 @@ pub fn part<'a>(
     alloc: Global,
     tokens: &'a [Token],
 ) -> Result<Option<(Option<&'a [Token]>, &'a [Token])>, Memory>
-    ensures part { IfOk result (λ r. Reads (λ x. (tokens_seen_if x.0, x.1.now)) r (part_at tokens.now)) }
+    ensures part { IfOk result (λ r. Reads (λ x. (option_copied x.0, x.1.now)) r (part_at tokens.now)) }
     ensures fewer { IfOk result (λ r. IfSome r (λ x. length x.1.now < length tokens.now)) }
 {
     let Some((first, after)) = tokens.split_first() else {
@@ -154,7 +146,7 @@ pub fn part<'a>(
             Ok(Some((None, rest)))
         }
         _ => {
-            let (part, rest) = piece(alloc, PieceEnd::Semicolon, tokens)?;
+            let (part, rest) = piece::<Semicolon>(alloc, tokens)?;
             Ok(Some((Some(part), rest)))
         }
     }

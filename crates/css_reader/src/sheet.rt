@@ -1,18 +1,19 @@
 //! The sheet of a text.
 
-ghost use Rattle.std.specs.Prelude.{◌≡◌, ◌++◌, ◌∷◌, [], IfOk, OnOk};
+ghost use Rattle.std.specs.Prelude.{◌≡◌, ◌++◌, ◌∷◌, [], option_map, IfOk, OnOk};
 ghost use Rattle.std.specs.List.{filter_map};
 ghost use Rattle.std.specs.Str.{chars};
-ghost use Rattle.definitions.specs.Reading.{Reads};
+ghost use Rattle.reading.specs.Reading.{Reads};
 ghost use Rattle.css_reader.specs.Rules.{style_rule, at_rule, rules};
-ghost use Rattle.css_reader.specs.Seen.{rule_seen_if};
+ghost use Rattle.css_reader.specs.FoundRules.{rule_found};
 ghost use Rattle.css_reader.specs.Sheets.{lone_name, style_rule_of, style_def_of, sheet_of, sheet};
 
-use crate::declarations::{declarations, descriptors, name, past_whitespace};
+use crate::declarations::{declarations, descriptors};
 use crate::rules::{FoundRule, rule};
 use css_tokens::lexer::tokens;
 use css_tokens::sheet_text::prepare_text;
 use css_tokens::token::Token;
+use css_tokens::token_reading::{ident, skip_whitespace};
 use css_tokens::words::is_word;
 use plain_types::counter_style::StyleDef;
 use plain_types::duplicate::Duplicate;
@@ -27,8 +28,8 @@ use std::alloc::Global;
 fn lone_name(tokens: &[Token]) -> Option<&Text>
     ensures { Reads (λ x. x.now) result (lone_name tokens.now) }
 {
-    let (name, rest) = name(past_whitespace(tokens))?;
-    if past_whitespace(rest).is_empty() {
+    let (name, rest) = ident(skip_whitespace(tokens))?;
+    if skip_whitespace(rest).is_empty() {
         Some(name)
     } else {
         None
@@ -83,8 +84,8 @@ fn push_rule(
     found: Option<FoundRule<'_>>,
     sheet: &mut Sheet,
 ) -> Result<(), Memory>
-    ensures rules { OnOk result (sheet.new.rules ≡ sheet.old.rules ++ filter_map (style_rule_of text.now) (filter_map (λ x. x) (rule_seen_if found.entry ∷ []))) }
-    ensures styles { OnOk result (sheet.new.styles ≡ sheet.old.styles ++ filter_map style_def_of (filter_map (λ x. x) (rule_seen_if found.entry ∷ []))) }
+    ensures rules { OnOk result (sheet.new.rules ≡ sheet.old.rules ++ filter_map (style_rule_of text.now) (filter_map (λ x. x) (option_map rule_found found.entry ∷ []))) }
+    ensures styles { OnOk result (sheet.new.styles ≡ sheet.old.styles ++ filter_map style_def_of (filter_map (λ x. x) (option_map rule_found found.entry ∷ []))) }
 {
     match found {
         None => Ok(()),

@@ -4,20 +4,9 @@ use Rattle.std.specs.Char.{digit_value}
 use Rattle.std.specs.Str.Parse.{digits_value, digits_value_after}
 use Rattle.std.proofs.Math.IntN.{ℤ, pos}
 use Rattle.std.proofs.lemmas.Int.{ints, clamps}
-use Rattle.definitions.specs.Characters.{is_digit, is_hexadecimal_digit}
-use Rattle.definitions.specs.Reading.{◌then◌, ◌otherwise◌, span, span_of}
-use Rattle.css_tokens.specs.Counting.{counted}
-use Rattle.css_tokens.specs.Numbers.{saturated, sign_at, digits_at, fraction_at, or_stay, after_fraction, after_digits, number_at}
-use Rattle.css_tokens.specs.declared.token.TokenKind.{TokenKind}
-
-abbrev some_token : TokenKind × List ℕ → Option (TokenKind × List ℕ)
-some_token x = Some x
-
-abbrev some_pair : ℕ × List ℕ → Option (ℕ × List ℕ)
-some_pair x = Some x
-
-pair_parts : (x y : ℕ × List ℕ) → some_pair x ≡ some_pair y → (x.0 ≡ y.0) × (x.1 ≡ y.1)
-pair_parts x y e = let same : x ≡ y = cc in (ap (λ (t : ℕ × List ℕ). t.0) same, ap (λ (t : ℕ × List ℕ). t.1) same)
+use Rattle.reading.specs.Characters.{is_digit, is_hexadecimal_digit}
+use Rattle.reading.specs.Reading.{◌then◌, ◌otherwise◌, span, span_of}
+use Rattle.css_tokens.specs.Numbers.{saturated}
 
 -- The loop has counted the digits before these: of `all` the digits `here` are left.
 pub record Counts (base : ℕ) (all : List ℕ × List ℕ) (value : ℕ) (here : List ℕ × List ℕ) : Type 0 where
@@ -79,29 +68,6 @@ pub saturated_min : (negative : Bool) (number : ℕ) → saturated negative (min
 saturated_min true number = omega (arith, ints, clamps)
 saturated_min false number = omega (arith, ints, clamps)
 
-module _ (cs start rest : List ℕ) (negative : Bool) (sign : sign_at cs ≡ (negative, start)) where
-  same_end : (number other : ℕ) (rest : List ℕ) → min number (2 ^ 64 - 1) ≡ other → after_digits negative number rest ≡ after_digits negative other rest
-  same_end number other rest e =
-      let value_is : saturated negative number ≡ saturated negative other = sym (saturated_min negative number) ∙ ap (saturated negative) e in
-      ap (λ (value : ℤ). cond (is_some (fraction_at rest)) (after_fraction false (pos 0) (or_stay (fraction_at rest) rest)) (after_fraction true value rest)) value_is
-
-  pub number_by_digits : (number : ℕ) (x : TokenKind × List ℕ) → counted (digits_at start) ≡ Some (number, rest) → after_digits negative number rest ≡ x → number_at cs ≡ Some x
-  unfolding number_at
-  number_by_digits number x e f = rw sign (go (digits_at start) e)
-    where
-      go : (o : Option (List ℕ × List ℕ)) → counted o ≡ Some (number, rest)
-          → ((o then λ digits. Some (after_digits negative (digits_value 10 digits.0) digits.1)) otherwise (fraction_at start then λ rest. Some (after_fraction false (pos 0) rest))) ≡ Some x
-      go None e = absurd cc
-      go (Some digits) e =
-          let p = pair_parts (min (digits_value 10 digits.0) (2 ^ 64 - 1), digits.1) (number, rest) e in
-          let rest_is : digits.1 ≡ rest = p.1 in
-          ap some_token (rw rest_is (same_end (digits_value 10 digits.0) number rest p.0 ∙ f))
-
-  pub number_by_fraction : (x : TokenKind × List ℕ) → counted (digits_at start) ≡ None → fraction_at start ≡ Some rest → after_fraction false (pos 0) rest ≡ x → number_at cs ≡ Some x
-  unfolding number_at
-  number_by_fraction x e f g = rw sign (go (digits_at start) e)
-    where
-      go : (o : Option (List ℕ × List ℕ)) → counted o ≡ None
-          → ((o then λ digits. Some (after_digits negative (digits_value 10 digits.0) digits.1)) otherwise (fraction_at start then λ rest. Some (after_fraction false (pos 0) rest))) ≡ Some x
-      go None e = rw f (ap some_token g)
-      go (Some digits) e = absurd cc
+-- the digits as the code counts them, by a number of 64 bits
+pub saturated_digits : (negative : Bool) (number : ℕ) (digits : List ℕ) → number ≡ min (digits_value 10 digits) (2 ^ 64 - 1) → saturated negative number ≡ saturated negative (digits_value 10 digits)
+saturated_digits negative number digits e = ap (saturated negative) e ∙ saturated_min negative (digits_value 10 digits)

@@ -1,8 +1,8 @@
 -- The text of a sheet, one character after the other, and that there is nothing left to filter in it.
 use Rattle.std.proofs.Common.{◌≡◌, ℕ, Bool, true, false, ◌&&◌, ◌||◌, cond, eqb, List, [], ◌∷◌, ◌++◌, refl, sym, ◌∙◌, append_assoc}
 use Rattle.std.proofs.lemmas.List.{append-nil}
-use Rattle.definitions.specs.Reading.{begins}
-use Rattle.definitions.specs.SheetText.{filtered_character, left_before, filtered}
+use Rattle.reading.specs.Reading.{begins}
+use Rattle.css_definitions.specs.SheetText.{filtered_character, left_before, filtered}
 
 kept : (c : ℕ) (rest : List ℕ) → left_before rest (filtered_character c) ≡ filtered_character c ∷ []
 kept c rest = go (eqb c 13) (eqb c 12) (eqb c 0) refl refl refl

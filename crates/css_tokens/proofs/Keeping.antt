@@ -1,7 +1,7 @@
 -- The characters that the pieces of a string leave.
 use Rattle.std.proofs.Common.{◌≡◌, ℕ, List, [], ◌∷◌, ◌++◌, Option, Some, None, refl, sym, ap, ◌∙◌}
-use Rattle.definitions.specs.Reading.{run_at}
-use Rattle.definitions.proofs.Runs.{Goes, Goes-start, Goes-more, Goes-read, Shortens}
+use Rattle.reading.specs.Reading.{run_at}
+use Rattle.reading.proofs.Runs.{Goes, Goes-start, Goes-more, Goes-read, Shortens}
 use Rattle.css_tokens.specs.Strings.{kept}
 
 -- the loop has come to the rest, with this text

@@ -3,8 +3,8 @@ use Rattle.std.proofs.Common.{◌≡◌, ℕ, ◌-◌, ◌<◌, ◌≤◌, List,
 use Rattle.std.specs.Str.{chars, IsUtf8, encode_utf8_all}
 use Rattle.std.proofs.lemmas.List.{length-append, append-nil}
 use Rattle.std.proofs.lemmas.Str.{encodes-chars, encodes-append}
-use Rattle.definitions.proofs.Runs.{Goes, Goes-start, Goes-more, Goes-read}
-use Rattle.definitions.proofs.Following.{Follows, here, later, takes_shorter, takes_follows}
+use Rattle.reading.proofs.Runs.{Goes, Goes-start, Goes-more, Goes-read}
+use Rattle.reading.proofs.Following.{Follows, here, later, takes_shorter, takes_follows}
 use Rattle.css_tokens.specs.Tokens.{piece_at, placed_at, Piece, token_from, tokens_of, tokens, width}
 use Rattle.css_tokens.specs.declared.token.TokenKind.{TokenKind}
 use Rattle.css_tokens.specs.declared.token.Token.{Token}

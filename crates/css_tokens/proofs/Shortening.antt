@@ -3,15 +3,15 @@ use Rattle.std.proofs.Common.{◌≡◌, ℕ, ◌<◌, Bool, true, false, cond, 
 use Rattle.std.specs.Prelude.{codes}
 use Rattle.std.proofs.Math.IntN.{ℤ}
 use Rattle.std.proofs.lemmas.Bool.{eqb-true}
-use Rattle.definitions.specs.Characters.{is_blank, is_digit, is_hexadecimal_digit, is_quote}
-use Rattle.definitions.specs.Reading.{◌then◌, span, span_of, past_character, past_text, past_one, begins}
-use Rattle.definitions.specs.SheetCharacters.{is_ident_start, is_ident_character}
-use Rattle.definitions.specs.Identifiers.{hex_escape, past_blank, escape_at, is_escape, ident_character_at, ident_sequence_at, starts_letter, starts_identifier, identifier_at}
-use Rattle.definitions.proofs.Runs.{chosen}
-use Rattle.definitions.proofs.Following.{Follows, here, later, left, nothing, ended, none_ends, Follows-trans, Leaves, Ends, follow_if, rest_if, leave_if, end_if, leave_otherwise, leave_then, end_then, ends_then, leaves_end, leave_more, end_more, leave_within, one_follows, character_ends, text_ends, span_follows, span_of_follows, TakesOne, takes_shorter, run_follows, run_takes}
+use Rattle.reading.specs.Characters.{is_blank, is_digit, is_hexadecimal_digit, is_quote}
+use Rattle.reading.specs.Reading.{◌then◌, span, span_of, past_character, past_text, past_one, begins}
+use Rattle.css_definitions.specs.SheetCharacters.{is_ident_start, is_ident_character}
+use Rattle.css_definitions.specs.Identifiers.{hex_escape, past_blank, escape_at, is_escape, ident_character_at, ident_sequence_at, starts_letter, starts_identifier, identifier_at}
+use Rattle.reading.proofs.Runs.{chosen}
+use Rattle.reading.proofs.Following.{Follows, here, later, left, nothing, ended, none_ends, Follows-trans, Leaves, Ends, follow_if, rest_if, leave_if, end_if, leave_otherwise, leave_then, end_then, ends_then, leaves_end, leave_more, end_more, leave_within, one_follows, character_ends, text_ends, span_follows, span_of_follows, TakesOne, takes_shorter, run_follows, run_takes}
 use Rattle.css_tokens.specs.Strings.{some_character, string_escape_at, string_piece_at, string_end, string_at}
-use Rattle.css_tokens.specs.Numbers.{sign_at, digits_at, fraction_at, exponent_at, or_stay, number_end, after_fraction, after_digits, unsigned_at, number_at}
-use Rattle.css_tokens.specs.Urls.{past_blanks, is_url_character, url_character_at, bad_url_character_at, past_bad_url, url_end, url_at, function_of, named_of, named_at, at_keyword_at}
+use Rattle.css_tokens.specs.Numbers.{sign_at, digits_at, saturated_at, fraction_at, exponent_at, or_stay, number_end, after_fraction, after_digits, unsigned_at, number_at}
+use Rattle.css_tokens.specs.Urls.{past_blanks, is_url_character, url_character_at, bad_url_character_at, past_bad_url, url_end, url_at, function_or_url, named_of, named_at, at_keyword_at}
 use Rattle.css_tokens.specs.Tokens.{past_comment_end, comment_at, blanks_at, hash_at, fixed_at, token_at, piece_at, placed_at}
 use Rattle.css_tokens.specs.declared.token.TokenKind.{TokenKind}
 use Rattle.css_tokens.specs.declared.token.TokenKind.TheVariants as kind
@@ -123,12 +123,15 @@ end_follows whole value cs = follow_if (starts_identifier cs) _ _ (sequence_foll
 fraction_follows : (whole : Bool) (value : ℤ) (cs : List ℕ) → Follows cs (after_fraction whole value cs).1
 fraction_follows whole value cs = follow_if (is_some (exponent_at cs)) _ _ (Follows-trans (stay_follows (exponent_at cs) cs (exponent_within cs)) (end_follows _ _ _)) (end_follows _ _ _)
 
-digits_follow : (negative : Bool) (number : ℕ) (cs : List ℕ) → Follows cs (after_digits negative number cs).1
-digits_follow negative number cs = follow_if (is_some (fraction_at cs)) _ _ (Follows-trans (stay_follows (fraction_at cs) cs (fraction_within cs)) (fraction_follows _ _ _)) (fraction_follows _ _ _)
+digits_follow : (value : ℤ) (cs : List ℕ) → Follows cs (after_digits value cs).1
+digits_follow value cs = follow_if (is_some (fraction_at cs)) _ _ (Follows-trans (stay_follows (fraction_at cs) cs (fraction_within cs)) (fraction_follows _ _ _)) (fraction_follows _ _ _)
+
+saturated_leaves : (negative : Bool) (c : ℕ) (cs : List ℕ) → Leaves cs (saturated_at negative (c ∷ cs))
+saturated_leaves negative c cs = leave_then (digits_at (c ∷ cs)) _ (digits_leave c cs) (λ digits p. left _ p)
 
 unsigned_leaves : (negative : Bool) (c : ℕ) (cs : List ℕ) → Leaves cs (unsigned_at (negative, c ∷ cs))
-unsigned_leaves negative c cs = leave_otherwise (digits_at (c ∷ cs) then _) _
-    (leave_then (digits_at (c ∷ cs)) _ (digits_leave c cs) (λ y p. left _ (Follows-trans p (digits_follow negative _ y.1))))
+unsigned_leaves negative c cs = leave_otherwise (saturated_at negative (c ∷ cs) then _) _
+    (leave_then (saturated_at negative (c ∷ cs)) _ (saturated_leaves negative c cs) (λ y p. left _ (Follows-trans p (digits_follow y.0 y.1))))
     (end_then (fraction_at (c ∷ cs)) _ (fraction_ends c cs) (λ rest p. left _ (Follows-trans p (fraction_follows _ _ rest))))
 
 unsigned_within : (negative : Bool) (cs : List ℕ) → Leaves cs (unsigned_at (negative, cs))
@@ -155,7 +158,7 @@ url_follows : (cs : List ℕ) → Follows cs (url_at cs).1
 unfolding url_at
 url_follows cs = Follows-trans (blanks_follow cs) (Follows-trans (run_follows url_character_at url_takes (past_blanks cs)) (Follows-trans (blanks_follow _) (url_end_follows _ _)))
 
-function_follows : (name cs : List ℕ) → Follows cs (function_of name cs).1
+function_follows : (name cs : List ℕ) → Follows cs (function_or_url name cs).1
 function_follows name cs = follow_if _ _ _ (url_follows cs) here
 
 named_follows : (name : List ℕ × List ℕ) → Follows name.1 (named_of name).1

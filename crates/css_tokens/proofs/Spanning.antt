@@ -5,9 +5,9 @@ use Rattle.std.proofs.lemmas.List.{length-append}
 use Rattle.std.proofs.lemmas.Str.{scalars-chars, encodes-chars, encodes-append, IsCharBoundary-at_seam, chars-encodes}
 use lib.Utf8.{scalars}
 use Rattle.std.proofs.lemmas.Bool.{and_parts}
-use Rattle.definitions.specs.Reading.{◌then◌, ◌otherwise◌}
-use Rattle.definitions.proofs.Runs.{Run, stop, more}
-use Rattle.definitions.proofs.Following.{Follows, here, later, Follows-trans, Follows-front, takes_follows, run_Run}
+use Rattle.reading.specs.Reading.{◌then◌, ◌otherwise◌}
+use Rattle.reading.proofs.Runs.{Run, stop, more}
+use Rattle.reading.proofs.Following.{Follows, here, later, Follows-trans, Follows-front, takes_follows, run_Run}
 use Rattle.css_tokens.specs.Spans.{AreSpans}
 use Rattle.css_tokens.specs.Tokens.{token_at, comment_at, piece_at, placed_at, Piece, token_from, tokens_of, tokens, width}
 use Rattle.css_tokens.specs.declared.token.TokenKind.{TokenKind}

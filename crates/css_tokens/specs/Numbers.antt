@@ -4,10 +4,10 @@ use Rattle.std.specs.Prelude.{ℕ, Bool, true, false, ◌||◌, ◌==◌, if◌t
 use Rattle.std.specs.Str.Parse.{digits_value}
 use Rattle.std.specs.Int.{int_max, int_min}
 use Rattle.plain_types.specs.declared.count.TheConstants.{COUNT_LOW, COUNT_HIGH}
-use Rattle.definitions.specs.Characters.{is_digit}
-use Rattle.definitions.specs.Punctuation.{percent_sign, plus_sign, hyphen_minus, full_stop}
-use Rattle.definitions.specs.Reading.{◌then◌, ◌otherwise◌, begins, past_character, past_one, span}
-use Rattle.definitions.specs.Identifiers.{starts_identifier, ident_sequence_at}
+use Rattle.reading.specs.Characters.{is_digit}
+use Rattle.reading.specs.Punctuation.{percent_sign, plus_sign, hyphen_minus, full_stop}
+use Rattle.reading.specs.Reading.{◌then◌, ◌otherwise◌, begins, past_character, past_one, span}
+use Rattle.css_definitions.specs.Identifiers.{starts_identifier, ident_sequence_at}
 use Rattle.css_tokens.specs.declared.token.TokenKind.{TokenKind}
 use Rattle.css_tokens.specs.declared.token.TokenKind.TheVariants as kind
 
@@ -20,6 +20,23 @@ sign_at (first ∷ rest) = if first == hyphen_minus then (true, rest) else (if f
 abbrev pub digits_at : List ℕ → Option (List ℕ × List ℕ)
 digits_at [] = None
 digits_at (first ∷ rest) = if is_digit first then Some (span is_digit (first ∷ rest)) else None
+
+-- a number with its sign
+abbrev pub signed : Bool → ℕ → ℤ
+signed false number = pos number
+signed true number = neg_ℤ (pos number)
+
+-- the nearest count
+abbrev pub saturated : Bool → ℕ → ℤ
+saturated negative number = int_max COUNT_LOW (int_min (signed negative number) COUNT_HIGH)
+
+-- the count that is nearest to the number of digits with this sign
+abbrev pub saturated_at : Bool → List ℕ → Option (ℤ × List ℕ)
+saturated_at negative characters = digits_at characters then λ digits. Some (saturated negative (digits_value 10 digits.0), digits.1)
+
+-- an integer: an optional sign and digits
+abbrev pub integer_at : List ℕ → Option (ℤ × List ℕ)
+integer_at characters = saturated_at (sign_at characters).0 (sign_at characters).1
 
 -- what is left after a point and digits
 abbrev pub fraction_at : List ℕ → Option (List ℕ)
@@ -35,15 +52,6 @@ abbrev pub or_stay : Option (List ℕ) → List ℕ → List ℕ
 or_stay (Some rest) characters = rest
 or_stay None characters = characters
 
--- a number with its sign
-abbrev pub signed : Bool → ℕ → ℤ
-signed false number = pos number
-signed true number = neg_ℤ (pos number)
-
--- the nearest count
-abbrev pub saturated : Bool → ℕ → ℤ
-saturated negative number = int_max COUNT_LOW (int_min (signed negative number) COUNT_HIGH)
-
 -- what follows a number makes it a dimension or a percentage
 abbrev pub number_end : Bool → ℤ → List ℕ → TokenKind × List ℕ
 number_end whole value characters =
@@ -55,16 +63,16 @@ abbrev pub after_fraction : Bool → ℤ → List ℕ → TokenKind × List ℕ
 after_fraction whole value characters =
     if is_some (exponent_at characters) then number_end false (pos 0) (or_stay (exponent_at characters) characters) else number_end whole value characters
 
--- after digits that write this number: a fraction makes it not whole
-abbrev pub after_digits : Bool → ℕ → List ℕ → TokenKind × List ℕ
-after_digits negative number characters =
+-- after digits that write this count: a fraction makes the number not whole
+abbrev pub after_digits : ℤ → List ℕ → TokenKind × List ℕ
+after_digits value characters =
     if is_some (fraction_at characters) then after_fraction false (pos 0) (or_stay (fraction_at characters) characters)
-    else after_fraction true (saturated negative number) characters
+    else after_fraction true value characters
 
 -- after the sign: digits, or a fraction alone
 abbrev pub unsigned_at : Bool × List ℕ → Option (TokenKind × List ℕ)
 unsigned_at sign =
-    (digits_at sign.1 then λ digits. Some (after_digits sign.0 (digits_value 10 digits.0) digits.1))
+    (saturated_at sign.0 sign.1 then λ value. Some (after_digits value.0 value.1))
     otherwise (fraction_at sign.1 then λ rest. Some (after_fraction false (pos 0) rest))
 
 unfoldable pub number_at : List ℕ → Option (TokenKind × List ℕ)

@@ -1,9 +1,9 @@
 -- String tokens: CSS Syntax 3, 4.3.5.
 use Rattle.std.specs.Prelude.{ℕ, ◌||◌, ◌==◌, if◌then◌else◌, List, [], ◌∷◌, Option, Some, None}
-use Rattle.definitions.specs.Characters.{is_quote}
-use Rattle.definitions.specs.Punctuation.{line_feed, reverse_solidus}
-use Rattle.definitions.specs.Reading.{◌then◌, run_at}
-use Rattle.definitions.specs.Identifiers.{escape_at}
+use Rattle.reading.specs.Characters.{is_quote}
+use Rattle.reading.specs.Punctuation.{line_feed, reverse_solidus}
+use Rattle.reading.specs.Reading.{◌then◌, run_at}
+use Rattle.css_definitions.specs.Identifiers.{escape_at}
 use Rattle.css_tokens.specs.declared.token.TokenKind.{TokenKind}
 use Rattle.css_tokens.specs.declared.token.TokenKind.TheVariants as kind
 
@@ -32,9 +32,9 @@ abbrev pub string_end : ℕ → List ℕ → List ℕ → TokenKind × List ℕ
 string_end quote value [] = (kind.Chars value, [])
 string_end quote value (first ∷ rest) = if first == quote then (kind.Chars value, rest) else (kind.BadString, first ∷ rest)
 
-abbrev pub string_of : ℕ → List (Option ℕ) × List ℕ → TokenKind × List ℕ
-string_of quote pieces = string_end quote (kept pieces.0) pieces.1
+abbrev pub quoted_string : ℕ → List (Option ℕ) × List ℕ → TokenKind × List ℕ
+quoted_string quote pieces = string_end quote (kept pieces.0) pieces.1
 
 unfoldable pub string_at : List ℕ → Option (TokenKind × List ℕ)
 string_at [] = None
-string_at (quote ∷ rest) = if is_quote quote then Some (string_of quote (run_at (string_piece_at quote) rest)) else None
+string_at (quote ∷ rest) = if is_quote quote then Some (quoted_string quote (run_at (string_piece_at quote) rest)) else None

@@ -1,9 +1,9 @@
 -- The tokens of a sheet: CSS Syntax 3, 4.3.1 and 4.3.2. At each place the first rule that applies.
 use Rattle.std.specs.Prelude.{ℕ, ◌-◌, ◌&&◌, ◌==◌, if◌then◌else◌, List, [], ◌∷◌, ◌++◌, length, Option, Some, None, is_some, codes, encode_utf8_all}
-use Rattle.definitions.specs.Characters.{is_blank}
-use Rattle.definitions.specs.Punctuation.{number_sign, asterisk, solidus}
-use Rattle.definitions.specs.Reading.{◌then◌, ◌otherwise◌, begins, past_character, past_text, past_one, run_at}
-use Rattle.definitions.specs.Identifiers.{ident_character_at, ident_sequence_at, starts_identifier}
+use Rattle.reading.specs.Characters.{is_blank}
+use Rattle.reading.specs.Punctuation.{number_sign, asterisk, solidus}
+use Rattle.reading.specs.Reading.{◌then◌, ◌otherwise◌, begins, past_character, past_text, past_one, run_at}
+use Rattle.css_definitions.specs.Identifiers.{ident_character_at, ident_sequence_at, starts_identifier}
 use Rattle.css_tokens.specs.Strings.{string_at}
 use Rattle.css_tokens.specs.Numbers.{number_at}
 use Rattle.css_tokens.specs.Urls.{past_blanks, named_at, at_keyword_at}

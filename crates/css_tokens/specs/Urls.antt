@@ -1,11 +1,11 @@
 -- Identifiers, functions and addresses: CSS Syntax 3, 4.3.4, 4.3.6 and 4.3.14.
 use Rattle.std.specs.Prelude.{ℕ, Bool, false, ◌&&◌, ◌||◌, not, ◌==◌, if◌then◌else◌, codes, List, [], ◌∷◌, Option, Some, None}
-use Rattle.definitions.specs.Characters.{is_blank, is_quote}
-use Rattle.definitions.specs.Punctuation.{left_parenthesis, right_parenthesis, reverse_solidus, commercial_at}
-use Rattle.definitions.specs.Reading.{◌then◌, ◌otherwise◌, begins, past_character, past_one, span, run_at}
-use Rattle.definitions.specs.SheetCharacters.{is_non_printable}
-use Rattle.definitions.specs.Identifiers.{escape_at, identifier_at}
-use Rattle.definitions.specs.Words.{is_word}
+use Rattle.reading.specs.Characters.{is_blank, is_quote}
+use Rattle.reading.specs.Punctuation.{left_parenthesis, right_parenthesis, reverse_solidus, commercial_at}
+use Rattle.reading.specs.Reading.{◌then◌, ◌otherwise◌, begins, past_character, past_one, span, run_at}
+use Rattle.css_definitions.specs.SheetCharacters.{is_non_printable}
+use Rattle.css_definitions.specs.Identifiers.{escape_at, identifier_at}
+use Rattle.css_definitions.specs.Words.{is_word}
 use Rattle.css_tokens.specs.declared.token.TokenKind.{TokenKind}
 use Rattle.css_tokens.specs.declared.token.TokenKind.TheVariants as kind
 
@@ -48,11 +48,11 @@ begins_quote [] = false
 begins_quote (first ∷ rest) = is_quote first
 
 -- 4.3.4, after a name and its `(`: the name `url` begins an address, unless a quote follows
-abbrev pub function_of : List ℕ → List ℕ → TokenKind × List ℕ
-function_of name characters = if is_word name (codes "url") && not (begins_quote (past_blanks characters)) then url_at characters else (kind.Function name, characters)
+abbrev pub function_or_url : List ℕ → List ℕ → TokenKind × List ℕ
+function_or_url name characters = if is_word name (codes "url") && not (begins_quote (past_blanks characters)) then url_at characters else (kind.Function name, characters)
 
 abbrev pub named_of : List ℕ × List ℕ → TokenKind × List ℕ
-named_of name = if begins left_parenthesis name.1 then function_of name.0 (past_one name.1) else (kind.Word name.0, name.1)
+named_of name = if begins left_parenthesis name.1 then function_or_url name.0 (past_one name.1) else (kind.Word name.0, name.1)
 
 -- 4.3.4: an identifier, a function or an address
 unfoldable pub named_at : List ℕ → Option (TokenKind × List ℕ)

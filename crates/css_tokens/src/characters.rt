@@ -3,9 +3,9 @@
 ghost use Rattle.std.specs.Prelude.{◌≡◌, ◌∷◌, ◌++◌, [], MatchOption, IfSome};
 ghost use Rattle.std.specs.Char.{encode_utf8};
 ghost use Rattle.std.specs.Str.{chars, IsUtf8};
-ghost use Rattle.definitions.specs.Characters.{is_blank, is_digit, is_hexadecimal_digit, is_quote};
-ghost use Rattle.definitions.specs.Reading.{Reads, begins, past_character, past_one};
-ghost use Rattle.definitions.specs.SheetCharacters.{is_ident_start, is_ident_character};
+ghost use Rattle.reading.specs.Characters.{is_blank, is_digit, is_hexadecimal_digit, is_quote};
+ghost use Rattle.reading.specs.Reading.{Reads, begins, past_character, past_one};
+ghost use Rattle.css_definitions.specs.SheetCharacters.{is_ident_start, is_ident_character};
 ghost use Rattle.css_tokens.specs.Tokens.{blanks_at};
 ghost use Rattle.css_tokens.specs.Urls.{past_blanks};
 
@@ -20,14 +20,16 @@ pub fn first_char(text: &str) -> Option<(char, &str)>
     Some((first, characters.as_str()))
 }
 
-pub(crate) fn is_blank(c: char) -> bool
-    ensures { result ≡ is_blank c }
+/// Whether the character is whitespace of a prepared text (CSS Syntax 3, 4.2).
+pub fn is_blank(c: char) -> bool
+    ensures blank { result ≡ is_blank c }
 {
     c == ' ' || c == '\t' || c == '\n'
 }
 
-pub(crate) fn is_digit(c: char) -> bool
-    ensures { result ≡ is_digit c }
+/// Whether the character is an ASCII digit.
+pub fn is_digit(c: char) -> bool
+    ensures digit { result ≡ is_digit c }
 {
     c.is_ascii_digit()
 }
@@ -57,7 +59,7 @@ pub(crate) fn is_quote(c: char) -> bool
 }
 
 /// The text after this character, where it stands at the front.
-pub(crate) fn past_character(wanted: char, text: &str) -> Option<&str>
+pub fn past_character(wanted: char, text: &str) -> Option<&str>
     ensures gives { Reads (λ x. chars x.now) result (past_character wanted (chars text.now)) }
     ensures text { IfSome result (λ x. IsUtf8 x.now) }
 {
@@ -66,8 +68,8 @@ pub(crate) fn past_character(wanted: char, text: &str) -> Option<&str>
 }
 
 /// Whether this character stands at the front.
-pub(crate) fn begins(wanted: char, text: &str) -> bool
-    ensures { result ≡ begins wanted (chars text.now) }
+pub fn begins(wanted: char, text: &str) -> bool
+    ensures front { result ≡ begins wanted (chars text.now) }
 {
     match first_char(text) {
         Some((first, _)) => first == wanted,
@@ -76,7 +78,7 @@ pub(crate) fn begins(wanted: char, text: &str) -> bool
 }
 
 /// The text without its first character.
-pub(crate) fn past_one(text: &str) -> &str
+pub fn past_one(text: &str) -> &str
     ensures gives { past_one (chars text.now) ≡ chars result.now }
     ensures text { IsUtf8 result.now }
 {
@@ -87,8 +89,8 @@ pub(crate) fn past_one(text: &str) -> &str
 }
 
 /// The text after the blanks at its front.
-#[tactic(auto, unfolding(definitions::specs::Reading::span))]
-pub(crate) fn past_blanks(text: &str) -> &str
+#[tactic(auto, unfolding(reading::specs::Reading::span))]
+pub fn past_blanks(text: &str) -> &str
     ensures gives { past_blanks (chars text.now) ≡ chars result.now }
     ensures text { IsUtf8 result.now }
 {

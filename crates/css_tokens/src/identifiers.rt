@@ -4,9 +4,9 @@ ghost use Rattle.std.specs.Prelude.{◌≡◌, ◌-◌, ◌^◌, min, IfSome, If
 ghost use Rattle.std.specs.Char.{digit_value};
 ghost use Rattle.std.specs.Str.{chars, IsUtf8};
 ghost use Rattle.std.specs.Str.Parse.{digits_value};
-ghost use Rattle.definitions.specs.Reading.{Reads, span_of};
-ghost use Rattle.definitions.specs.Characters.{is_hexadecimal_digit};
-ghost use Rattle.definitions.specs.Identifiers.{character_of, past_blank, escape_at, is_escape, ident_character_at, ident_sequence_at, starts_letter, starts_identifier, identifier_at};
+ghost use Rattle.reading.specs.Reading.{Reads, span_of};
+ghost use Rattle.reading.specs.Characters.{is_hexadecimal_digit};
+ghost use Rattle.css_definitions.specs.Identifiers.{character_of, past_blank, escape_at, is_escape, ident_character_at, ident_sequence_at, starts_letter, starts_identifier, identifier_at};
 
 use crate::characters::{
     begins, first_char, is_blank, is_digit, is_hexadecimal_digit, is_ident_character,
@@ -78,7 +78,7 @@ fn past_blank(text: &str) -> &str
 }
 
 /// The character that a `\` before this text escapes, and the text after it.
-#[tactic(auto, unfolding(definitions::specs::Identifiers::escape_at))]
+#[tactic(auto, unfolding(css_definitions::specs::Identifiers::escape_at))]
 pub(crate) fn escape(text: &str) -> Option<(char, &str)>
     ensures gives { Reads (λ x. (x.0, chars x.1.now)) result (escape_at (chars text.now)) }
     ensures text { IfSome result (λ x. IsUtf8 x.1.now) }
@@ -107,7 +107,7 @@ fn is_escape(text: &str) -> bool
 }
 
 /// A character of an identifier, and the text after it.
-#[tactic(auto, unfolding(definitions::specs::Identifiers::ident_character_at))]
+#[tactic(auto, unfolding(css_definitions::specs::Identifiers::ident_character_at))]
 pub(crate) fn ident_character(text: &str) -> Option<(char, &str)>
     ensures gives { Reads (λ x. (x.0, chars x.1.now)) result (ident_character_at (chars text.now)) }
     ensures text { IfSome result (λ x. IsUtf8 x.1.now) }

@@ -2,8 +2,8 @@
 
 ghost use Rattle.std.specs.Prelude.{◌≡◌, ◌++◌, IfSome, IfOk, OnOk, codes};
 ghost use Rattle.std.specs.Str.{chars, IsUtf8};
-ghost use Rattle.definitions.specs.Reading.{Reads, past_text};
-ghost use Rattle.definitions.specs.SheetText.{IsPrepared};
+ghost use Rattle.reading.specs.Reading.{Reads, past_text};
+ghost use Rattle.css_definitions.specs.SheetText.{IsPrepared};
 ghost use Rattle.css_tokens.specs.Tokens.{past_comment_end, comment_at, hash_at, token_at, piece_at, token_from, tokens};
 ghost use Rattle.css_tokens.specs.Spans.{AreSpans};
 

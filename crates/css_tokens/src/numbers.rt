@@ -1,12 +1,11 @@
-//! Numbers, percentages and dimensions.
+//! Numbers, percentages and dimensions; and signs and digits alone, which other notations have too.
 
 ghost use Rattle.std.specs.Prelude.{◌≡◌, ◌-◌, ◌^◌, min, IfSome};
 ghost use Rattle.std.specs.Str.{chars, IsUtf8};
 ghost use Rattle.std.specs.Str.Parse.{digits_value};
-ghost use Rattle.definitions.specs.Characters.{is_digit};
-ghost use Rattle.definitions.specs.Reading.{Reads, span};
-ghost use Rattle.css_tokens.specs.Numbers.{sign_at, digits_at, saturated, fraction_at, exponent_at, number_end, after_fraction, after_digits, number_at};
-ghost use Rattle.css_tokens.specs.Counting.{counted};
+ghost use Rattle.reading.specs.Characters.{is_digit};
+ghost use Rattle.reading.specs.Reading.{Reads, span};
+ghost use Rattle.css_tokens.specs.Numbers.{sign_at, saturated, saturated_at, integer_at, fraction_at, exponent_at, number_end, after_fraction, after_digits, number_at};
 
 use crate::characters::{begins, first_char, is_digit, past_character, past_one};
 use crate::identifiers::{digit_value, past_ident_sequence, starts_identifier};
@@ -14,7 +13,7 @@ use crate::token::TokenKind;
 use plain_types::count::{COUNT_HIGH, COUNT_LOW, Count};
 
 /// Whether a `-` stands at the front, and the text after an optional sign.
-fn sign(text: &str) -> (bool, &str)
+pub fn sign(text: &str) -> (bool, &str)
     ensures gives { sign_at (chars text.now) ≡ (result.0, chars result.1.now) }
     ensures text { IsUtf8 result.1.now }
 {
@@ -48,19 +47,6 @@ fn digit_run(text: &str) -> (u64, &str)
     (number, rest)
 }
 
-/// The number of one digit or more, and the text after them.
-fn digits(text: &str) -> Option<(u64, &str)>
-    ensures gives { Reads (λ x. (x.0, chars x.1.now)) result (counted (digits_at (chars text.now))) }
-    ensures text { IfSome result (λ x. IsUtf8 x.1.now) }
-{
-    let (first, _) = first_char(text)?;
-    if is_digit(first) {
-        Some(digit_run(text))
-    } else {
-        None
-    }
-}
-
 /// The nearest count.
 fn saturated(negative: bool, number: u64) -> Count
     ensures { result ≡ saturated negative number }
@@ -70,13 +56,36 @@ fn saturated(negative: bool, number: u64) -> Count
     value.clamp(i128::from(COUNT_LOW), i128::from(COUNT_HIGH)) as Count
 }
 
+/// The count that is nearest to the number of one digit or more with this sign, and the text after them.
+#[tactic(auto, using(crate::proofs::Digits::saturated_digits))]
+pub fn digits(negative: bool, text: &str) -> Option<(Count, &str)>
+    ensures gives { Reads (λ x. (x.0, chars x.1.now)) result (saturated_at negative (chars text.now)) }
+    ensures text { IfSome result (λ x. IsUtf8 x.1.now) }
+{
+    let (first, _) = first_char(text)?;
+    if !is_digit(first) {
+        return None;
+    }
+    let (number, rest) = digit_run(text);
+    Some((saturated(negative, number), rest))
+}
+
+/// The count that is nearest to an integer: an optional sign and one digit or more; and the text after it.
+pub fn integer(text: &str) -> Option<(Count, &str)>
+    ensures gives { Reads (λ x. (x.0, chars x.1.now)) result (integer_at (chars text.now)) }
+    ensures text { IfSome result (λ x. IsUtf8 x.1.now) }
+{
+    let (negative, start) = sign(text);
+    digits(negative, start)
+}
+
 /// The text after a point and digits.
 fn fraction(text: &str) -> Option<&str>
     ensures gives { Reads (λ x. chars x.now) result (fraction_at (chars text.now)) }
     ensures text { IfSome result (λ x. IsUtf8 x.now) }
 {
     let rest = past_character('.', text)?;
-    let (_, rest) = digits(rest)?;
+    let (_, rest) = digits(false, rest)?;
     Some(rest)
 }
 
@@ -88,7 +97,7 @@ fn exponent(text: &str) -> Option<&str>
     let (first, after) = first_char(text)?;
     if first == 'e' || first == 'E' {
         let (_, rest) = sign(after);
-        let (_, rest) = digits(rest)?;
+        let (_, rest) = digits(false, rest)?;
         Some(rest)
     } else {
         None
@@ -119,13 +128,13 @@ fn after_fraction(whole: bool, value: Count, text: &str) -> (TokenKind, &str)
     }
 }
 
-fn after_digits(negative: bool, number: u64, text: &str) -> (TokenKind, &str)
-    ensures gives { after_digits negative number (chars text.now) ≡ (result.0, chars result.1.now) }
+fn after_digits(value: Count, text: &str) -> (TokenKind, &str)
+    ensures gives { after_digits value (chars text.now) ≡ (result.0, chars result.1.now) }
     ensures text { IsUtf8 result.1.now }
 {
     match fraction(text) {
         Some(rest) => after_fraction(false, 0, rest),
-        None => after_fraction(true, saturated(negative, number), text),
+        None => after_fraction(true, value, text),
     }
 }
 
@@ -136,8 +145,8 @@ pub(crate) fn number(text: &str) -> Option<(TokenKind, &str)>
     ensures text { IfSome result (λ x. IsUtf8 x.1.now) }
 {
     let (negative, start) = sign(text);
-    if let Some((number, rest)) = digits(start) {
-        return Some(after_digits(negative, number, rest));
+    if let Some((value, rest)) = digits(negative, start) {
+        return Some(after_digits(value, rest));
     }
     let rest = fraction(start)?;
     Some(after_fraction(false, 0, rest))

@@ -2,7 +2,7 @@
 
 ghost use Rattle.std.specs.Prelude.{◌≡◌, ◌++◌, IfOk, OnOk};
 ghost use Rattle.std.specs.Str.{chars, IsUtf8};
-ghost use Rattle.definitions.specs.SheetText.{filtered_character, left_before, past_mark, prepared, IsPrepared};
+ghost use Rattle.css_definitions.specs.SheetText.{filtered_character, left_before, past_mark, prepared, IsPrepared};
 
 use crate::characters::{begins, first_char};
 use plain_types::memory::Memory;

@@ -2,7 +2,7 @@
 
 ghost use Rattle.std.specs.Prelude.{◌≡◌, ◌∷◌, ◌++◌, [], IfSome, IfOk, OnOk};
 ghost use Rattle.std.specs.Str.{chars, IsUtf8};
-ghost use Rattle.definitions.specs.Reading.{Reads, run_at};
+ghost use Rattle.reading.specs.Reading.{Reads, run_at};
 ghost use Rattle.css_tokens.specs.Strings.{string_escape_at, string_piece_at, string_at, string_end, kept};
 
 use crate::characters::{first_char, is_quote};

@@ -1,8 +1,11 @@
 //! The tokens and spans of texts, worked out by hand from CSS Syntax 3, 4.3.
 
 use crate::lexer::tokens;
+use crate::numbers::integer;
 use crate::sheet_text::prepare_text;
 use crate::token::{Token, TokenKind};
+use crate::token_reading::{close, delimiter, function, ident, skip_whitespace};
+use plain_types::count::{COUNT_HIGH, COUNT_LOW, Count};
 use std::alloc::{AllocError, Global};
 use std::test::Fail;
 
@@ -103,8 +106,8 @@ static NUMBERS: [(&str, &str); 51] = [
     ("007", "[integer 7 0 3]"),
     ("+0", "[integer 0 0 2]"),
     ("2147483647", "[integer 2147483647 0 10]"),
-    ("2147483648", "[integer 2147483647 0 10]"),
-    ("-2147483649", "[integer -2147483648 0 11]"),
+    ("2147483648", "[integer 2147483648 0 10]"),
+    ("-2147483649", "[integer -2147483649 0 11]"),
     ("1.5e3", "[number 0 0 5]"),
     ("1E3", "[number 0 0 3]"),
     ("1e-5", "[number 0 0 4]"),
@@ -139,10 +142,13 @@ static NUMBERS: [(&str, &str); 51] = [
     ("1.", "[integer 1 0 1][sign . 1 2]"),
     ("+", "[sign + 0 1]"),
     ("+a", "[sign + 0 1][word a 1 2]"),
-    ("99999999999", "[integer 2147483647 0 11]"),
-    ("-99999999999", "[integer -2147483648 0 12]"),
-    ("-2147483648", "[integer -2147483648 0 11]"),
-    ("99999999999999999999999", "[integer 2147483647 0 23]"),
+    ("99999999999", "[integer 99999999999 0 11]"),
+    ("-99999999999", "[integer -99999999999 0 12]"),
+    ("9223372036854775808", "[integer 9223372036854775807 0 19]"),
+    (
+        "-9223372036854775809",
+        "[integer -9223372036854775808 0 20]",
+    ),
     ("1e", "[dimension 0 2]"),
     ("1ex", "[dimension 0 3]"),
     ("1e-", "[dimension 0 3]"),
@@ -272,6 +278,18 @@ static ADDRESSES_AND_SIGNS: [(&str, &str); 48] = [
     ("\u{feff}\u{feff}a", "[word \u{feff}a 0 4]"),
 ];
 
+/// Integers at the ends of counts and past them.
+static ENDS_OF_COUNTS: [(&str, Count); 8] = [
+    ("9223372036854775806", COUNT_HIGH - 1),
+    ("9223372036854775807", COUNT_HIGH),
+    ("9223372036854775808", COUNT_HIGH),
+    ("+99999999999999999999999", COUNT_HIGH),
+    ("-9223372036854775807", COUNT_LOW + 1),
+    ("-9223372036854775808", COUNT_LOW),
+    ("-9223372036854775809", COUNT_LOW),
+    ("-99999999999999999999999", COUNT_LOW),
+];
+
 /// The token as a word and its value.
 fn described(alloc: Global, kind: &TokenKind) -> Result<String, AllocError> {
     match kind {
@@ -344,6 +362,37 @@ fn numbers(rt: HostRuntime) -> Result<(), Fail> {
     for (text, expected) in &NUMBERS {
         assert!(rt; has_tokens(rt.alloc(), text, expected)?, "{text}");
     }
+    Ok(())
+}
+
+#[test]
+fn integers_saturate(rt: HostRuntime) -> Result<(), Fail> {
+    for (text, expected) in &ENDS_OF_COUNTS {
+        assert_eq!(rt; integer(text), Some((*expected, "")), "{text}");
+    }
+    Ok(())
+}
+
+/// What stands between `f(` and `)`, where one sign stands there.
+fn past_call(tokens: &[Token]) -> Option<&[Token]> {
+    let (_, inside) = function(tokens)?;
+    close(')', delimiter(';', inside)?)
+}
+
+#[test]
+fn tokens_are_read_from_the_front(rt: HostRuntime) -> Result<(), Fail> {
+    let text = prepare_text(rt.alloc(), " a f(;) f(;")?;
+    let found = tokens(rt.alloc(), text.as_str())?;
+    let all = found.as_slice();
+    assert!(rt; ident(all).is_none());
+    let Some((name, after)) = ident(skip_whitespace(all)) else {
+        return Err(Fail::from("no identifier"));
+    };
+    assert_eq!(rt; name.as_str(), "a");
+    let closed = past_call(skip_whitespace(after));
+    assert_eq!(rt; closed.map(<[Token]>::len), Some(3));
+    let open = past_call(skip_whitespace(closed.unwrap_or(all)));
+    assert_eq!(rt; open.map(<[Token]>::len), Some(0));
     Ok(())
 }
 

@@ -2,9 +2,9 @@
 
 ghost use Rattle.std.specs.Prelude.{◌≡◌, IfSome, IfOk};
 ghost use Rattle.std.specs.Str.{chars, IsUtf8};
-ghost use Rattle.definitions.specs.Reading.{Reads, run_at};
-ghost use Rattle.definitions.specs.SheetCharacters.{is_non_printable};
-ghost use Rattle.css_tokens.specs.Urls.{is_url_character, url_character_at, bad_url_character_at, past_bad_url, url_end, url_at, begins_quote, function_of, named_of, named_at, at_keyword_at};
+ghost use Rattle.reading.specs.Reading.{Reads, run_at};
+ghost use Rattle.css_definitions.specs.SheetCharacters.{is_non_printable};
+ghost use Rattle.css_tokens.specs.Urls.{is_url_character, url_character_at, bad_url_character_at, past_bad_url, url_end, url_at, begins_quote, function_or_url, named_of, named_at, at_keyword_at};
 
 use crate::characters::{
     begins, first_char, is_blank, is_quote, past_blanks, past_character, past_one,
@@ -126,7 +126,7 @@ fn begins_quote(text: &str) -> bool
 
 /// The function or address of this name, and the text after it, which begins after the `(`.
 fn function(alloc: Global, name: Text, text: &str) -> Result<(TokenKind, &str), Memory>
-    ensures gives { IfOk result (λ x. function_of name (chars text.now) ≡ (x.0, chars x.1.now)) }
+    ensures gives { IfOk result (λ x. function_or_url name (chars text.now) ≡ (x.0, chars x.1.now)) }
     ensures text { IfOk result (λ x. IsUtf8 x.1.now) }
 {
     if is_word(name.as_str(), "url") && !begins_quote(past_blanks(text)) {

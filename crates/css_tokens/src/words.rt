@@ -2,7 +2,7 @@
 
 ghost use Rattle.std.specs.Prelude.{◌≡◌, IsTrue};
 ghost use Rattle.std.specs.Str.{chars};
-ghost use Rattle.definitions.specs.Words.{is_word, is_ascii};
+ghost use Rattle.css_definitions.specs.Words.{is_word, is_ascii};
 
 /// Whether the text is this word of ASCII characters, in any ASCII case.
 pub fn is_word(text: &str, word: &str) -> bool

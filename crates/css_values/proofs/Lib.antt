@@ -1,4 +1,5 @@
 pub mod Listing
 pub mod PartLists
 pub mod Shortening
+pub mod Solid
 pub mod Words

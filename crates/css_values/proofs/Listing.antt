@@ -1,7 +1,7 @@
 -- A comma list: the first piece, and those after commas.
 use Rattle.std.proofs.Common.{◌≡◌, List, [], ◌∷◌, ◌++◌, Option, Some, None, refl, ◌∙◌}
-use Rattle.definitions.specs.Reading.{run_at}
-use Rattle.definitions.proofs.Runs.{Goes, Goes-start, Goes-more, Goes-read, Shortens}
+use Rattle.reading.specs.Reading.{run_at}
+use Rattle.reading.proofs.Runs.{Goes, Goes-start, Goes-more, Goes-read, Shortens}
 
 -- the loop has come to the rest, with these pieces after the first
 pub record Lists {E X : Type 0} (piece_at : List E → Option (X × List E)) (first : X) (whole : List E) (all : List X) (rest : List E) : Type 0 where

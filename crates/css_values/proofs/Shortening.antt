@@ -2,10 +2,11 @@
 use Rattle.std.proofs.Common.{ℕ, Bool, List, [], ◌∷◌, Option, Some, None, refl, ℤ}
 use Rattle.std.specs.Prelude.{codes}
 use Rattle.plain_types.specs.declared.style_ref.System.{System}
-use Rattle.definitions.specs.Reading.{◌then◌, run_at}
-use Rattle.definitions.proofs.Following.{Follows, here, later, left, nothing, ended, none_ends, Follows-trans, Leaves, Ends, leave_if, end_if, leave_otherwise, leave_then, end_then, leave_more, end_more, leave_within, TakesOne, takes_leaves, run_follows}
+use Rattle.reading.specs.Reading.{◌then◌, run_at}
+use Rattle.reading.proofs.Following.{Follows, here, later, left, nothing, ended, none_ends, Follows-trans, Leaves, Ends, leave_if, end_if, leave_otherwise, leave_then, end_then, leave_more, end_more, leave_within, TakesOne, takes_leaves, run_follows}
 use Rattle.css_tokens.specs.declared.token.TokenKind.{TokenKind}
-use Rattle.css_values.specs.Parts.{one_at, past_one_that, is_sign, is_function, is_keyword, past_comma, past_keyword, past_function, past_close, word_of, string_of, string_at, integer_of, integer_at, natural_of, natural_at, name_of, name_at, style_name_at, symbol_of, symbol_at, optional, after_comma_at}
+use Rattle.css_tokens.specs.TokenReading.{is_sign, is_function, is_keyword, ident_of, string_of, integer_of, optional}
+use Rattle.css_values.specs.Parts.{one_at, past_one_that, past_comma, past_keyword, past_function, past_close, string_at, integer_at, natural_of, natural_at, name_of, name_at, style_name_at, symbol_of, symbol_at, after_comma_at}
 use Rattle.css_values.specs.Styles.{symbols_type_of, symbols_system_at, anonymous, strings_at, symbols_at, style_at, last_style_at, list_type_at}
 use Rattle.css_values.specs.Lists.{reversed_at, reset_at, counter_op_at, part_at}
 use Rattle.css_values.specs.Contents.{pair_at, quote_of, attr_name_at, attr_at, attr_url_at, url_token_of, url_token_at, url_function_at, address_at, url_at, target_at, name_between_at, counter_at, counters_at, target_counter_at, target_counters_at, part_of, last_part_at, target_text_at, item_at}
@@ -137,7 +138,7 @@ unfolding pair_at
 pair_takes = record { none = refl; leaves = λ k ks. leave_then (string_at (k ∷ ks)) _ (one_leaves string_of k ks) (λ first p. leave_then (string_at first.1) _ (leave_more _ p (one_within string_of first.1)) (λ second q. left _ q)) }
 
 attr_name_leaves : (k : TokenKind) (ks : List TokenKind) → Leaves ks (attr_name_at (k ∷ ks))
-attr_name_leaves k ks = end_then (past_function (codes "attr") (k ∷ ks)) _ (function_ends (codes "attr") k ks) (λ rest p. leave_more _ p (one_within word_of rest))
+attr_name_leaves k ks = end_then (past_function (codes "attr") (k ∷ ks)) _ (function_ends (codes "attr") k ks) (λ rest p. leave_more _ p (one_within ident_of rest))
 
 attr_leaves : (k : TokenKind) (ks : List TokenKind) → Leaves ks (attr_at (k ∷ ks))
 unfolding attr_at

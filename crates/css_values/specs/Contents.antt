@@ -13,11 +13,12 @@ use Rattle.plain_types.specs.declared.content.Url.TheVariants as url
 use Rattle.plain_types.specs.declared.style.Pair.{Pair}
 use Rattle.plain_types.specs.declared.style.Quotes.{Quotes}
 use Rattle.plain_types.specs.declared.style.Quotes.TheVariants as quotes
-use Rattle.definitions.specs.Reading.{◌then◌, ◌otherwise◌}
-use Rattle.definitions.specs.Words.{is_word}
+use Rattle.reading.specs.Reading.{◌then◌, ◌otherwise◌}
+use Rattle.css_definitions.specs.Words.{is_word}
 use Rattle.css_tokens.specs.declared.token.TokenKind.{TokenKind}
 use Rattle.css_tokens.specs.declared.token.TokenKind.TheVariants as kind
-use Rattle.css_values.specs.Parts.{one_at, word_of, word_at, string_at, name_at, past_keyword, past_function, past_comma, past_close, is_alone, all_of}
+use Rattle.css_tokens.specs.TokenReading.{ident_of}
+use Rattle.css_values.specs.Parts.{one_at, word_at, string_at, name_at, past_keyword, past_function, past_comma, past_close, is_alone, all_of}
 use Rattle.css_values.specs.Styles.{last_style_at}
 
 -- Quotes.
@@ -41,7 +42,7 @@ quote_word word =
     else (if is_word word (codes "no-close-quote") then Some quote.NoClose else None)))
 
 abbrev pub quote_of : TokenKind → Option QuoteKind
-quote_of kind = word_of kind then quote_word
+quote_of kind = ident_of kind then quote_word
 
 -- Attributes, counters and targets.
 
@@ -121,7 +122,7 @@ part_word word =
     else (if is_word word (codes "after") then Some part.After else None))
 
 abbrev pub part_of : TokenKind → Option Part
-part_of kind = word_of kind then part_word
+part_of kind = ident_of kind then part_word
 
 -- `[, <part> ]?`, the last part of the function: `content` where it is missing
 unfoldable pub last_part_at : List TokenKind → Option (Part × List TokenKind)

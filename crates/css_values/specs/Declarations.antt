@@ -7,10 +7,11 @@ use Rattle.plain_types.specs.declared.declaration.Said.TheVariants as said
 use Rattle.plain_types.specs.declared.style.Display.{Display}
 use Rattle.plain_types.specs.declared.style.Display.TheVariants as display
 use Rattle.plain_types.specs.declared.style.ListType.{ListType}
-use Rattle.definitions.specs.Reading.{◌then◌, ◌otherwise◌}
-use Rattle.definitions.specs.Words.{is_word}
+use Rattle.reading.specs.Reading.{◌then◌, ◌otherwise◌}
+use Rattle.css_definitions.specs.Words.{is_word}
 use Rattle.css_tokens.specs.declared.token.TokenKind.{TokenKind}
-use Rattle.css_values.specs.Parts.{one_at, word_of, is_among, is_alone, alone}
+use Rattle.css_tokens.specs.TokenReading.{ident_of}
+use Rattle.css_values.specs.Parts.{one_at, is_among, is_alone, alone}
 use Rattle.css_values.specs.Styles.{list_type_at}
 use Rattle.css_values.specs.Lists.{resets, increments, assigns, list_style}
 use Rattle.css_values.specs.Contents.{quotes_value, content_value}
@@ -30,7 +31,7 @@ display_word word =
     else (if is_among plain_displays word then Some display.Plain else None))
 
 abbrev pub display_of : TokenKind → Option Display
-display_of kind = word_of kind then display_word
+display_of kind = ident_of kind then display_word
 
 abbrev pub display_value : List TokenKind → Option Display
 display_value kinds = alone (one_at display_of kinds)

@@ -6,10 +6,11 @@ use Rattle.plain_types.specs.declared.counter_style.Descriptor.TheVariants as de
 use Rattle.plain_types.specs.declared.counter_style.Weight.{Weight}
 use Rattle.plain_types.specs.declared.style_ref.System.{System}
 use Rattle.plain_types.specs.declared.style_ref.System.TheVariants as system
-use Rattle.definitions.specs.Reading.{◌then◌, ◌otherwise◌}
-use Rattle.definitions.specs.Words.{is_word}
+use Rattle.reading.specs.Reading.{◌then◌, ◌otherwise◌}
+use Rattle.css_definitions.specs.Words.{is_word}
 use Rattle.css_tokens.specs.declared.token.TokenKind.{TokenKind}
-use Rattle.css_values.specs.Parts.{one_at, word_of, is_alone, past_keyword, integer_at, natural_at, symbol_at, style_name_at, optional, only, alone, all_of, comma_list}
+use Rattle.css_tokens.specs.TokenReading.{ident_of, optional, only}
+use Rattle.css_values.specs.Parts.{one_at, is_alone, past_keyword, integer_at, natural_at, symbol_at, style_name_at, alone, all_of, comma_list}
 
 -- 3.1: `cyclic | numeric | alphabetic | symbolic | additive`
 abbrev pub system_word : List ℕ → Option System
@@ -21,7 +22,7 @@ system_word word =
     else (if is_word word (codes "additive") then Some system.Additive else None))))
 
 abbrev pub system_of : TokenKind → Option System
-system_of kind = word_of kind then system_word
+system_of kind = ident_of kind then system_word
 
 abbrev pub plain_system_at : List TokenKind → Option (System × List TokenKind)
 plain_system_at kinds = one_at system_of kinds

@@ -1,25 +1,22 @@
 -- The parts of which values are made: CSS Values 4. By its section 2.5 Blanks may stand between all of them
 -- and mean nothing, so values are read from the kinds of the tokens without Blanks.
-use Rattle.std.specs.Prelude.{ℕ, Bool, true, false, ◌&&◌, not, ◌==◌, if◌then◌else◌, List, [], ◌∷◌, Option, Some, None, codes, ℤ, pos, int_lt}
+use Rattle.std.specs.Prelude.{ℕ, Bool, true, false, ◌&&◌, not, if◌then◌else◌, List, [], ◌∷◌, Option, Some, None, codes, ℤ, pos, int_lt}
 use Rattle.std.specs.List.{list_any}
 use Rattle.plain_types.specs.StyleNames.{style_name}
-use Rattle.definitions.specs.Punctuation.{comma, right_parenthesis}
-use Rattle.definitions.specs.Reading.{◌then◌, run_at}
-use Rattle.definitions.specs.Words.{is_word}
+use Rattle.reading.specs.Punctuation.{comma, right_parenthesis}
+use Rattle.reading.specs.Reading.{◌then◌, run_at}
+use Rattle.css_definitions.specs.Words.{is_word}
+use Rattle.css_tokens.specs.TokenReading.{is_whitespace, is_sign, is_keyword, is_function, ident_of, string_of, integer_of, only}
 use Rattle.css_tokens.specs.declared.token.Token.{Token}
 use Rattle.css_tokens.specs.declared.token.TokenKind.{TokenKind}
 use Rattle.css_tokens.specs.declared.token.TokenKind.TheVariants as kind
 
 -- Tokens.
 
-abbrev pub is_blank_kind : TokenKind → Bool
-is_blank_kind kind.Blank = true
-is_blank_kind _ = false
-
 -- the kinds of the tokens, without Blanks
 unfoldable pub solid : List Token → List TokenKind
 solid [] = []
-solid (token ∷ tokens) = if is_blank_kind token.kind then solid tokens else token.kind ∷ solid tokens
+solid (token ∷ tokens) = if is_whitespace token.kind then solid tokens else token.kind ∷ solid tokens
 
 -- what the first token holds, where it holds such a thing
 abbrev pub one_at : {X : Type 0} → (TokenKind → Option X) → List TokenKind → Option (X × List TokenKind)
@@ -30,19 +27,6 @@ one_at held (first ∷ rest) = held first then λ x. Some (x, rest)
 abbrev pub past_one_that : (TokenKind → Bool) → List TokenKind → Option (List TokenKind)
 past_one_that passes [] = None
 past_one_that passes (first ∷ rest) = if passes first then Some rest else None
-
-abbrev pub is_sign : ℕ → TokenKind → Bool
-is_sign wanted (kind.Sign c) = c == wanted
-is_sign wanted _ = false
-
--- 4.1: the identifier is this keyword, in any ASCII case
-abbrev pub is_keyword : List ℕ → TokenKind → Bool
-is_keyword word (kind.Word name) = is_word name word
-is_keyword word _ = false
-
-abbrev pub is_function : List ℕ → TokenKind → Bool
-is_function word (kind.Function name) = is_word name word
-is_function word _ = false
 
 abbrev pub past_comma : List TokenKind → Option (List TokenKind)
 past_comma kinds = past_one_that (is_sign comma) kinds
@@ -60,24 +44,11 @@ past_close (first ∷ rest) = if is_sign right_parenthesis first then Some rest 
 
 -- Names, strings and integers.
 
-abbrev pub word_of : TokenKind → Option (List ℕ)
-word_of (kind.Word name) = Some name
-word_of _ = None
-
 abbrev pub word_at : List TokenKind → Option (List ℕ × List TokenKind)
-word_at kinds = one_at word_of kinds
-
-abbrev pub string_of : TokenKind → Option (List ℕ)
-string_of (kind.Chars value) = Some value
-string_of _ = None
+word_at kinds = one_at ident_of kinds
 
 abbrev pub string_at : List TokenKind → Option (List ℕ × List TokenKind)
 string_at kinds = one_at string_of kinds
-
--- 5.2: an integer is a number without point and exponent
-abbrev pub integer_of : TokenKind → Option ℤ
-integer_of (kind.Number true value) = Some value
-integer_of _ = None
 
 abbrev pub integer_at : List TokenKind → Option (ℤ × List TokenKind)
 integer_at kinds = one_at integer_of kinds
@@ -123,16 +94,6 @@ abbrev pub symbol_at : List TokenKind → Option (List ℕ × List TokenKind)
 symbol_at kinds = one_at symbol_of kinds
 
 -- Combinations.
-
--- a part that may be missing
-abbrev pub optional : {X : Type 0} → Option (X × List TokenKind) → List TokenKind → Option X × List TokenKind
-optional None kinds = (None, kinds)
-optional (Some read) kinds = (Some read.0, read.1)
-
--- what was read, where nothing is left after it
-abbrev pub only : {X : Type 0} → X → List TokenKind → Option X
-only x [] = Some x
-only x (_ ∷ _) = None
 
 abbrev pub alone : {X : Type 0} → Option (X × List TokenKind) → Option X
 alone read = read then λ x. only x.0 x.1

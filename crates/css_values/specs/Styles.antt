@@ -8,10 +8,11 @@ use Rattle.plain_types.specs.declared.style_ref.StyleRef.{StyleRef}
 use Rattle.plain_types.specs.declared.style_ref.StyleRef.TheVariants as style_ref
 use Rattle.plain_types.specs.declared.style_ref.System.{System}
 use Rattle.plain_types.specs.declared.style_ref.System.TheVariants as system
-use Rattle.definitions.specs.Reading.{◌then◌, ◌otherwise◌, run_at}
-use Rattle.definitions.specs.Words.{is_word}
+use Rattle.reading.specs.Reading.{◌then◌, ◌otherwise◌, run_at}
+use Rattle.css_definitions.specs.Words.{is_word}
 use Rattle.css_tokens.specs.declared.token.TokenKind.{TokenKind}
-use Rattle.css_values.specs.Parts.{one_at, word_of, string_at, past_keyword, past_function, past_comma, past_close, style_name_at, optional}
+use Rattle.css_tokens.specs.TokenReading.{ident_of, optional}
+use Rattle.css_values.specs.Parts.{one_at, string_at, past_keyword, past_function, past_comma, past_close, style_name_at}
 
 -- CSS Counter Styles 3, 4, `<symbols-type>`: `cyclic | numeric | alphabetic | symbolic | fixed`; `fixed`
 -- begins with 1 there
@@ -24,7 +25,7 @@ symbols_type word =
     else (if is_word word (codes "fixed") then Some (system.Fixed (pos 1)) else None))))
 
 abbrev pub symbols_type_of : TokenKind → Option System
-symbols_type_of kind = word_of kind then symbols_type
+symbols_type_of kind = ident_of kind then symbols_type
 
 abbrev pub or_symbolic : Option System × List TokenKind → System × List TokenKind
 or_symbolic type = (unwrap_or type.0 system.Symbolic, type.1)

@@ -1,7 +1,8 @@
 //! What values of every kind have in common.
 
 ghost use Rattle.std.specs.Prelude.{◌≡◌};
-ghost use Rattle.css_values.specs.Parts.{solid, only, some_of, alone};
+ghost use Rattle.css_tokens.specs.TokenReading.{only};
+ghost use Rattle.css_values.specs.Parts.{solid, some_of, alone};
 
 use crate::parts::is_nothing_left;
 use css_tokens::token::Token;

@@ -2,7 +2,7 @@
 
 ghost use Rattle.std.specs.Prelude.{◌≡◌, IfOk};
 ghost use Rattle.std.specs.Str.{chars};
-ghost use Rattle.definitions.specs.Reading.{Reads, run_at};
+ghost use Rattle.reading.specs.Reading.{Reads, run_at};
 ghost use Rattle.css_values.specs.Parts.{solid, one_at};
 ghost use Rattle.css_values.specs.Contents.{quote_word, quote_of, counter_at, counters_at, item_at, content_value};
 

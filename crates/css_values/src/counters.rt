@@ -1,7 +1,7 @@
 //! The values of the counter properties.
 
 ghost use Rattle.std.specs.Prelude.{◌≡◌, IfOk};
-ghost use Rattle.definitions.specs.Reading.{Reads, run_at};
+ghost use Rattle.reading.specs.Reading.{Reads, run_at};
 ghost use Rattle.css_values.specs.Parts.{solid};
 ghost use Rattle.css_values.specs.Lists.{none_or, reset_value, reversed_at, reset_at, resets, counter_op_at};
 

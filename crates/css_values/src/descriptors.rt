@@ -2,7 +2,7 @@
 
 ghost use Rattle.std.specs.Prelude.{◌≡◌, ◌∷◌, IfOk};
 ghost use Rattle.std.specs.Str.{chars};
-ghost use Rattle.definitions.specs.Reading.{Reads, run_at};
+ghost use Rattle.reading.specs.Reading.{Reads, run_at};
 ghost use Rattle.css_values.specs.Parts.{solid, symbol_at, after_comma_at};
 ghost use Rattle.css_values.specs.Descriptors.{system_word, plain_system_at, system_at, optional_symbol_at, negative_value, bound_at, are_in_order, bounds_at, range_value, weight_at, pad_value, is_below, are_falling, additive_value, symbol_value, system_value, fallback_value, symbols_value, described};
 

@@ -2,7 +2,7 @@
 
 ghost use Rattle.std.specs.Prelude.{◌≡◌, ◌∷◌, ◌++◌, [], IfOk, OnOk, List};
 ghost use Rattle.std.specs.List.{count_by};
-ghost use Rattle.definitions.specs.Reading.{Reads, run_at};
+ghost use Rattle.reading.specs.Reading.{Reads, run_at};
 ghost use Rattle.css_values.specs.Parts.{solid};
 ghost use Rattle.css_values.specs.Lists.{part_at, is_position, is_nothing, is_type, fits, given_type, default_type, type_of, list_style};
 

@@ -5,61 +5,24 @@ ghost use Rattle.std.specs.Prelude.{◌≡◌, ◌∷◌, [], List, ℕ, map, Ma
 ghost use Rattle.std.specs.Borrow.{Bor};
 ghost use Rattle.std.specs.List.{list_all};
 ghost use Rattle.std.specs.Str.{chars};
-ghost use Rattle.definitions.specs.Reading.{Reads};
-ghost use Rattle.definitions.specs.Words.{is_ascii};
-ghost use Rattle.css_values.specs.Parts.{solid, is_sign, is_keyword, is_function, past_comma, past_keyword, past_function, past_close, word_at, string_at, integer_at, natural_at, is_among, wide_words, is_counter_name, name_at, symbol_at, optional, is_nothing_left, is_alone};
+ghost use Rattle.reading.specs.Reading.{Reads};
+ghost use Rattle.css_definitions.specs.Words.{is_ascii};
+ghost use Rattle.css_tokens.specs.TokenReading.{is_sign, is_keyword, is_function, optional};
+ghost use Rattle.css_values.specs.Parts.{solid, past_comma, past_keyword, past_function, past_close, word_at, string_at, integer_at, natural_at, is_among, wide_words, is_counter_name, name_at, symbol_at, is_nothing_left, is_alone};
 
 use css_tokens::token::{Token, TokenKind};
+use css_tokens::token_reading::{is_function, is_keyword, is_sign, skip_whitespace};
 use css_tokens::words::is_word;
 use plain_types::count::Count;
 use plain_types::text::Text;
 
 /// The first token that is no Blank.
-#[tactic(auto, unfolding(crate::specs::Parts::solid))]
+#[tactic(auto, using(crate::proofs::Solid::none_solid, crate::proofs::Solid::first_solid))]
 pub(crate) fn next(tokens: &[Token]) -> Option<(&TokenKind, &[Token])>
     ensures { MatchOption result (solid tokens.now ≡ []) (λ x. solid tokens.now ≡ x.0.now ∷ solid x.1.now) }
 {
-    let mut rest = tokens;
-    'blanks: while let Some((token, after)) = rest.split_first() {
-        match &token.kind {
-            TokenKind::Blank => {
-                rest = after;
-            }
-            kind => {
-                return Some((kind, after));
-            }
-        }
-    }
-    None
-}
-
-fn is_sign(wanted: char, kind: &TokenKind) -> bool
-    ensures { result ≡ is_sign wanted kind.now }
-{
-    match kind {
-        TokenKind::Sign(c) => *c == wanted,
-        _ => false,
-    }
-}
-
-fn is_keyword(word: &str, kind: &TokenKind) -> bool
-    requires { IsTrue (is_ascii word.now) }
-    ensures { result ≡ is_keyword word.now kind.now }
-{
-    match kind {
-        TokenKind::Word(name) => is_word(name.as_str(), word),
-        _ => false,
-    }
-}
-
-fn is_function(word: &str, kind: &TokenKind) -> bool
-    requires { IsTrue (is_ascii word.now) }
-    ensures { result ≡ is_function word.now kind.now }
-{
-    match kind {
-        TokenKind::Function(name) => is_word(name.as_str(), word),
-        _ => false,
-    }
+    let (token, rest) = skip_whitespace(tokens).split_first()?;
+    Some((&token.kind, rest))
 }
 
 pub(crate) fn past_comma(tokens: &[Token]) -> Option<&[Token]>

@@ -1,7 +1,7 @@
 //! The value of `quotes`.
 
 ghost use Rattle.std.specs.Prelude.{◌≡◌, IfOk};
-ghost use Rattle.definitions.specs.Reading.{Reads, run_at};
+ghost use Rattle.reading.specs.Reading.{Reads, run_at};
 ghost use Rattle.css_values.specs.Parts.{solid};
 ghost use Rattle.css_values.specs.Contents.{pair_at, quotes_value};
 

@@ -3,7 +3,7 @@
 ghost use Rattle.std.specs.Prelude.{◌≡◌, IfOk, codes};
 ghost use Rattle.std.specs.Str.{chars};
 ghost use Rattle.plain_types.specs.declared.style_ref.StyleRef.TheVariants as style_ref;
-ghost use Rattle.definitions.specs.Reading.{Reads, run_at};
+ghost use Rattle.reading.specs.Reading.{Reads, run_at};
 ghost use Rattle.css_values.specs.Parts.{solid, string_at, style_name_at};
 ghost use Rattle.css_values.specs.Styles.{symbols_type, symbols_system_at, least_symbols, anonymous, symbols_at, style_at, last_style_at, list_type_at, decimal};
 

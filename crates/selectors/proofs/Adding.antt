@@ -1,8 +1,8 @@
 -- What a loop over pieces keeps that appends them to a list.
 use Rattle.std.proofs.Common.{◌≡◌, List, [], ◌∷◌, ◌++◌, Option, Some, None, refl, sym, ap, ◌∙◌, append_assoc}
 use Rattle.std.proofs.lemmas.List.{append-nil}
-use Rattle.definitions.specs.Reading.{run_at}
-use Rattle.definitions.proofs.Runs.{Goes, Goes-start, Goes-more, Goes-read, Shortens}
+use Rattle.reading.specs.Reading.{run_at}
+use Rattle.reading.proofs.Runs.{Goes, Goes-start, Goes-more, Goes-read, Shortens}
 
 -- the loop has come to the rest, and the list has the pieces behind what was there
 pub record Adds {E X : Type 0} (piece_at : List E → Option (X × List E)) (front : List X) (whole : List E) (all : List X) (rest : List E) : Type 0 where

@@ -8,10 +8,10 @@ use Rattle.plain_types.specs.declared.selector_parts.Join.{Join}
 use Rattle.plain_types.specs.declared.selector_parts.Join.TheVariants as join
 use Rattle.plain_types.specs.declared.selector_parts.PseudoElement.{PseudoElement}
 use Rattle.plain_types.specs.declared.selector_parts.PseudoElement.TheVariants as pseudo
-use Rattle.definitions.proofs.Runs.{Run, stop, more, run_is}
+use Rattle.reading.proofs.Runs.{Run, stop, more, run_is}
 use Rattle.css_tokens.specs.declared.token.Token.{Token}
-use Rattle.css_values.specs.Parts.{is_blank_kind}
-use Rattle.selectors.specs.Parts.{function_at, held_at, past_sign, past_close, past_whitespace, spaced_at, after_comma_at, comma_list_at}
+use Rattle.css_tokens.specs.TokenReading.{is_whitespace, function_at, held_at, past_delimiter, past_close, skip_whitespace}
+use Rattle.selectors.specs.Parts.{spaced_at, after_comma_at, comma_list_at}
 use Rattle.selectors.specs.declared.an_plus_b.AnPlusB.{AnPlusB}
 use Rattle.selectors.specs.declared.pseudo_classes.Nesting.{Nesting}
 use Rattle.selectors.specs.declared.pseudo_classes.Siblings.{Siblings}
@@ -37,19 +37,19 @@ module _ {X : Type 0} (item_at : List Token → Option (X × List Token)) where
     pub run : Run (after_comma_at item_at) mid others end
     pub all_is : all ≡ first ∷ others
 
-  pub spaced_is : (ts after : List Token) (x : X) → item_at (past_whitespace ts) ≡ Some (x, after) → spaced_at item_at ts ≡ Some (x, past_whitespace after)
+  pub spaced_is : (ts after : List Token) (x : X) → item_at (skip_whitespace ts) ≡ Some (x, after) → spaced_at item_at ts ≡ Some (x, skip_whitespace after)
   spaced_is ts after x e = rw e refl
 
-  pub Listed-last : (ts after : List Token) (x : X) → item_at (past_whitespace ts) ≡ Some (x, after) → past_sign 44 (past_whitespace after) ≡ None → Listed ts (x ∷ []) (past_whitespace after)
+  pub Listed-last : (ts after : List Token) (x : X) → item_at (skip_whitespace ts) ≡ Some (x, after) → past_delimiter 44 (skip_whitespace after) ≡ None → Listed ts (x ∷ []) (skip_whitespace after)
   unfolding after_comma_at
-  Listed-last ts after x e n = record { first = x; others = []; mid = past_whitespace after; spaced = spaced_is ts after x e; run = stop (rw n refl); all_is = refl }
+  Listed-last ts after x e n = record { first = x; others = []; mid = skip_whitespace after; spaced = spaced_is ts after x e; run = stop (rw n refl); all_is = refl }
 
-  pub Listed-next : (ts after next : List Token) (x : X) (xs : List X) (end : List Token) → item_at (past_whitespace ts) ≡ Some (x, after) → past_sign 44 (past_whitespace after) ≡ Some next → Listed next xs end → Listed ts (x ∷ xs) end
+  pub Listed-next : (ts after next : List Token) (x : X) (xs : List X) (end : List Token) → item_at (skip_whitespace ts) ≡ Some (x, after) → past_delimiter 44 (skip_whitespace after) ≡ Some next → Listed next xs end → Listed ts (x ∷ xs) end
   unfolding after_comma_at
   Listed-next ts after next x xs end e c l = record {
     first = x;
     others = l.first ∷ l.others;
-    mid = past_whitespace after;
+    mid = skip_whitespace after;
     spaced = spaced_is ts after x e;
     run = more l.first l.mid (rw c l.spaced) l.run;
     all_is = ap (λ (t : List X). x ∷ t) l.all_is;
@@ -58,7 +58,7 @@ module _ {X : Type 0} (item_at : List Token → Option (X × List Token)) where
   pub Listed-read : ((ts : List Token) (x : X × List Token) → after_comma_at item_at ts ≡ Some x → length x.1 < length ts) → (ts : List Token) (all : List X) (end : List Token) → Listed ts all end → comma_list_at item_at ts ≡ Some (all, end)
   Listed-read shorter ts all end l = let run = run_is (after_comma_at item_at) shorter l.run in rw (l.spaced, run, l.all_is) refl
 
-no_comma : (ts rest : List Token) → past_close 41 ts ≡ Some rest → past_sign 44 ts ≡ None
+no_comma : (ts rest : List Token) → past_close 41 ts ≡ Some rest → past_delimiter 44 ts ≡ None
 no_comma [] rest e = refl
 no_comma (t ∷ us) rest e = close_no_comma t us rest e
 
@@ -80,19 +80,19 @@ module _ (text : List ℕ) where
   unfolding subclass_at
   attribute_read levels ts x e = let no = attribute_begins ts x e in rw (no.2, no.3, e) refl
 
-  plain_read : (levels : ℕ) (ts after : List Token) (x : Simple × List Token) → past_sign 58 ts ≡ Some after → plain_class_at after ≡ Some x → subclass levels ts ≡ Some x
+  plain_read : (levels : ℕ) (ts after : List Token) (x : Simple × List Token) → past_delimiter 58 ts ≡ Some after → plain_class_at after ≡ Some x → subclass levels ts ≡ Some x
   plain_read levels ts after x e f = colon_alone text (choices_at text levels) ts after e ∙ rw f refl
 
-  function_read : (levels : ℕ) (ts after : List Token) (name : List ℕ) (inside : List Token) → past_sign 58 ts ≡ Some after → function_at after ≡ Some (name, inside) → subclass levels ts ≡ class_function_at text (choices_at text levels) name inside
+  function_read : (levels : ℕ) (ts after : List Token) (name : List ℕ) (inside : List Token) → past_delimiter 58 ts ≡ Some after → function_at after ≡ Some (name, inside) → subclass levels ts ≡ class_function_at text (choices_at text levels) name inside
   function_read levels ts after name inside e f = let no = function_no_plain after (name, inside) f in colon_alone text (choices_at text levels) ts after e ∙ rw (no, f) refl
 
   nth_read : (levels : ℕ) (ts after : List Token) (name : List ℕ) (inside : List Token) (siblings : Siblings) (value : AnPlusB) (rest : List Token)
-      → past_sign 58 ts ≡ Some after → function_at after ≡ Some (name, inside) → nth_class name ≡ Some siblings → an_plus_b_at text inside ≡ Some (value, rest) → subclass levels ts ≡ Some (nth siblings value, rest)
+      → past_delimiter 58 ts ≡ Some after → function_at after ≡ Some (name, inside) → nth_class name ≡ Some siblings → an_plus_b_at text inside ≡ Some (value, rest) → subclass levels ts ≡ Some (nth siblings value, rest)
   unfolding class_function_at
   nth_read levels ts after name inside siblings value rest e f g h = function_read levels ts after name inside e f ∙ rw (g, h) refl
 
   nesting_read : (levels : ℕ) (ts after : List Token) (name : List ℕ) (inside : List Token) (nesting : Nesting) (choices : List Compound) (rest : List Token)
-      → past_sign 58 ts ≡ Some after → function_at after ≡ Some (name, inside) → nesting_class name ≡ Some nesting → choices_at text levels inside ≡ Some (choices, rest) → subclass levels ts ≡ Some (nested nesting choices, rest)
+      → past_delimiter 58 ts ≡ Some after → function_at after ≡ Some (name, inside) → nesting_class name ≡ Some nesting → choices_at text levels inside ≡ Some (choices, rest) → subclass levels ts ≡ Some (nested nesting choices, rest)
   unfolding class_function_at
   nesting_read levels ts after name inside nesting choices rest e f g h = let no = nesting_no_nth name nesting g in function_read levels ts after name inside e f ∙ rw (no, g, h) refl
 
@@ -149,15 +149,15 @@ module _ (text : List ℕ) where
 
     choices_complete : {levels : ℕ} {ts : List Token} {choices : List Compound} {rest : List Token} → AreChoices text levels ts choices rest → Chosen levels ts choices rest
     choices_complete (last_choice levels ts choice after rest d e) = record {
-      end = past_whitespace after;
+      end = skip_whitespace after;
       listed = Listed-last (compound_at text (choices_at text levels)) ts after choice
-          (compound_complete d (halts_here levels after (spaced_halts after (close_halts (past_whitespace after) rest e)))) (no_comma (past_whitespace after) rest e);
+          (compound_complete d (halts_here levels after (spaced_halts after (close_halts (skip_whitespace after) rest e)))) (no_comma (skip_whitespace after) rest e);
       close = e;
     }
     choices_complete (next_choice levels ts choice after next others rest d e ds) = let c = choices_complete ds in record {
       end = c.end;
       listed = Listed-next (compound_at text (choices_at text levels)) ts after next choice others c.end
-          (compound_complete d (halts_here levels after (spaced_halts after (comma_halts (past_whitespace after) next e)))) e c.listed;
+          (compound_complete d (halts_here levels after (spaced_halts after (comma_halts (skip_whitespace after) next e)))) e c.listed;
       close = c.close;
     }
 
@@ -180,7 +180,7 @@ module _ (text : List ℕ) where
   combinator_complete (descendant blank after e) n = rw (e, n) refl
 
   combinator_stops : {ts : List Token} {join : Join} {rest : List Token} → IsCombinator ts join rest → Halts ts
-  combinator_stops (written ts join after e) = spaced_halts ts (combinator_halts (past_whitespace ts) (join, after) e)
+  combinator_stops (written ts join after e) = spaced_halts ts (combinator_halts (skip_whitespace ts) (join, after) e)
   combinator_stops (descendant blank after e) = blank_halts blank after e
 
   step_read : (ts : List Token) (join : Join) (after : List Token) (c : Compound) (mid : List Token) → combinator_at ts ≡ Some (join, after) → outer_compound_at text after ≡ Some (c, mid) → step_at text ts ≡ Some (step_to join c, mid)
@@ -215,16 +215,16 @@ module _ (text : List ℕ) where
     no_lone_here : lone_at rest ≡ None
 
   -- whitespace leads to nothing where nothing can stand behind it
-  leads_nowhere : (rest : List Token) → held_at combinator_of (past_whitespace rest) ≡ None → (combinator_at rest ≡ None) ⊎ (combinator_at rest ≡ Some (join.Descendant, past_whitespace rest))
+  leads_nowhere : (rest : List Token) → held_at combinator_of (skip_whitespace rest) ≡ None → (combinator_at rest ≡ None) ⊎ (combinator_at rest ≡ Some (join.Descendant, skip_whitespace rest))
   leads_nowhere [] n = inl refl
-  leads_nowhere (t ∷ us) n = elim (cases_Bool (is_blank_kind t.kind)) [
-    | inl holds ↦ inr (let behind : held_at combinator_of (past_whitespace us) ≡ None = rw holds at n in rw (holds, behind) refl)
+  leads_nowhere (t ∷ us) n = elim (cases_Bool (is_whitespace t.kind)) [
+    | inl holds ↦ inr (let behind : held_at combinator_of (skip_whitespace us) ≡ None = rw holds at n in rw (holds, behind) refl)
     | inr fails ↦ inl (let here : held_at combinator_of (t ∷ us) ≡ None = rw fails at n in rw (fails, here) refl)
   ]
 
-  done : (rest : List Token) → held_at combinator_of (past_whitespace rest) ≡ None → type_at (past_whitespace rest) ≡ None → Halts (past_whitespace rest) → Done rest
+  done : (rest : List Token) → held_at combinator_of (skip_whitespace rest) ≡ None → type_at (skip_whitespace rest) ≡ None → Halts (skip_whitespace rest) → Done rest
   done rest n t h =
-      let w = past_whitespace rest in
+      let w = skip_whitespace rest in
       let nothing = nothing_read w t (halts_here 16 w h) in
       record {
         no_subclass_here = halts_here 16 rest (spaced_halts rest h);
@@ -276,11 +276,11 @@ module _ (text : List ℕ) where
 
   -- ---- lists of selectors
 
-  done_at_end : (rest : List Token) → past_whitespace rest ≡ [] → Done rest
+  done_at_end : (rest : List Token) → skip_whitespace rest ≡ [] → Done rest
   done_at_end rest e = done rest (rw e refl) (rw e refl) (rw e at_end)
 
-  done_at_comma : (rest next : List Token) → past_sign 44 (past_whitespace rest) ≡ Some next → Done rest
-  done_at_comma rest next e = let h = sign_head 44 (past_whitespace rest) next e in done rest (rw (h.1, h.2) refl) (rw (h.1, h.2) refl) (comma_halts (past_whitespace rest) next e)
+  done_at_comma : (rest next : List Token) → past_delimiter 44 (skip_whitespace rest) ≡ Some next → Done rest
+  done_at_comma rest next e = let h = sign_head 44 (skip_whitespace rest) next e in done rest (rw (h.1, h.2) refl) (rw (h.1, h.2) refl) (comma_halts (skip_whitespace rest) next e)
 
   list_complete : {ts : List Token} {selectors : List Selector} → AreSelectors text ts selectors → Listed (selector_at text) ts selectors []
   list_complete (last_selector ts s after d e) =

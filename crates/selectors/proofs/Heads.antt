@@ -5,13 +5,12 @@ use Rattle.plain_types.specs.declared.selector.Compound.{Compound}
 use Rattle.plain_types.specs.declared.selector.Simple.{Simple}
 use Rattle.plain_types.specs.declared.selector_parts.Join.{Join}
 use Rattle.plain_types.specs.declared.selector_parts.PseudoElement.{PseudoElement}
-use Rattle.definitions.specs.Reading.{◌then◌, ◌otherwise◌}
-use Rattle.definitions.proofs.Runs.{chosen, then_some}
+use Rattle.reading.specs.Reading.{◌then◌, ◌otherwise◌}
+use Rattle.reading.proofs.Runs.{chosen, then_some}
 use Rattle.css_tokens.specs.declared.token.Token.{Token}
 use Rattle.css_tokens.specs.declared.token.TokenKind.{TokenKind}
 use Rattle.css_tokens.specs.declared.token.TokenKind.TheVariants as kind
-use Rattle.css_values.specs.Parts.{is_sign, is_blank_kind, word_of}
-use Rattle.selectors.specs.Parts.{held_at, name_at, function_of, function_at, past_sign, past_close, past_whitespace}
+use Rattle.css_tokens.specs.TokenReading.{is_sign, is_whitespace, ident_of, held_at, ident_at, function_of, function_at, past_delimiter, past_close, skip_whitespace}
 use Rattle.selectors.specs.Simples.{type_of, type_at, id_of, id_at, class_at, attribute_at}
 use Rattle.selectors.specs.Compounds.{plain_class_at, class_function_at, pseudo_class_at, subclass_at}
 use Rattle.selectors.specs.Selectors.{combinator_of, combinator_at, legacy_pseudo_element, modern_pseudo_element_at, legacy_pseudo_element_at, pseudo_element_at}
@@ -23,7 +22,7 @@ sign_is : (c : ℕ) (k : TokenKind) → is_sign c k ≡ true → k ≡ kind.Sign
 sign_is c (kind.Sign x) e = let same : x ≡ c = eqb-true x c e in ap (λ (n : ℕ). kind.Sign n) same
 sign_is c _ e = absurd cc
 
-pub sign_head : (c : ℕ) (ts more : List Token) → past_sign c ts ≡ Some more → (t : Token) × (ts ≡ t ∷ more) × (t.kind ≡ kind.Sign c)
+pub sign_head : (c : ℕ) (ts more : List Token) → past_delimiter c ts ≡ Some more → (t : Token) × (ts ≡ t ∷ more) × (t.kind ≡ kind.Sign c)
 sign_head c [] more e = absurd cc
 sign_head c (t ∷ us) more e = elim (chosen (is_sign c t.kind) (Some us) None (Some more) e) [
   | inl holds ↦ (let same : us ≡ more = let h = holds.1 in cc in (t, ap (λ (x : List Token). t ∷ x) same, sign_is c t.kind holds.0))
@@ -81,7 +80,7 @@ module _ (text : List ℕ) (choices : List Token → Option (List Compound × Li
   halt_no_subclass (at_token t more e) = let p = begins_parts t.kind e in rw (p.0, p.1, p.2, p.3) refl
 
   -- at a colon only a pseudo-class may stand
-  pub colon_alone : (ts after : List Token) → past_sign 58 ts ≡ Some after → subclass_at text choices ts ≡ (plain_class_at after otherwise (function_at after then λ name. class_function_at text choices name.0 name.1))
+  pub colon_alone : (ts after : List Token) → past_delimiter 58 ts ≡ Some after → subclass_at text choices ts ≡ (plain_class_at after otherwise (function_at after then λ name. class_function_at text choices name.0 name.1))
   unfolding subclass_at attribute_at pseudo_class_at
   colon_alone ts after e = let h = sign_head 58 ts after e in rw (h.1, h.2) refl
 
@@ -89,29 +88,29 @@ module _ (text : List ℕ) (choices : List Token → Option (List Compound × Li
   pub pseudo_no_subclass : (ts : List Token) (x : PseudoElement × List Token) → pseudo_element_at ts ≡ Some x → subclass_at text choices ts ≡ None
   unfolding pseudo_element_at
   pseudo_no_subclass ts x e =
-      let colon = then_some (past_sign 58 ts) _ x e in
-      colon_alone ts colon.0 colon.1 ∙ go colon.0 (past_sign 58 colon.0) refl colon.2
+      let colon = then_some (past_delimiter 58 ts) _ x e in
+      colon_alone ts colon.0 colon.1 ∙ go colon.0 (past_delimiter 58 colon.0) refl colon.2
     where
-      modern : (after next : List Token) → past_sign 58 after ≡ Some next → (plain_class_at after otherwise (function_at after then λ name. class_function_at text choices name.0 name.1)) ≡ None
+      modern : (after next : List Token) → past_delimiter 58 after ≡ Some next → (plain_class_at after otherwise (function_at after then λ name. class_function_at text choices name.0 name.1)) ≡ None
       modern after next e = let h = sign_head 58 after next e in rw (h.1, h.2) refl
 
       legacy : (after : List Token) → legacy_pseudo_element_at after ≡ Some x → (plain_class_at after otherwise (function_at after then λ name. class_function_at text choices name.0 name.1)) ≡ None
       legacy after e =
-          let name = then_some (name_at after) _ x e in
+          let name = then_some (ident_at after) _ x e in
           let pseudo = then_some (legacy_pseudo_element name.0.0) _ x name.2 in
-          let head = held_head word_of after name.0.1 name.0.0 name.1 in
+          let head = held_head ident_of after name.0.1 name.0.0 name.1 in
           let no_class = legacy_no_plain name.0.0 pseudo.0 pseudo.1 in
           let no_function : function_at after ≡ None = rw head.1 (word_alone head.0 name.0.1 name.0.0 head.2) in
           rw (name.1, no_class, no_function) refl
         where
-          word_alone : (t : Token) (more : List Token) (word : List ℕ) → word_of t.kind ≡ Some word → function_at (t ∷ more) ≡ None
+          word_alone : (t : Token) (more : List Token) (word : List ℕ) → ident_of t.kind ≡ Some word → function_at (t ∷ more) ≡ None
           word_alone t more word e = let no = no_function t.kind word e in rw no refl
             where
-              no_function : (k : TokenKind) (word : List ℕ) → word_of k ≡ Some word → function_of k ≡ None
+              no_function : (k : TokenKind) (word : List ℕ) → ident_of k ≡ Some word → function_of k ≡ None
               no_function (kind.Word w) word e = refl
               no_function _ word e = absurd cc
 
-      go : (after : List Token) (o : Option (List Token)) → past_sign 58 after ≡ o → ((o then modern_pseudo_element_at) otherwise legacy_pseudo_element_at after) ≡ Some x
+      go : (after : List Token) (o : Option (List Token)) → past_delimiter 58 after ≡ o → ((o then modern_pseudo_element_at) otherwise legacy_pseudo_element_at after) ≡ Some x
           → (plain_class_at after otherwise (function_at after then λ name. class_function_at text choices name.0 name.1)) ≡ None
       go after (Some next) w e = modern after next w
       go after None w e = legacy after e
@@ -120,34 +119,34 @@ module _ (text : List ℕ) (choices : List Token → Option (List Compound × Li
 pub function_no_plain : (after : List Token) (x : List ℕ × List Token) → function_at after ≡ Some x → plain_class_at after ≡ None
 function_no_plain after x e = let head = held_head function_of after x.1 x.0 e in rw head.1 (let no = no_word head.0.kind x.0 head.2 in rw no refl)
   where
-    no_word : (k : TokenKind) (name : List ℕ) → function_of k ≡ Some name → word_of k ≡ None
+    no_word : (k : TokenKind) (name : List ℕ) → function_of k ≡ Some name → ident_of k ≡ None
     no_word (kind.Function f) name e = refl
     no_word _ name e = absurd cc
 
 -- ---- whitespace
 
-blank_is : (k : TokenKind) → is_blank_kind k ≡ true → k ≡ kind.Blank
+blank_is : (k : TokenKind) → is_whitespace k ≡ true → k ≡ kind.Blank
 blank_is kind.Blank e = refl
 blank_is _ e = absurd cc
 
-pub blank_halts : (t : Token) (more : List Token) → is_blank_kind t.kind ≡ true → Halts (t ∷ more)
+pub blank_halts : (t : Token) (more : List Token) → is_whitespace t.kind ≡ true → Halts (t ∷ more)
 blank_halts t more e = let is = blank_is t.kind e in at_token t more (rw is refl)
 
-pub space_or : (ts : List Token) → (past_whitespace ts ≡ ts) ⊎ Halts ts
+pub space_or : (ts : List Token) → (skip_whitespace ts ≡ ts) ⊎ Halts ts
 space_or [] = inl refl
-space_or (t ∷ more) = elim (cases_Bool (is_blank_kind t.kind)) [
+space_or (t ∷ more) = elim (cases_Bool (is_whitespace t.kind)) [
   | inl holds ↦ inr (blank_halts t more holds)
   | inr fails ↦ inl (rw fails refl)
 ]
 
 -- what halts behind whitespace halts
-pub spaced_halts : (ts : List Token) → Halts (past_whitespace ts) → Halts ts
+pub spaced_halts : (ts : List Token) → Halts (skip_whitespace ts) → Halts ts
 spaced_halts ts h = elim (space_or ts) [
   | inl same ↦ rw same at h
   | inr halts ↦ halts
 ]
 
-pub comma_halts : (ts next : List Token) → past_sign 44 ts ≡ Some next → Halts ts
+pub comma_halts : (ts next : List Token) → past_delimiter 44 ts ≡ Some next → Halts ts
 comma_halts ts next e = let h = sign_head 44 ts next e in rw h.1 (at_token h.0 next (let is = h.2 in rw is refl))
 
 pub close_halts : (ts rest : List Token) → past_close 41 ts ≡ Some rest → Halts ts
@@ -157,7 +156,7 @@ close_halts (t ∷ more) rest e = elim (chosen (is_sign 41 t.kind) (Some more) N
   | inr fails ↦ absurd (let h = fails.1 in cc)
 ]
 
-pub close_no_comma : (t : Token) (more rest : List Token) → past_close 41 (t ∷ more) ≡ Some rest → past_sign 44 (t ∷ more) ≡ None
+pub close_no_comma : (t : Token) (more rest : List Token) → past_close 41 (t ∷ more) ≡ Some rest → past_delimiter 44 (t ∷ more) ≡ None
 close_no_comma t more rest e = elim (chosen (is_sign 41 t.kind) (Some more) None (Some rest) e) [
   | inl holds ↦ (let is = sign_is 41 t.kind holds.0 in rw is refl)
   | inr fails ↦ absurd (let h = fails.1 in cc)
@@ -207,22 +206,22 @@ id_begins ts x e =
     (rw (h.1, k.0) refl, rw (h.1, k.1) refl)
 
 pub class_begins : (ts : List Token) (x : Simple × List Token) → class_at ts ≡ Some x → (type_at ts ≡ None) × (held_at combinator_of ts ≡ None) × (id_at ts ≡ None)
-class_begins ts x e = let dot = then_some (past_sign 46 ts) _ x e in let h = sign_head 46 ts dot.0 dot.1 in (rw (h.1, h.2) refl, rw (h.1, h.2) refl, rw (h.1, h.2) refl)
+class_begins ts x e = let dot = then_some (past_delimiter 46 ts) _ x e in let h = sign_head 46 ts dot.0 dot.1 in (rw (h.1, h.2) refl, rw (h.1, h.2) refl, rw (h.1, h.2) refl)
 
 pub attribute_begins : (ts : List Token) (x : Simple × List Token) → attribute_at ts ≡ Some x → (type_at ts ≡ None) × (held_at combinator_of ts ≡ None) × (id_at ts ≡ None) × (class_at ts ≡ None)
 unfolding attribute_at
-attribute_begins ts x e = let bracket = then_some (past_sign 91 ts) _ x e in let h = sign_head 91 ts bracket.0 bracket.1 in (rw (h.1, h.2) refl, rw (h.1, h.2) refl, rw (h.1, h.2) refl, rw (h.1, h.2) refl)
+attribute_begins ts x e = let bracket = then_some (past_delimiter 91 ts) _ x e in let h = sign_head 91 ts bracket.0 bracket.1 in (rw (h.1, h.2) refl, rw (h.1, h.2) refl, rw (h.1, h.2) refl, rw (h.1, h.2) refl)
 
-pub colon_begins : (ts after : List Token) → past_sign 58 ts ≡ Some after → (type_at ts ≡ None) × (held_at combinator_of ts ≡ None)
+pub colon_begins : (ts after : List Token) → past_delimiter 58 ts ≡ Some after → (type_at ts ≡ None) × (held_at combinator_of ts ≡ None)
 colon_begins ts after e = let h = sign_head 58 ts after e in (rw (h.1, h.2) refl, rw (h.1, h.2) refl)
 
 pub pseudo_begins : (ts : List Token) (x : PseudoElement × List Token) → pseudo_element_at ts ≡ Some x → (type_at ts ≡ None) × (held_at combinator_of ts ≡ None)
 unfolding pseudo_element_at
-pseudo_begins ts x e = let colon = then_some (past_sign 58 ts) _ x e in colon_begins ts colon.0 colon.1
+pseudo_begins ts x e = let colon = then_some (past_delimiter 58 ts) _ x e in colon_begins ts colon.0 colon.1
 
 pub pseudo_no_combinator : (ts : List Token) (x : PseudoElement × List Token) → pseudo_element_at ts ≡ Some x → combinator_at ts ≡ None
 unfolding pseudo_element_at
-pseudo_no_combinator ts x e = let colon = then_some (past_sign 58 ts) _ x e in let h = sign_head 58 ts colon.0 colon.1 in subst (λ (us : List Token). combinator_at us ≡ None) (sym h.1) (here h.0 colon.0 h.2)
+pseudo_no_combinator ts x e = let colon = then_some (past_delimiter 58 ts) _ x e in let h = sign_head 58 ts colon.0 colon.1 in subst (λ (us : List Token). combinator_at us ≡ None) (sym h.1) (here h.0 colon.0 h.2)
   where
     here : (t : Token) (more : List Token) → t.kind ≡ kind.Sign 58 → combinator_at (t ∷ more) ≡ None
     here t more is = rw is refl

@@ -1,4 +1,5 @@
 pub mod Adding
+pub mod Ascii
 pub mod Complete
 pub mod Exact
 pub mod Heads

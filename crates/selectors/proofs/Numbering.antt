@@ -1,73 +1,37 @@
--- Numbers of the An+B notation, whose digits are counted in 64 bits.
-use Rattle.std.proofs.Common.{◌≡◌, ℕ, ◌-◌, ◌^◌, min, Bool, true, false, List, [], ◌∷◌, Option, Some, None, length, refl, sym, ap, ◌∙◌, arith}
+-- Numbers of the An+B notation, whose digits are read as counts: a count has more bits than they have.
+use Rattle.std.proofs.Common.{◌≡◌, ℕ, Bool, true, false, List, Option, Some, None, refl, sym, ap, ◌∙◌, arith}
 use Rattle.std.specs.Str.Parse.{digits_value}
 use Rattle.std.proofs.Math.IntN.{ℤ}
 use Rattle.std.proofs.lemmas.Int.{ints, clamps}
-use Rattle.definitions.specs.Characters.{is_digit}
-use Rattle.definitions.specs.Reading.{◌then◌, past_character, span}
-use Rattle.css_tokens.specs.Counting.{counted}
-use Rattle.css_tokens.specs.Numbers.{digits_at}
-use Rattle.selectors.specs.AnPlusB.{signed_at, digits_or_one, counted_or_one, nearest_i32, n_of, n_at}
+use Rattle.reading.specs.Reading.{◌then◌}
+use Rattle.css_tokens.specs.Numbers.{signed, saturated, digits_at, saturated_at}
+use Rattle.selectors.specs.AnPlusB.{signed_at, nearest_i32}
 
-nearest_min : (negative : Bool) (number : ℕ) → nearest_i32 negative (min number (2 ^ 64 - 1)) ≡ nearest_i32 negative number
-nearest_min true number = omega (arith, ints, clamps)
-nearest_min false number = omega (arith, ints, clamps)
-
-pub no_digits : (text : List ℕ) → length text ≡ 0 → span is_digit text ≡ ([], text)
-unfolding span
-no_digits [] e = refl
-no_digits (first ∷ rest) e = absurd (omega arith)
-
-abbrev some_count : ℕ × List ℕ → Option (ℕ × List ℕ)
-some_count x = Some x
-
-parts : (x y : ℕ × List ℕ) → some_count x ≡ some_count y → (x.0 ≡ y.0) × (x.1 ≡ y.1)
-parts x y e = let same : x ≡ y = cc in (ap (λ (t : ℕ × List ℕ). t.0) same, ap (λ (t : ℕ × List ℕ). t.1) same)
+nearest_saturated : (negative : Bool) (number : ℕ) → nearest_i32 (saturated negative number) ≡ nearest_i32 (signed negative number)
+nearest_saturated true number = omega (arith, ints, clamps)
+nearest_saturated false number = omega (arith, ints, clamps)
 
 abbrev some_value : ℤ × List ℕ → Option (ℤ × List ℕ)
 some_value x = Some x
 
-pub signed_some : (negative : Bool) (text rest : List ℕ) (number : ℕ) (value : ℤ) → counted (digits_at text) ≡ Some (number, rest) → value ≡ nearest_i32 negative number → signed_at (negative, text) ≡ Some (value, rest)
-signed_some negative text rest number value e v = go (digits_at text) e
+parts : (x y : ℤ × List ℕ) → some_value x ≡ some_value y → (x.0 ≡ y.0) × (x.1 ≡ y.1)
+parts x y e = let same : x ≡ y = cc in (ap (λ (t : ℤ × List ℕ). t.0) same, ap (λ (t : ℤ × List ℕ). t.1) same)
+
+pub signed_some : (negative : Bool) (text rest : List ℕ) (count value : ℤ) → saturated_at negative text ≡ Some (count, rest) → value ≡ nearest_i32 count → signed_at (negative, text) ≡ Some (value, rest)
+signed_some negative text rest count value e v = go (digits_at text) e
   where
-    go : (o : Option (List ℕ × List ℕ)) → counted o ≡ Some (number, rest) → (o then λ digits. some_value (nearest_i32 negative (digits_value 10 digits.0), digits.1)) ≡ some_value (value, rest)
+    go : (o : Option (List ℕ × List ℕ)) → (o then λ digits. some_value (saturated negative (digits_value 10 digits.0), digits.1)) ≡ some_value (count, rest)
+        → (o then λ digits. some_value (nearest_i32 (signed negative (digits_value 10 digits.0)), digits.1)) ≡ some_value (value, rest)
     go None e = absurd cc
     go (Some digits) e =
-        let p = parts (min (digits_value 10 digits.0) (2 ^ 64 - 1), digits.1) (number, rest) e in
-        let value_is : nearest_i32 negative (digits_value 10 digits.0) ≡ value = sym (nearest_min negative (digits_value 10 digits.0)) ∙ ap (nearest_i32 negative) p.0 ∙ sym v in
+        let p = parts (saturated negative (digits_value 10 digits.0), digits.1) (count, rest) e in
+        let value_is : nearest_i32 (signed negative (digits_value 10 digits.0)) ≡ value = sym (nearest_saturated negative (digits_value 10 digits.0)) ∙ ap nearest_i32 p.0 ∙ sym v in
         rw (p.1, value_is) refl
 
-pub signed_none : (negative : Bool) (text : List ℕ) → counted (digits_at text) ≡ None → signed_at (negative, text) ≡ None
+pub signed_none : (negative : Bool) (text : List ℕ) → saturated_at negative text ≡ None → signed_at (negative, text) ≡ None
 signed_none negative text e = go (digits_at text) e
   where
-    go : (o : Option (List ℕ × List ℕ)) → counted o ≡ None → (o then λ digits. some_value (nearest_i32 negative (digits_value 10 digits.0), digits.1)) ≡ None
+    go : (o : Option (List ℕ × List ℕ)) → (o then λ digits. some_value (saturated negative (digits_value 10 digits.0), digits.1)) ≡ None
+        → (o then λ digits. some_value (nearest_i32 (signed negative (digits_value 10 digits.0)), digits.1)) ≡ None
     go None e = refl
     go (Some digits) e = absurd cc
-
-pub digits_or_one_some : (text rest : List ℕ) (number : ℕ) → counted (digits_at text) ≡ Some (number, rest) → counted_or_one (digits_or_one (digits_at text) text) ≡ (number, rest)
-digits_or_one_some text rest number e = go (digits_at text) e
-  where
-    go : (o : Option (List ℕ × List ℕ)) → counted o ≡ Some (number, rest) → counted_or_one (digits_or_one o text) ≡ (number, rest)
-    go None e = absurd cc
-    go (Some digits) e = let p = parts (min (digits_value 10 digits.0) (2 ^ 64 - 1), digits.1) (number, rest) e in rw (p.0, p.1) refl
-
-pub digits_or_one_none : (text : List ℕ) → counted (digits_at text) ≡ None → counted_or_one (digits_or_one (digits_at text) text) ≡ (1, text)
-digits_or_one_none text e = go (digits_at text) e
-  where
-    go : (o : Option (List ℕ × List ℕ)) → counted o ≡ None → counted_or_one (digits_or_one o text) ≡ (1, text)
-    go None e = refl
-    go (Some digits) e = absurd cc
-
-n_is : (negative : Bool) (count : ℕ × List ℕ) (number : ℕ) (rest : List ℕ) → counted_or_one count ≡ (number, rest) → n_of negative count ≡ (past_character 110 rest then λ after. some_value (nearest_i32 negative number, after))
-n_is negative count number rest e =
-    let number_is : min count.0 (2 ^ 64 - 1) ≡ number = ap (λ (t : ℕ × List ℕ). t.0) e in
-    let rest_is : count.1 ≡ rest = ap (λ (t : ℕ × List ℕ). t.1) e in
-    let value_is : nearest_i32 negative count.0 ≡ nearest_i32 negative number = sym (nearest_min negative count.0) ∙ ap (nearest_i32 negative) number_is in
-    rw (rest_is, value_is) refl
-
-pub n_some : (negative : Bool) (text rest after : List ℕ) (number : ℕ) (value : ℤ) → counted_or_one (digits_or_one (digits_at text) text) ≡ (number, rest) → past_character 110 rest ≡ Some after → value ≡ nearest_i32 negative number
-    → n_at (negative, text) ≡ Some (value, after)
-n_some negative text rest after number value e f v = n_is negative (digits_or_one (digits_at text) text) number rest e ∙ rw (f, v) refl
-
-pub n_none : (negative : Bool) (text rest : List ℕ) (number : ℕ) → counted_or_one (digits_or_one (digits_at text) text) ≡ (number, rest) → past_character 110 rest ≡ None → n_at (negative, text) ≡ None
-n_none negative text rest number e f = n_is negative (digits_or_one (digits_at text) text) number rest e ∙ rw f refl

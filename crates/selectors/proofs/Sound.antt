@@ -7,12 +7,12 @@ use Rattle.plain_types.specs.declared.selector_parts.Join.{Join}
 use Rattle.plain_types.specs.declared.selector_parts.Join.TheVariants as join
 use Rattle.plain_types.specs.declared.selector_parts.PseudoElement.{PseudoElement}
 use Rattle.plain_types.specs.declared.selector_parts.PseudoElement.TheVariants as pseudo
-use Rattle.definitions.specs.Reading.{◌then◌, ◌otherwise◌, run_at}
-use Rattle.definitions.proofs.Following.{run_Run}
-use Rattle.definitions.proofs.Runs.{Run, stop, more, then_some, chosen}
+use Rattle.reading.specs.Reading.{◌then◌, ◌otherwise◌, run_at}
+use Rattle.reading.proofs.Following.{run_Run}
+use Rattle.reading.proofs.Runs.{Run, stop, more, then_some, chosen}
 use Rattle.css_tokens.specs.declared.token.Token.{Token}
-use Rattle.css_values.specs.Parts.{is_blank_kind}
-use Rattle.selectors.specs.Parts.{function_at, held_at, past_sign, past_close, past_whitespace, only, spaced_at, after_comma_at, comma_list_at}
+use Rattle.css_tokens.specs.TokenReading.{is_whitespace, function_at, held_at, past_delimiter, past_close, skip_whitespace, only}
+use Rattle.selectors.specs.Parts.{spaced_at, after_comma_at, comma_list_at}
 use Rattle.selectors.specs.AnPlusB.{an_plus_b_at}
 use Rattle.selectors.specs.Simples.{type_at, id_at, class_at, attribute_at, nth_class, nth}
 use Rattle.selectors.specs.Compounds.{plain_class_at, nesting_class, nested, type_part, some_compound, with_subclasses, class_function_at, pseudo_class_at, compound, subclass_at, compound_at, choices_at}
@@ -39,19 +39,19 @@ some_selector x = Some x
 -- ---- comma lists
 
 module _ {X : Type 0} (item_at : List Token → Option (X × List Token)) where
-  spaced_parts : (ts : List Token) (x : X × List Token) → spaced_at item_at ts ≡ Some x → (y : X × List Token) × (item_at (past_whitespace ts) ≡ Some y) × (x ≡ (y.0, past_whitespace y.1))
-  spaced_parts ts x e = let p = then_some (item_at (past_whitespace ts)) _ x e in (p.0, p.1, sym (some_is (p.0.0, past_whitespace p.0.1) x p.2))
+  spaced_parts : (ts : List Token) (x : X × List Token) → spaced_at item_at ts ≡ Some x → (y : X × List Token) × (item_at (skip_whitespace ts) ≡ Some y) × (x ≡ (y.0, skip_whitespace y.1))
+  spaced_parts ts x e = let p = then_some (item_at (skip_whitespace ts)) _ x e in (p.0, p.1, sym (some_is (p.0.0, skip_whitespace p.0.1) x p.2))
 
-  comma_parts : (ts : List Token) (x : X × List Token) → after_comma_at item_at ts ≡ Some x → (next : List Token) × (past_sign 44 ts ≡ Some next) × (spaced_at item_at next ≡ Some x)
+  comma_parts : (ts : List Token) (x : X × List Token) → after_comma_at item_at ts ≡ Some x → (next : List Token) × (past_delimiter 44 ts ≡ Some next) × (spaced_at item_at next ≡ Some x)
   unfolding after_comma_at
-  comma_parts ts x e = then_some (past_sign 44 ts) _ x e
+  comma_parts ts x e = then_some (past_delimiter 44 ts) _ x e
 
 -- ---- simple and compound selectors
 
 module _ (text : List ℕ) where
   -- over what is known of the lists that are nested
   module _ (levels : ℕ) (choices_are : (ts : List Token) (x : List Compound × List Token) → choices_at text levels ts ≡ Some x → (inner : ℕ) × (levels ≡ suc inner) × AreChoices text inner ts x.0 x.1) where
-    function_sound : (ts after : List Token) (name : List ℕ × List Token) (x : Simple × List Token) → past_sign 58 ts ≡ Some after → function_at after ≡ Some name → class_function_at text (choices_at text levels) name.0 name.1 ≡ Some x
+    function_sound : (ts after : List Token) (name : List ℕ × List Token) (x : Simple × List Token) → past_delimiter 58 ts ≡ Some after → function_at after ≡ Some name → class_function_at text (choices_at text levels) name.0 name.1 ≡ Some x
         → IsSubclass text levels ts x.0 x.1
     unfolding class_function_at
     function_sound ts after name x e f g = elim (either (nth_class name.0 then λ siblings. an_plus_b_at text name.1 then λ value. some_simple (nth siblings value.0, value.1)) (nesting_class name.0 then λ nesting. choices_at text levels name.1 then λ choices. some_simple (nested nesting choices.0, choices.1)) x g) [
@@ -73,7 +73,7 @@ module _ (text : List ℕ) where
     pseudo_class_sound : (ts : List Token) (x : Simple × List Token) → pseudo_class_at text (choices_at text levels) ts ≡ Some x → IsSubclass text levels ts x.0 x.1
     unfolding pseudo_class_at
     pseudo_class_sound ts x e =
-        let colon = then_some (past_sign 58 ts) _ x e in
+        let colon = then_some (past_delimiter 58 ts) _ x e in
         elim (either (plain_class_at colon.0) _ x colon.2) [
           | inl h ↦ a_plain_class levels ts colon.0 x.0 x.1 colon.1 h
           | inr h ↦ (let name = then_some (function_at colon.0) _ x h in function_sound ts colon.0 name.0 x colon.1 name.1 name.2)
@@ -119,15 +119,15 @@ module _ (text : List ℕ) where
 
     -- the first choice and those after commas
     choices_follow : {mid : List Token} {others : List Compound} {end : List Token} (ts rest : List Token) (y : Compound × List Token) → Run (after_comma_at (compound_at text (choices_at text levels))) mid others end
-        → compound_at text (choices_at text levels) (past_whitespace ts) ≡ Some y → mid ≡ past_whitespace y.1 → past_close 41 end ≡ Some rest → AreChoices text levels ts (y.0 ∷ others) rest
-    choices_follow ts rest y (stop e) c m h = last_choice levels ts y.0 y.1 rest (compound_sound (past_whitespace ts) y c) (rw (← m) h)
+        → compound_at text (choices_at text levels) (skip_whitespace ts) ≡ Some y → mid ≡ skip_whitespace y.1 → past_close 41 end ≡ Some rest → AreChoices text levels ts (y.0 ∷ others) rest
+    choices_follow ts rest y (stop e) c m h = last_choice levels ts y.0 y.1 rest (compound_sound (skip_whitespace ts) y c) (rw (← m) h)
     choices_follow {mid} ts rest y (more x after {xs = others} e r) c m h =
         let next = comma_parts (compound_at text (choices_at text levels)) mid (x, after) e in
         let item = spaced_parts (compound_at text (choices_at text levels)) next.0 (x, after) next.2 in
         let x_is : x ≡ item.0.0 = ap (λ (z : Compound × List Token). z.0) item.2 in
-        let after_is : after ≡ past_whitespace item.0.1 = ap (λ (z : Compound × List Token). z.1) item.2 in
+        let after_is : after ≡ skip_whitespace item.0.1 = ap (λ (z : Compound × List Token). z.1) item.2 in
         let tail = choices_follow next.0 rest item.0 r item.1 after_is h in
-        next_choice levels ts y.0 y.1 next.0 (x ∷ others) rest (compound_sound (past_whitespace ts) y c) (rw (← m) next.1)
+        next_choice levels ts y.0 y.1 next.0 (x ∷ others) rest (compound_sound (skip_whitespace ts) y c) (rw (← m) next.1)
         (subst (λ (z : Compound). AreChoices text levels next.0 (z ∷ others) rest) (sym x_is) tail)
 
   choices_sound : (levels : ℕ) (ts : List Token) (x : List Compound × List Token) → choices_at text levels ts ≡ Some x → (inner : ℕ) × (levels ≡ suc inner) × AreChoices text inner ts x.0 x.1
@@ -141,7 +141,7 @@ module _ (text : List ℕ) where
       let parts = spaced_parts item ts first.0 first.1 in
       let run = run_Run (after_comma_at item) (after_comma_takes item (compound_within text (choices_at text inner) (choices_within text inner))) first.0.1 in
       let first_is : first.0.0 ≡ parts.0.0 = ap (λ (z : Compound × List Token). z.0) parts.2 in
-      let mid_is : first.0.1 ≡ past_whitespace parts.0.1 = ap (λ (z : Compound × List Token). z.1) parts.2 in
+      let mid_is : first.0.1 ≡ skip_whitespace parts.0.1 = ap (λ (z : Compound × List Token). z.1) parts.2 in
       let all_is = some_is (first.0.0 ∷ (run_at (after_comma_at item) first.0.1).0, (run_at (after_comma_at item) first.0.1).1) list.0 first.2 in
       let end_is : (run_at (after_comma_at item) first.0.1).1 ≡ list.0.1 = ap (λ (z : List Compound × List Token). z.1) all_is in
       let choices_are : first.0.0 ∷ (run_at (after_comma_at item) first.0.1).0 ≡ list.0.0 = ap (λ (z : List Compound × List Token). z.0) all_is in
@@ -156,18 +156,18 @@ module _ (text : List ℕ) where
   outer_sound ts x e = compound_sound 16 (choices_sound 16) ts x e
 
   combinator_sound : (ts : List Token) (x : Join × List Token) → combinator_at ts ≡ Some x → IsCombinator ts x.0 x.1
-  combinator_sound ts x e = elim (either (held_at combinator_of (past_whitespace ts) then λ join. some_join (join.0, past_whitespace join.1)) (descendant_at ts) x e) [
+  combinator_sound ts x e = elim (either (held_at combinator_of (skip_whitespace ts) then λ join. some_join (join.0, skip_whitespace join.1)) (descendant_at ts) x e) [
     | inl h ↦ (
-        let sign = then_some (held_at combinator_of (past_whitespace ts)) _ x h in
-        subst (λ (y : Join × List Token). IsCombinator ts y.0 y.1) (some_is (sign.0.0, past_whitespace sign.0.1) x sign.2) (written ts sign.0.0 sign.0.1 sign.1)
+        let sign = then_some (held_at combinator_of (skip_whitespace ts)) _ x h in
+        subst (λ (y : Join × List Token). IsCombinator ts y.0 y.1) (some_is (sign.0.0, skip_whitespace sign.0.1) x sign.2) (written ts sign.0.0 sign.0.1 sign.1)
         )
     | inr h ↦ blank ts h
   ]
     where
       blank : (ts : List Token) → descendant_at ts ≡ Some x → IsCombinator ts x.0 x.1
       blank [] h = absurd cc
-      blank (t ∷ us) h = elim (chosen (is_blank_kind t.kind) _ _ _ h) [
-        | inl holds ↦ subst (λ (y : Join × List Token). IsCombinator (t ∷ us) y.0 y.1) (some_is (join.Descendant, past_whitespace us) x holds.1) (descendant t us holds.0)
+      blank (t ∷ us) h = elim (chosen (is_whitespace t.kind) _ _ _ h) [
+        | inl holds ↦ subst (λ (y : Join × List Token). IsCombinator (t ∷ us) y.0 y.1) (some_is (join.Descendant, skip_whitespace us) x holds.1) (descendant t us holds.0)
         | inr fails ↦ absurd (let never = fails.1 in cc)
       ]
 
@@ -223,15 +223,15 @@ module _ (text : List ℕ) where
   -- ---- lists of selectors
 
   selectors_follow : {mid : List Token} {others : List Selector} {end : List Token} (ts : List Token) (y : Selector × List Token) → Run (after_comma_at (selector_at text)) mid others end
-      → selector_at text (past_whitespace ts) ≡ Some y → mid ≡ past_whitespace y.1 → end ≡ [] → AreSelectors text ts (y.0 ∷ others)
-  selectors_follow ts y (stop e) s m h = last_selector ts y.0 y.1 (selector_sound (past_whitespace ts) y s) (sym m ∙ h)
+      → selector_at text (skip_whitespace ts) ≡ Some y → mid ≡ skip_whitespace y.1 → end ≡ [] → AreSelectors text ts (y.0 ∷ others)
+  selectors_follow ts y (stop e) s m h = last_selector ts y.0 y.1 (selector_sound (skip_whitespace ts) y s) (sym m ∙ h)
   selectors_follow {mid} ts y (more x after {xs = others} e r) s m h =
       let next = comma_parts (selector_at text) mid (x, after) e in
       let item = spaced_parts (selector_at text) next.0 (x, after) next.2 in
       let x_is : x ≡ item.0.0 = ap (λ (z : Selector × List Token). z.0) item.2 in
-      let after_is : after ≡ past_whitespace item.0.1 = ap (λ (z : Selector × List Token). z.1) item.2 in
+      let after_is : after ≡ skip_whitespace item.0.1 = ap (λ (z : Selector × List Token). z.1) item.2 in
       let tail = selectors_follow next.0 item.0 r item.1 after_is h in
-      next_selector ts y.0 y.1 next.0 (x ∷ others) (selector_sound (past_whitespace ts) y s) (rw (← m) next.1)
+      next_selector ts y.0 y.1 next.0 (x ∷ others) (selector_sound (skip_whitespace ts) y s) (rw (← m) next.1)
       (subst (λ (z : Selector). AreSelectors text next.0 (z ∷ others)) (sym x_is) tail)
 
   only_parts : (selectors : List Selector) (rest : List Token) (x : List Selector) → only selectors rest ≡ Some x → (selectors ≡ x) × (rest ≡ [])
@@ -247,7 +247,7 @@ module _ (text : List ℕ) where
       let parts = spaced_parts (selector_at text) ts first.0 first.1 in
       let run = run_Run (after_comma_at (selector_at text)) (after_comma_takes (selector_at text) (selector_within text)) first.0.1 in
       let first_is : first.0.0 ≡ parts.0.0 = ap (λ (z : Selector × List Token). z.0) parts.2 in
-      let mid_is : first.0.1 ≡ past_whitespace parts.0.1 = ap (λ (z : Selector × List Token). z.1) parts.2 in
+      let mid_is : first.0.1 ≡ skip_whitespace parts.0.1 = ap (λ (z : Selector × List Token). z.1) parts.2 in
       let all_is = some_is (first.0.0 ∷ (run_at (after_comma_at (selector_at text)) first.0.1).0, (run_at (after_comma_at (selector_at text)) first.0.1).1) list.0 first.2 in
       let end_is : (run_at (after_comma_at (selector_at text)) first.0.1).1 ≡ list.0.1 = ap (λ (z : List Selector × List Token). z.1) all_is in
       let selectors_are : first.0.0 ∷ (run_at (after_comma_at (selector_at text)) first.0.1).0 ≡ list.0.0 = ap (λ (z : List Selector × List Token). z.0) all_is in

@@ -2,9 +2,9 @@
 use Rattle.std.proofs.Common.{◌≡◌, ℕ, List, [], ◌∷◌, ◌++◌, flat_map, Some, None, refl, sym, ap, ◌∙◌}
 use Rattle.std.proofs.lemmas.List.{append-nil}
 use Rattle.std.proofs.lemmas.Grind.{flat_map-append}
-use Rattle.definitions.specs.Reading.{run_at}
-use Rattle.definitions.proofs.Following.{takes_shorter}
-use Rattle.definitions.proofs.Runs.{Goes, Goes-start, Goes-more, Goes-read}
+use Rattle.reading.specs.Reading.{run_at}
+use Rattle.reading.proofs.Following.{takes_shorter}
+use Rattle.reading.proofs.Runs.{Goes, Goes-start, Goes-more, Goes-read}
 use Rattle.css_tokens.specs.declared.token.Token.{Token}
 use Rattle.selectors.specs.AnPlusB.{slice, argument_token_at}
 use Rattle.selectors.proofs.Shortening.{argument_token_takes}

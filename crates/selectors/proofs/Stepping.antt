@@ -3,9 +3,9 @@ use Rattle.std.proofs.Common.{◌≡◌, ℕ, List, [], ◌∷◌, ◌++◌, map
 use Rattle.std.proofs.lemmas.List.{map-append}
 use Rattle.plain_types.specs.declared.selector.Compound.{Compound}
 use Rattle.plain_types.specs.declared.selector_parts.Join.{Join}
-use Rattle.definitions.specs.Reading.{run_at}
-use Rattle.definitions.proofs.Following.{takes_shorter}
-use Rattle.definitions.proofs.Runs.{Goes, Goes-start, Goes-more, Goes-read}
+use Rattle.reading.specs.Reading.{run_at}
+use Rattle.reading.proofs.Following.{takes_shorter}
+use Rattle.reading.proofs.Runs.{Goes, Goes-start, Goes-more, Goes-read}
 use Rattle.css_tokens.specs.declared.token.Token.{Token}
 use Rattle.selectors.specs.declared.selector_list.Sequence.{Sequence}
 use Rattle.selectors.specs.Selectors.{Step, step_to, step_at, sequence}

@@ -3,8 +3,8 @@ use Rattle.std.proofs.Common.{◌≡◌, ℕ, true, List, map, Some, None, inl, 
 use Rattle.std.specs.Prelude.{codes}
 use Rattle.std.specs.Char.{to_ascii_lowercase}
 use Rattle.std.proofs.lemmas.Slice.Eq.{bytes_eq-Decides}
-use Rattle.definitions.specs.Words.{is_word}
-use Rattle.definitions.proofs.Runs.{chosen}
+use Rattle.css_definitions.specs.Words.{is_word}
+use Rattle.reading.proofs.Runs.{chosen}
 use Rattle.plain_types.specs.declared.selector_parts.PseudoElement.{PseudoElement}
 use Rattle.selectors.specs.declared.pseudo_classes.Nesting.{Nesting}
 use Rattle.selectors.specs.Simples.{plain_class, nth_class}

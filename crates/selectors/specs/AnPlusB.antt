@@ -1,17 +1,16 @@
 -- The An+B notation: CSS Syntax 3, 6. Our own: it is read from the source text of the argument, in which
 -- comments count for nothing, and not from its tokens; and its numbers stop at those of 32 bits.
--- All of it is ASCII, so the text is read by bytes.
-use Rattle.std.specs.Prelude.{ℕ, Bool, true, false, ◌-◌, ◌^◌, min, ◌==◌, if◌then◌else◌, List, [], ◌∷◌, take, drop, flat_map, Option, Some, None, codes, ℤ, pos, neg_ℤ}
+use Rattle.std.specs.Prelude.{ℕ, Bool, true, false, ◌-◌, ◌^◌, ◌==◌, if◌then◌else◌, List, [], ◌∷◌, take, drop, flat_map, Option, Some, None, codes, ℤ, pos, neg_ℤ}
 use Rattle.std.specs.Int.{int_max, int_min}
 use Rattle.std.specs.Str.Parse.{digits_value}
 use Rattle.plain_types.specs.StyleNames.{lower_case}
-use Rattle.definitions.specs.Punctuation.{plus_sign, hyphen_minus, right_parenthesis}
-use Rattle.definitions.specs.Reading.{◌then◌, ◌otherwise◌, past_character, past_text, run_at}
+use Rattle.reading.specs.Punctuation.{plus_sign, hyphen_minus, right_parenthesis}
+use Rattle.reading.specs.Reading.{◌then◌, ◌otherwise◌, past_character, past_text, run_at}
 use Rattle.css_tokens.specs.Numbers.{sign_at, digits_at, signed}
 use Rattle.css_tokens.specs.Urls.{past_blanks}
 use Rattle.css_tokens.specs.declared.token.Token.{Token}
-use Rattle.css_values.specs.Parts.{is_sign}
-use Rattle.selectors.specs.Parts.{past_close, only}
+use Rattle.css_definitions.specs.Words.{is_ascii}
+use Rattle.css_tokens.specs.TokenReading.{is_sign, past_close, only}
 use Rattle.selectors.specs.declared.an_plus_b.AnPlusB.{AnPlusB}
 
 abbrev pub an_plus_b : ℤ → ℤ → AnPlusB
@@ -26,30 +25,26 @@ abbrev pub written_sign_at : List ℕ → Option (Bool × List ℕ)
 written_sign_at [] = None
 written_sign_at (first ∷ rest) = if first == hyphen_minus then Some (true, rest) else (if first == plus_sign then Some (false, rest) else None)
 
--- the nearest number of 32 bits with a sign
-abbrev pub nearest_i32 : Bool → ℕ → ℤ
-nearest_i32 negative number = int_max (neg_ℤ (pos (2 ^ 31))) (int_min (signed negative number) (pos (2 ^ 31 - 1)))
+-- the nearest number of 32 bits
+abbrev pub nearest_i32 : ℤ → ℤ
+nearest_i32 number = int_max (neg_ℤ (pos (2 ^ 31))) (int_min number (pos (2 ^ 31 - 1)))
 
 -- digits after a sign
 abbrev pub signed_at : Bool × List ℕ → Option (ℤ × List ℕ)
-signed_at sign = digits_at sign.1 then λ digits. Some (nearest_i32 sign.0 (digits_value 10 digits.0), digits.1)
+signed_at sign = digits_at sign.1 then λ digits. Some (nearest_i32 (signed sign.0 (digits_value 10 digits.0)), digits.1)
 
--- the digits before `n`, or 1 where there are none
-abbrev pub digits_or_one : Option (List ℕ × List ℕ) → List ℕ → ℕ × List ℕ
-digits_or_one (Some digits) text = (digits_value 10 digits.0, digits.1)
-digits_or_one None text = (1, text)
+-- what was read after a sign, or 1 where nothing was
+abbrev pub or_one : Bool × List ℕ → Option (ℤ × List ℕ) → ℤ × List ℕ
+or_one sign (Some read) = read
+or_one sign None = (signed sign.0 1, sign.1)
 
--- the same as the code counts it, by numbers of 64 bits
-abbrev pub counted_or_one : ℕ × List ℕ → ℕ × List ℕ
-counted_or_one count = (min count.0 (2 ^ 64 - 1), count.1)
-
--- `n` after a sign and these digits
-abbrev pub n_of : Bool → ℕ × List ℕ → Option (ℤ × List ℕ)
-n_of negative count = past_character 110 count.1 then λ rest. Some (nearest_i32 negative count.0, rest)
+-- this number, and `n`
+abbrev pub n_of : ℤ × List ℕ → Option (ℤ × List ℕ)
+n_of number = past_character 110 number.1 then λ rest. Some (number.0, rest)
 
 -- after a sign: digits, or 1 where there are none, and `n`
 abbrev pub n_at : Bool × List ℕ → Option (ℤ × List ℕ)
-n_at sign = n_of sign.0 (digits_or_one (digits_at sign.1) sign.1)
+n_at sign = n_of (or_one sign (signed_at sign))
 
 -- blanks, a sign, blanks and digits
 abbrev pub offset_at : List ℕ → Option (ℤ × List ℕ)
@@ -93,8 +88,12 @@ abbrev pub argument_token_at : List Token → Option (Token × List Token)
 argument_token_at [] = None
 argument_token_at (first ∷ rest) = if is_sign right_parenthesis first.kind then None else Some (first, rest)
 
+-- the meaning of a source text: all of the notation is ASCII, where each byte is a character
+abbrev pub source_value : List ℕ → Option AnPlusB
+source_value bytes = if is_ascii bytes then an_plus_b_value bytes else None
+
 abbrev pub argument_of : List ℕ → List Token × List Token → Option (AnPlusB × List Token)
-argument_of text argument = an_plus_b_value (source text argument.0) then λ value. past_close right_parenthesis argument.1 then λ rest. Some (value, rest)
+argument_of text argument = source_value (source text argument.0) then λ value. past_close right_parenthesis argument.1 then λ rest. Some (value, rest)
 
 -- what stands after `:nth-child(` and its kin, with the end of the function
 unfoldable pub an_plus_b_at : List ℕ → List Token → Option (AnPlusB × List Token)

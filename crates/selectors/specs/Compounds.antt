@@ -1,14 +1,15 @@
--- Compound selectors, and the lists of them in `:is()`, `:where()` and `:not()`: Selectors 4, Grammar and 4.
+-- Compound selectors, and the lists of them in `:is()`, `:where()` and `:not()`: Selectors 4, 4 and "Grammar".
 -- Our own: these lists are not forgiving, hold no combinators, and are nested at most sixteen deep.
 use Rattle.std.specs.Prelude.{ℕ, zero, suc, if◌then◌else◌, List, [], ◌∷◌, ◌++◌, Option, Some, None, codes}
 use Rattle.plain_types.specs.declared.selector.Compound.{Compound}
 use Rattle.plain_types.specs.declared.selector.Simple.{Simple}
 use Rattle.plain_types.specs.declared.selector.Simple.TheVariants as simple
-use Rattle.definitions.specs.Punctuation.{right_parenthesis}
-use Rattle.definitions.specs.Reading.{◌then◌, ◌otherwise◌, run_at}
-use Rattle.definitions.specs.Words.{is_word}
+use Rattle.reading.specs.Punctuation.{right_parenthesis}
+use Rattle.reading.specs.Reading.{◌then◌, ◌otherwise◌, run_at}
+use Rattle.css_definitions.specs.Words.{is_word}
 use Rattle.css_tokens.specs.declared.token.Token.{Token}
-use Rattle.selectors.specs.Parts.{name_at, function_at, past_sign, past_close, comma_list_at}
+use Rattle.css_tokens.specs.TokenReading.{ident_at, function_at, past_delimiter, past_close}
+use Rattle.selectors.specs.Parts.{comma_list_at}
 use Rattle.selectors.specs.AnPlusB.{an_plus_b_at}
 use Rattle.selectors.specs.Simples.{type_at, id_at, class_at, attribute_at, plain_class, nth_class, nth}
 use Rattle.selectors.specs.declared.pseudo_classes.Nesting.{Nesting}
@@ -39,7 +40,7 @@ type_part (Some type) tokens = (type.0 ∷ [], type.1)
 
 -- a pseudo-class without arguments
 abbrev pub plain_class_at : List Token → Option (Simple × List Token)
-plain_class_at tokens = name_at tokens then λ name. plain_class name.0 then λ class. Some (class, name.1)
+plain_class_at tokens = ident_at tokens then λ name. plain_class name.0 then λ class. Some (class, name.1)
 
 -- one simple selector or more
 abbrev pub some_compound : List Simple × List Token → Option (Compound × List Token)
@@ -56,7 +57,7 @@ module _ (text : List ℕ) (choices_at : List Token → Option (List Compound ×
 
   -- `<pseudo-class-selector>`: `':' [ <ident-token> | <function-token> <any-value> ')' ]`
   unfoldable pub pseudo_class_at : List Token → Option (Simple × List Token)
-  pseudo_class_at tokens = past_sign colon tokens then λ rest.
+  pseudo_class_at tokens = past_delimiter colon tokens then λ rest.
       plain_class_at rest otherwise (function_at rest then λ name. class_function_at name.0 name.1)
 
   -- `<subclass-selector>`

@@ -1,4 +1,4 @@
--- The grammar of lists of selectors as a relation: Selectors 4, Grammar. Each part says which tokens may be
+-- The grammar of lists of selectors as a relation: Selectors 4, "Grammar". Each part says which tokens may be
 -- read as it, and which are left behind it. Nothing here says how far a part goes, or which of two readings is
 -- taken: that there is one at most is a law.
 use Rattle.std.specs.Prelude.{◌≡◌, ℕ, suc, true, List, [], ◌∷◌, Some}
@@ -9,13 +9,12 @@ use Rattle.plain_types.specs.declared.selector_parts.Join.{Join}
 use Rattle.plain_types.specs.declared.selector_parts.Join.TheVariants as join
 use Rattle.plain_types.specs.declared.selector_parts.PseudoElement.{PseudoElement}
 use Rattle.plain_types.specs.declared.selector_parts.PseudoElement.TheVariants as pseudo
-use Rattle.definitions.specs.Punctuation.{comma, right_parenthesis}
+use Rattle.reading.specs.Punctuation.{comma, right_parenthesis}
 use Rattle.css_tokens.specs.declared.token.Token.{Token}
-use Rattle.css_values.specs.Parts.{is_blank_kind}
+use Rattle.css_tokens.specs.TokenReading.{is_whitespace, function_at, held_at, past_delimiter, past_close, skip_whitespace}
 use Rattle.selectors.specs.declared.an_plus_b.AnPlusB.{AnPlusB}
 use Rattle.selectors.specs.declared.pseudo_classes.Nesting.{Nesting}
 use Rattle.selectors.specs.declared.pseudo_classes.Siblings.{Siblings}
-use Rattle.selectors.specs.Parts.{function_at, held_at, past_sign, past_close, past_whitespace}
 use Rattle.selectors.specs.AnPlusB.{an_plus_b_at}
 use Rattle.selectors.specs.Simples.{type_at, id_at, class_at, attribute_at, nth_class, nth}
 use Rattle.selectors.specs.Compounds.{colon, plain_class_at, nesting_class, nested, compound}
@@ -27,11 +26,11 @@ mutual
     an_id : (levels : ℕ) (tokens : List Token) (simple : Simple) (rest : List Token) → id_at tokens ≡ Some (simple, rest) → IsSubclass text levels tokens simple rest
     a_class : (levels : ℕ) (tokens : List Token) (simple : Simple) (rest : List Token) → class_at tokens ≡ Some (simple, rest) → IsSubclass text levels tokens simple rest
     an_attribute : (levels : ℕ) (tokens : List Token) (simple : Simple) (rest : List Token) → attribute_at tokens ≡ Some (simple, rest) → IsSubclass text levels tokens simple rest
-    a_plain_class : (levels : ℕ) (tokens after : List Token) (simple : Simple) (rest : List Token) → past_sign colon tokens ≡ Some after → plain_class_at after ≡ Some (simple, rest) → IsSubclass text levels tokens simple rest
+    a_plain_class : (levels : ℕ) (tokens after : List Token) (simple : Simple) (rest : List Token) → past_delimiter colon tokens ≡ Some after → plain_class_at after ≡ Some (simple, rest) → IsSubclass text levels tokens simple rest
     an_nth_class : (levels : ℕ) (tokens after : List Token) (name : List ℕ) (inside : List Token) (siblings : Siblings) (value : AnPlusB) (rest : List Token)
-        → past_sign colon tokens ≡ Some after → function_at after ≡ Some (name, inside) → nth_class name ≡ Some siblings → an_plus_b_at text inside ≡ Some (value, rest) → IsSubclass text levels tokens (nth siblings value) rest
+        → past_delimiter colon tokens ≡ Some after → function_at after ≡ Some (name, inside) → nth_class name ≡ Some siblings → an_plus_b_at text inside ≡ Some (value, rest) → IsSubclass text levels tokens (nth siblings value) rest
     a_nesting_class : (levels : ℕ) (tokens after : List Token) (name : List ℕ) (inside : List Token) (nesting : Nesting) (choices : List Compound) (rest : List Token)
-        → past_sign colon tokens ≡ Some after → function_at after ≡ Some (name, inside) → nesting_class name ≡ Some nesting → AreChoices text levels inside choices rest → IsSubclass text (suc levels) tokens (nested nesting choices) rest
+        → past_delimiter colon tokens ≡ Some after → function_at after ≡ Some (name, inside) → nesting_class name ≡ Some nesting → AreChoices text levels inside choices rest → IsSubclass text (suc levels) tokens (nested nesting choices) rest
 
   -- `<subclass-selector>*`
   pub data AreSubclasses (text : List ℕ) : ℕ → List Token → List Simple → List Token → Type 0 where
@@ -49,14 +48,14 @@ mutual
   -- `<compound-selector># ')'`
   pub data AreChoices (text : List ℕ) : ℕ → List Token → List Compound → List Token → Type 0 where
     last_choice : (levels : ℕ) (tokens : List Token) (choice : Compound) (after rest : List Token)
-        → IsCompound text levels (past_whitespace tokens) choice after → past_close right_parenthesis (past_whitespace after) ≡ Some rest → AreChoices text levels tokens (choice ∷ []) rest
+        → IsCompound text levels (skip_whitespace tokens) choice after → past_close right_parenthesis (skip_whitespace after) ≡ Some rest → AreChoices text levels tokens (choice ∷ []) rest
     next_choice : (levels : ℕ) (tokens : List Token) (choice : Compound) (after next : List Token) (choices : List Compound) (rest : List Token)
-        → IsCompound text levels (past_whitespace tokens) choice after → past_sign comma (past_whitespace after) ≡ Some next → AreChoices text levels next choices rest → AreChoices text levels tokens (choice ∷ choices) rest
+        → IsCompound text levels (skip_whitespace tokens) choice after → past_delimiter comma (skip_whitespace after) ≡ Some next → AreChoices text levels next choices rest → AreChoices text levels tokens (choice ∷ choices) rest
 
 -- `<combinator>`, whitespace around it; whitespace alone is the descendant combinator
 pub data IsCombinator : List Token → Join → List Token → Type 0 where
-  written : (tokens : List Token) (join : Join) (after : List Token) → held_at combinator_of (past_whitespace tokens) ≡ Some (join, after) → IsCombinator tokens join (past_whitespace after)
-  descendant : (blank : Token) (after : List Token) → is_blank_kind blank.kind ≡ true → IsCombinator (blank ∷ after) join.Descendant (past_whitespace after)
+  written : (tokens : List Token) (join : Join) (after : List Token) → held_at combinator_of (skip_whitespace tokens) ≡ Some (join, after) → IsCombinator tokens join (skip_whitespace after)
+  descendant : (blank : Token) (after : List Token) → is_whitespace blank.kind ≡ true → IsCombinator (blank ∷ after) join.Descendant (skip_whitespace after)
 
 -- `[ <combinator>? <compound-selector> ]*`
 pub data AreSteps (text : List ℕ) : List Token → List Step → List Token → Type 0 where
@@ -77,6 +76,6 @@ pub data IsSelector (text : List ℕ) : List Token → Selector → List Token �
 
 -- `<selector-list>`, whitespace around each
 pub data AreSelectors (text : List ℕ) : List Token → List Selector → Type 0 where
-  last_selector : (tokens : List Token) (selector : Selector) (after : List Token) → IsSelector text (past_whitespace tokens) selector after → past_whitespace after ≡ [] → AreSelectors text tokens (selector ∷ [])
+  last_selector : (tokens : List Token) (selector : Selector) (after : List Token) → IsSelector text (skip_whitespace tokens) selector after → skip_whitespace after ≡ [] → AreSelectors text tokens (selector ∷ [])
   next_selector : (tokens : List Token) (selector : Selector) (after next : List Token) (selectors : List Selector)
-      → IsSelector text (past_whitespace tokens) selector after → past_sign comma (past_whitespace after) ≡ Some next → AreSelectors text next selectors → AreSelectors text tokens (selector ∷ selectors)
+      → IsSelector text (skip_whitespace tokens) selector after → past_delimiter comma (skip_whitespace after) ≡ Some next → AreSelectors text next selectors → AreSelectors text tokens (selector ∷ selectors)

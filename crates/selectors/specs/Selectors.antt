@@ -1,4 +1,4 @@
--- Complex selectors and lists of them: Selectors 4, Grammar.
+-- Complex selectors and lists of them: Selectors 4, "Grammar".
 use Rattle.std.specs.Prelude.{◌≡◌, ℕ, if◌then◌else◌, ◌==◌, List, [], ◌∷◌, ◌++◌, map, Option, Some, None, codes}
 use Rattle.plain_types.specs.declared.selector.Compound.{Compound}
 use Rattle.plain_types.specs.declared.selector.Selector.{Selector}
@@ -6,14 +6,14 @@ use Rattle.plain_types.specs.declared.selector_parts.Join.{Join}
 use Rattle.plain_types.specs.declared.selector_parts.Join.TheVariants as join
 use Rattle.plain_types.specs.declared.selector_parts.PseudoElement.{PseudoElement}
 use Rattle.plain_types.specs.declared.selector_parts.PseudoElement.TheVariants as pseudo
-use Rattle.definitions.specs.Punctuation.{plus_sign, greater_than_sign}
-use Rattle.definitions.specs.Reading.{◌then◌, ◌otherwise◌, run_at}
-use Rattle.definitions.specs.Words.{is_word}
+use Rattle.reading.specs.Punctuation.{plus_sign, greater_than_sign}
+use Rattle.reading.specs.Reading.{◌then◌, ◌otherwise◌, run_at}
+use Rattle.css_definitions.specs.Words.{is_word}
 use Rattle.css_tokens.specs.declared.token.Token.{Token}
 use Rattle.css_tokens.specs.declared.token.TokenKind.{TokenKind}
 use Rattle.css_tokens.specs.declared.token.TokenKind.TheVariants as kind
-use Rattle.css_values.specs.Parts.{is_blank_kind}
-use Rattle.selectors.specs.Parts.{held_at, name_at, past_sign, past_whitespace, only, comma_list_at}
+use Rattle.css_tokens.specs.TokenReading.{is_whitespace, held_at, ident_at, past_delimiter, skip_whitespace, only}
+use Rattle.selectors.specs.Parts.{comma_list_at}
 use Rattle.selectors.specs.declared.selector_list.Sequence.{Sequence}
 use Rattle.selectors.specs.Compounds.{colon, compound, compound_at, choices_at}
 
@@ -30,11 +30,11 @@ combinator_of _ = None
 -- whitespace is the descendant combinator
 abbrev pub descendant_at : List Token → Option (Join × List Token)
 descendant_at [] = None
-descendant_at (first ∷ rest) = if is_blank_kind first.kind then Some (join.Descendant, past_whitespace rest) else None
+descendant_at (first ∷ rest) = if is_whitespace first.kind then Some (join.Descendant, skip_whitespace rest) else None
 
 -- `<combinator>`, whitespace around it
 abbrev pub combinator_at : List Token → Option (Join × List Token)
-combinator_at tokens = (held_at combinator_of (past_whitespace tokens) then λ join. Some (join.0, past_whitespace join.1)) otherwise descendant_at tokens
+combinator_at tokens = (held_at combinator_of (skip_whitespace tokens) then λ join. Some (join.0, skip_whitespace join.1)) otherwise descendant_at tokens
 
 -- Pseudo-elements: CSS Pseudo-Elements 4.
 
@@ -51,15 +51,15 @@ pseudo_element name = if is_word name (codes "marker") then Some pseudo.Marker e
 
 -- after two colons
 abbrev pub modern_pseudo_element_at : List Token → Option (PseudoElement × List Token)
-modern_pseudo_element_at tokens = name_at tokens then λ name. pseudo_element name.0 then λ pseudo. Some (pseudo, name.1)
+modern_pseudo_element_at tokens = ident_at tokens then λ name. pseudo_element name.0 then λ pseudo. Some (pseudo, name.1)
 
 -- after one
 abbrev pub legacy_pseudo_element_at : List Token → Option (PseudoElement × List Token)
-legacy_pseudo_element_at tokens = name_at tokens then λ name. legacy_pseudo_element name.0 then λ pseudo. Some (pseudo, name.1)
+legacy_pseudo_element_at tokens = ident_at tokens then λ name. legacy_pseudo_element name.0 then λ pseudo. Some (pseudo, name.1)
 
 -- `<pseudo-element-selector>`, and `<legacy-pseudo-element-selector>`
 unfoldable pub pseudo_element_at : List Token → Option (PseudoElement × List Token)
-pseudo_element_at tokens = past_sign colon tokens then λ rest. (past_sign colon rest then modern_pseudo_element_at) otherwise legacy_pseudo_element_at rest
+pseudo_element_at tokens = past_delimiter colon tokens then λ rest. (past_delimiter colon rest then modern_pseudo_element_at) otherwise legacy_pseudo_element_at rest
 
 -- Complex selectors.
 

@@ -1,18 +1,18 @@
--- Simple selectors: Selectors 4, Grammar. Names of pseudo-classes count in any ASCII case, those of types,
+-- Simple selectors: Selectors 4, "Grammar". Names of pseudo-classes count in any ASCII case, those of types,
 -- ids, classes and attributes as they are written (our own: without namespaces).
 use Rattle.std.specs.Prelude.{ℕ, Bool, true, false, ◌==◌, if◌then◌else◌, List, [], ◌∷◌, Option, Some, None, codes, pos}
 use Rattle.plain_types.specs.declared.selector.Simple.{Simple}
 use Rattle.plain_types.specs.declared.selector.Simple.TheVariants as simple
 use Rattle.plain_types.specs.declared.selector_parts.AttrTest.{AttrTest}
 use Rattle.plain_types.specs.declared.selector_parts.AttrTest.TheVariants as test
-use Rattle.definitions.specs.Punctuation.{asterisk, full_stop}
-use Rattle.definitions.specs.Reading.{◌then◌, ◌otherwise◌}
-use Rattle.definitions.specs.Words.{is_word}
+use Rattle.reading.specs.Punctuation.{asterisk, full_stop}
+use Rattle.reading.specs.Reading.{◌then◌, ◌otherwise◌}
+use Rattle.css_definitions.specs.Words.{is_word}
 use Rattle.css_tokens.specs.declared.token.Token.{Token}
 use Rattle.css_tokens.specs.declared.token.TokenKind.{TokenKind}
 use Rattle.css_tokens.specs.declared.token.TokenKind.TheVariants as kind
+use Rattle.css_tokens.specs.TokenReading.{held_at, ident_at, past_delimiter, past_close, skip_whitespace, optional}
 use Rattle.css_values.specs.Parts.{is_among}
-use Rattle.selectors.specs.Parts.{held_at, name_at, past_sign, past_close, past_whitespace, optional}
 use Rattle.selectors.specs.declared.an_plus_b.AnPlusB.{AnPlusB}
 use Rattle.selectors.specs.declared.pseudo_classes.Siblings.{Siblings}
 use Rattle.selectors.specs.AnPlusB.{an_plus_b}
@@ -36,7 +36,7 @@ id_at tokens = held_at id_of tokens
 
 -- `<class-selector>`: `.` and an identifier
 abbrev pub class_at : List Token → Option (Simple × List Token)
-class_at tokens = past_sign full_stop tokens then λ rest. name_at rest then λ name. Some (simple.Class name.0, name.1)
+class_at tokens = past_delimiter full_stop tokens then λ rest. ident_at rest then λ name. Some (simple.Class name.0, name.1)
 
 -- Attribute selectors: Selectors 4, 6.
 
@@ -56,8 +56,8 @@ equals_sign = 61
 -- `<attr-matcher>`: `[ '~' | '|' | '^' | '$' | '*' ]? '='`
 abbrev pub test_at : List Token → Option (AttrTest × List Token)
 test_at tokens =
-    (past_sign equals_sign tokens then λ rest. Some (test.Equal, rest))
-    otherwise (held_at test_of tokens then λ test. past_sign equals_sign test.1 then λ rest. Some (test.0, rest))
+    (past_delimiter equals_sign tokens then λ rest. Some (test.Equal, rest))
+    otherwise (held_at test_of tokens then λ test. past_delimiter equals_sign test.1 then λ rest. Some (test.0, rest))
 
 -- `<string-token> | <ident-token>`
 abbrev pub value_of : TokenKind → Option (List ℕ)
@@ -86,7 +86,7 @@ right_square_bracket = 93
 
 -- whitespace and the bracket
 abbrev pub bracket_end : Simple → List Token → Option (Simple × List Token)
-bracket_end attribute tokens = past_close right_square_bracket (past_whitespace tokens) then λ rest. Some (attribute, rest)
+bracket_end attribute tokens = past_close right_square_bracket (skip_whitespace tokens) then λ rest. Some (attribute, rest)
 
 abbrev pub present : List ℕ → Simple
 present name = simple.Attr name test.Present [] false
@@ -96,18 +96,18 @@ abbrev pub after_value : List ℕ → AttrTest → List ℕ → Option Bool × L
 after_value name test value flag = bracket_end (simple.Attr name test value (or_sensitive flag.0)) flag.1
 
 abbrev pub flag_at : List Token → Option Bool × List Token
-flag_at tokens = optional (held_at flag_of (past_whitespace tokens)) tokens
+flag_at tokens = optional (held_at flag_of (skip_whitespace tokens)) tokens
 
 -- after the name: a test and a value
 abbrev pub tested_at : List ℕ → List Token → Option (Simple × List Token)
-tested_at name tokens = test_at (past_whitespace tokens) then λ test. held_at value_of (past_whitespace test.1) then λ value. after_value name test.0 value.0 (flag_at value.1)
+tested_at name tokens = test_at (skip_whitespace tokens) then λ test. held_at value_of (skip_whitespace test.1) then λ value. after_value name test.0 value.0 (flag_at value.1)
 
 -- `<attribute-selector>`
 unfoldable pub attribute_at : List Token → Option (Simple × List Token)
 attribute_at tokens =
-    past_sign left_square_bracket tokens then λ inside. name_at (past_whitespace inside) then λ name. bracket_end (present name.0) name.1 otherwise tested_at name.0 name.1
+    past_delimiter left_square_bracket tokens then λ inside. ident_at (skip_whitespace inside) then λ name. bracket_end (present name.0) name.1 otherwise tested_at name.0 name.1
 
--- Pseudo-classes: Selectors 4, 8, 9 and those of the tree's structure.
+-- Pseudo-classes: Selectors 4, 8, 9 and "Tree-Structural pseudo-classes".
 
 -- those in which no element is ever (our own: nobody points at an element, has it in focus or follows links)
 abbrev pub never_classes : List (List ℕ)

@@ -1,4 +1,4 @@
--- Selectors 4, Calculating a selector's specificity.
+-- How specific a selector is: Selectors 4, "Calculating a selector's specificity".
 use Rattle.std.specs.Prelude.{ℕ, Bool, ◌&&◌, ◌||◌, ◌==◌, ◌+◌, ◌-◌, ◌^◌, min, nat_lt, if◌then◌else◌, List, [], ◌∷◌, map}
 use Rattle.plain_types.specs.declared.selector.Compound.{Compound}
 use Rattle.plain_types.specs.declared.selector.Selector.{Selector}

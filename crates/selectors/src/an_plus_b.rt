@@ -1,17 +1,16 @@
-//! The An+B notation (CSS Syntax 3, 6), read from the bytes of the argument.
+//! The An+B notation (CSS Syntax 3, 6), read from the source text of the argument.
 
-ghost use Rattle.std.specs.Prelude.{◌≡◌, ◌-◌, ◌^◌, min, IfOk, IsTrue, codes, flat_map};
-ghost use Rattle.std.specs.Char.{digit_value};
-ghost use Rattle.std.specs.Str.Parse.{digits_value};
-ghost use Rattle.definitions.specs.Characters.{is_blank, is_digit};
-ghost use Rattle.definitions.specs.Reading.{Reads, past_character, past_text, span, run_at};
-ghost use Rattle.css_tokens.specs.Counting.{counted};
-ghost use Rattle.css_tokens.specs.Numbers.{sign_at, digits_at};
-ghost use Rattle.css_tokens.specs.Urls.{past_blanks};
-ghost use Rattle.selectors.specs.AnPlusB.{ended, written_sign_at, nearest_i32, signed_at, digits_or_one, counted_or_one, n_at, offset_at, odd_or_even, b_alone, a_and_b, an_plus_b_of, an_plus_b_value, slice, source, argument_token_at, an_plus_b_at};
+ghost use Rattle.std.specs.Prelude.{◌≡◌, ◌∷◌, true, false, MatchOption, IfOk, IfSome, codes, flat_map};
+ghost use Rattle.std.specs.Str.{chars, IsUtf8};
+ghost use Rattle.reading.specs.Reading.{Reads, past_text, run_at};
+ghost use Rattle.css_definitions.specs.Words.{is_ascii};
+ghost use Rattle.selectors.specs.AnPlusB.{ended, written_sign_at, nearest_i32, signed_at, or_one, n_at, offset_at, odd_or_even, b_alone, a_and_b, an_plus_b_value, source_value, slice, argument_token_at, an_plus_b_at};
 
-use crate::parts::past_close;
+use css_tokens::characters::{first_char, past_blanks, past_character};
+use css_tokens::numbers::{digits, sign};
 use css_tokens::token::{Token, TokenKind};
+use css_tokens::token_reading::close;
+use plain_types::count::Count;
 use plain_types::memory::Memory;
 use std::alloc::Global;
 
@@ -22,186 +21,98 @@ pub(crate) struct AnPlusB {
     pub b: i32,
 }
 
-fn is_blank(byte: u8) -> bool
-    ensures { result ≡ is_blank byte }
-{
-    byte == b' ' || byte == b'\t' || byte == b'\n'
-}
-
-fn is_digit(byte: u8) -> bool
-    ensures { result ≡ is_digit byte }
-{
-    byte >= b'0' && byte <= b'9'
-}
-
-/// The text after the blanks at its front.
-#[tactic(auto, unfolding(definitions::specs::Reading::span))]
-fn past_blanks(text: &[u8]) -> &[u8]
-    ensures { result.now ≡ past_blanks text.now }
-{
-    let mut rest = text;
-    'blanks: while let Some((first, after)) = rest.split_first() {
-        if !is_blank(*first) {
-            break;
-        }
-        rest = after;
-    }
-    rest
-}
-
-/// The text after this byte.
-fn past_byte(wanted: u8, text: &[u8]) -> Option<&[u8]>
-    ensures { Reads (λ x. x.now) result (past_character wanted text.now) }
-{
-    let (first, rest) = text.split_first()?;
-    if *first == wanted { Some(rest) } else { None }
-}
-
 /// What was read, where nothing but blanks is left.
-fn ended(a: i32, b: i32, text: &[u8]) -> Option<AnPlusB>
-    ensures { result ≡ ended (record { a = a; b = b }) text.now }
+fn ended(a: i32, b: i32, text: &str) -> Option<AnPlusB>
+    ensures { result ≡ ended (record { a = a; b = b }) (chars text.now) }
 {
-    if past_blanks(text).is_empty() {
-        Some(AnPlusB { a, b })
-    } else {
-        None
-    }
-}
-
-/// Whether a `-` stands at the front, and the text after an optional sign.
-fn sign(text: &[u8]) -> (bool, &[u8])
-    ensures { sign_at text.now ≡ (result.0, result.1.now) }
-{
-    let Some((first, rest)) = text.split_first() else {
-        return (false, text);
-    };
-    if *first == b'-' {
-        (true, rest)
-    } else if *first == b'+' {
-        (false, rest)
-    } else {
-        (false, text)
+    match first_char(past_blanks(text)) {
+        None => Some(AnPlusB { a, b }),
+        Some(_) => None,
     }
 }
 
 /// Whether the sign at the front is a `-`, and the text after it.
-fn written_sign(text: &[u8]) -> Option<(bool, &[u8])>
-    ensures { Reads (λ x. (x.0, x.1.now)) result (written_sign_at text.now) }
+fn written_sign(text: &str) -> Option<(bool, &str)>
+    ensures gives { Reads (λ x. (x.0, chars x.1.now)) result (written_sign_at (chars text.now)) }
+    ensures text { IfSome result (λ x. IsUtf8 x.1.now) }
 {
-    let (first, rest) = text.split_first()?;
-    if *first == b'-' {
+    let (first, rest) = first_char(text)?;
+    if first == '-' {
         Some((true, rest))
-    } else if *first == b'+' {
+    } else if first == '+' {
         Some((false, rest))
     } else {
         None
     }
 }
 
-/// The number of the digits at the front, and the text after them.
-fn digit_run(text: &[u8]) -> (u64, &[u8])
-    ensures number { result.0 ≡ min (digits_value 10 (span is_digit text.now).0) (2 ^ 64 - 1) }
-    ensures rest { result.1.now ≡ (span is_digit text.now).1 }
+/// The nearest number of 32 bits.
+fn nearest_i32(count: Count) -> i32
+    ensures { result ≡ nearest_i32 count }
 {
-    let mut number: u64 = 0;
-    let mut rest = text;
-    'digits: while let Some((first, after)) = rest.split_first() {
-        if !is_digit(*first) {
-            break;
-        }
-        number = number
-            .saturating_mul(10)
-            .saturating_add(digit_value(*first));
-        rest = after;
-    }
-    (number, rest)
-}
-
-/// The number of a digit.
-fn digit_value(byte: u8) -> u64
-    requires { IsTrue (is_digit byte) }
-    ensures { result ≡ digit_value byte }
-{
-    u64::from(byte - b'0')
-}
-
-/// The number of one digit or more, and the text after them.
-fn digits(text: &[u8]) -> Option<(u64, &[u8])>
-    ensures { Reads (λ x. (x.0, x.1.now)) result (counted (digits_at text.now)) }
-{
-    let (first, _) = text.split_first()?;
-    if is_digit(*first) {
-        Some(digit_run(text))
-    } else {
-        None
-    }
-}
-
-/// The nearest number of 32 bits with a sign.
-fn nearest_i32(negative: bool, number: u64) -> i32
-    ensures { result ≡ nearest_i32 negative number }
-{
-    let magnitude = i128::from(number);
-    let value = if negative { -magnitude } else { magnitude };
-    value.clamp(i128::from(i32::MIN), i128::from(i32::MAX)) as i32
+    count.clamp(Count::from(i32::MIN), Count::from(i32::MAX)) as i32
 }
 
 /// The number of digits after a sign.
 #[tactic(auto, using(crate::proofs::Numbering::signed_some, crate::proofs::Numbering::signed_none))]
-fn signed(negative: bool, text: &[u8]) -> Option<(i32, &[u8])>
-    ensures { Reads (λ x. (x.0, x.1.now)) result (signed_at (negative, text.now)) }
+fn signed(negative: bool, text: &str) -> Option<(i32, &str)>
+    ensures gives { Reads (λ x. (x.0, chars x.1.now)) result (signed_at (negative, chars text.now)) }
+    ensures text { IfSome result (λ x. IsUtf8 x.1.now) }
 {
-    let (number, rest) = digits(text)?;
-    Some((nearest_i32(negative, number), rest))
+    let (count, rest) = digits(negative, text)?;
+    Some((nearest_i32(count), rest))
 }
 
-/// The number of the digits at the front, or 1 where there are none, and the text after them.
-#[tactic(auto, using(crate::proofs::Numbering::digits_or_one_some, crate::proofs::Numbering::digits_or_one_none))]
-fn digits_or_one(text: &[u8]) -> (u64, &[u8])
-    ensures { counted_or_one (digits_or_one (digits_at text.now) text.now) ≡ (result.0, result.1.now) }
+/// The number of the digits after a sign, or of 1 where there are none.
+fn signed_or_one(negative: bool, text: &str) -> (i32, &str)
+    ensures gives { or_one (negative, chars text.now) (signed_at (negative, chars text.now)) ≡ (result.0, chars result.1.now) }
+    ensures text { IsUtf8 result.1.now }
 {
-    match digits(text) {
+    match signed(negative, text) {
         Some((number, rest)) => (number, rest),
-        None => (1, text),
+        None => (if negative { -1 } else { 1 }, text),
     }
 }
 
 /// `n` after a sign and perhaps digits.
-#[tactic(auto, using(crate::proofs::Numbering::n_some, crate::proofs::Numbering::n_none))]
-fn n(negative: bool, text: &[u8]) -> Option<(i32, &[u8])>
-    ensures { Reads (λ x. (x.0, x.1.now)) result (n_at (negative, text.now)) }
+fn n(negative: bool, text: &str) -> Option<(i32, &str)>
+    ensures gives { Reads (λ x. (x.0, chars x.1.now)) result (n_at (negative, chars text.now)) }
+    ensures text { IfSome result (λ x. IsUtf8 x.1.now) }
 {
-    let (count, rest) = digits_or_one(text);
-    let rest = past_byte(b'n', rest)?;
-    Some((nearest_i32(negative, count), rest))
+    let (number, rest) = signed_or_one(negative, text);
+    let rest = past_character('n', rest)?;
+    Some((number, rest))
 }
 
 /// Blanks, a sign, blanks and digits.
-fn offset(text: &[u8]) -> Option<(i32, &[u8])>
-    ensures { Reads (λ x. (x.0, x.1.now)) result (offset_at text.now) }
+fn offset(text: &str) -> Option<(i32, &str)>
+    ensures gives { Reads (λ x. (x.0, chars x.1.now)) result (offset_at (chars text.now)) }
+    ensures text { IfSome result (λ x. IsUtf8 x.1.now) }
 {
     let (negative, rest) = written_sign(past_blanks(text))?;
     signed(negative, past_blanks(rest))
 }
 
-fn past_odd(text: &[u8]) -> Option<&[u8]>
-    ensures { Reads (λ x. x.now) result (past_text (codes "odd") text.now) }
+fn past_odd(text: &str) -> Option<&str>
+    ensures gives { Reads (λ x. chars x.now) result (past_text (codes "odd") (chars text.now)) }
+    ensures text { IfSome result (λ x. IsUtf8 x.now) }
 {
-    past_byte(b'd', past_byte(b'd', past_byte(b'o', text)?)?)
+    past_character('d', past_character('d', past_character('o', text)?)?)
 }
 
-fn past_even(text: &[u8]) -> Option<&[u8]>
-    ensures { Reads (λ x. x.now) result (past_text (codes "even") text.now) }
+fn past_even(text: &str) -> Option<&str>
+    ensures gives { Reads (λ x. chars x.now) result (past_text (codes "even") (chars text.now)) }
+    ensures text { IfSome result (λ x. IsUtf8 x.now) }
 {
-    past_byte(
-        b'n',
-        past_byte(b'e', past_byte(b'v', past_byte(b'e', text)?)?)?,
+    past_character(
+        'n',
+        past_character('e', past_character('v', past_character('e', text)?)?)?,
     )
 }
 
 /// `odd | even`
-fn odd_or_even(text: &[u8]) -> Option<AnPlusB>
-    ensures { result ≡ odd_or_even text.now }
+fn odd_or_even(text: &str) -> Option<AnPlusB>
+    ensures { result ≡ odd_or_even (chars text.now) }
 {
     if let Some(rest) = past_odd(text) {
         return ended(2, 1, rest);
@@ -211,8 +122,8 @@ fn odd_or_even(text: &[u8]) -> Option<AnPlusB>
 }
 
 /// `<integer>`
-fn b_alone(text: &[u8]) -> Option<AnPlusB>
-    ensures { result ≡ b_alone text.now }
+fn b_alone(text: &str) -> Option<AnPlusB>
+    ensures { result ≡ b_alone (chars text.now) }
 {
     let (negative, start) = sign(text);
     let (b, rest) = signed(negative, start)?;
@@ -220,8 +131,8 @@ fn b_alone(text: &[u8]) -> Option<AnPlusB>
 }
 
 /// `<n-dimension> [ ['+' | '-'] <signless-integer> ]?`
-fn a_and_b(text: &[u8]) -> Option<AnPlusB>
-    ensures { result ≡ a_and_b text.now }
+fn a_and_b(text: &str) -> Option<AnPlusB>
+    ensures { result ≡ a_and_b (chars text.now) }
 {
     let (negative, start) = sign(text);
     let (a, rest) = n(negative, start)?;
@@ -234,8 +145,8 @@ fn a_and_b(text: &[u8]) -> Option<AnPlusB>
 
 /// The meaning of the text, blanks at its ends left out.
 #[tactic(auto, unfolding(crate::specs::AnPlusB::an_plus_b_value))]
-fn an_plus_b_value(text: &[u8]) -> Option<AnPlusB>
-    ensures { result ≡ an_plus_b_value text.now }
+fn an_plus_b_value(text: &str) -> Option<AnPlusB>
+    ensures { result ≡ an_plus_b_value (chars text.now) }
 {
     let start = past_blanks(text);
     if let Some(found) = odd_or_even(start) {
@@ -285,6 +196,26 @@ fn argument_token(tokens: &[Token]) -> Option<(&Token, &[Token])>
     }
 }
 
+/// The text of these bytes, where all of them are ASCII.
+fn ascii_text(bytes: &[u8]) -> Option<&str>
+    ensures text { MatchOption result (is_ascii bytes.now ≡ false) (λ text. (is_ascii bytes.now ≡ true) × (chars text.now ≡ bytes.now) × IsUtf8 text.now) }
+{
+    if !bytes.is_ascii() {
+        return None;
+    }
+    match std::str::from_utf8(bytes) {
+        Ok(text) => Some(text),
+        Err(_) => None,
+    }
+}
+
+/// The meaning of the source text of an argument.
+fn source_value(bytes: &[u8]) -> Option<AnPlusB>
+    ensures { result ≡ source_value bytes.now }
+{
+    an_plus_b_value(ascii_text(bytes)?)
+}
+
 /// What stands after `:nth-child(` and its kin, with the end of the function.
 #[tactic(auto, unfolding(crate::specs::AnPlusB::an_plus_b_at))]
 pub(crate) fn an_plus_b<'a>(
@@ -296,10 +227,10 @@ pub(crate) fn an_plus_b<'a>(
 {
     let (mut bytes, rest) = argument(alloc, text, tokens)?;
     bytes.make_ascii_lowercase();
-    let Some(value) = an_plus_b_value(bytes.as_slice()) else {
+    let Some(value) = source_value(bytes.as_slice()) else {
         return Ok(None);
     };
-    match past_close(')', rest) {
+    match close(')', rest) {
         Some(end) => Ok(Some((value, end))),
         None => Ok(None),
     }

@@ -2,16 +2,16 @@
 
 ghost use Rattle.std.specs.Prelude.{◌≡◌, ◌++◌, ◌∷◌, IfOk};
 ghost use Rattle.std.specs.Str.{chars};
-ghost use Rattle.definitions.specs.Reading.{Reads, run_at};
+ghost use Rattle.reading.specs.Reading.{Reads, run_at};
 ghost use Rattle.selectors.specs.Parts.{spaced_at, after_comma_at, comma_list_at};
 ghost use Rattle.selectors.specs.Simples.{type_at};
 ghost use Rattle.selectors.specs.Compounds.{type_part, plain_class_at, class_function_at, pseudo_class_at, subclass_at, compound_at, choices_at};
 
 use crate::an_plus_b::an_plus_b;
-use crate::parts::{function, name, past_close, past_sign, past_whitespace};
 use crate::pseudo_classes::{nested, nesting_class, nth, nth_class, plain_class};
 use crate::simples::{attribute, class, id, type_selector};
 use css_tokens::token::Token;
+use css_tokens::token_reading::{close, delimiter, function, ident, skip_whitespace};
 use plain_types::list::List;
 use plain_types::memory::Memory;
 use plain_types::selector::{Compound, Simple};
@@ -35,7 +35,7 @@ fn type_part(alloc: Global, tokens: &[Token]) -> Result<(List<Simple>, &[Token])
 fn plain_class_at(tokens: &[Token]) -> Option<(Simple, &[Token])>
     ensures { Reads (λ x. (x.0, x.1.now)) result (plain_class_at tokens.now) }
 {
-    let (name, rest) = name(tokens)?;
+    let (name, rest) = ident(tokens)?;
     let class = plain_class(name.as_str())?;
     Some((class, rest))
 }
@@ -77,7 +77,7 @@ fn pseudo_class<'a>(
 ) -> Result<Option<(Simple, &'a [Token])>, Memory>
     ensures { IfOk result (λ r. Reads (λ x. (x.0, x.1.now)) r (pseudo_class_at text.now (choices_at text.now levels) tokens.now)) }
 {
-    let Some(rest) = past_sign(':', tokens) else {
+    let Some(rest) = delimiter(':', tokens) else {
         return Ok(None);
     };
     if let Some(found) = plain_class_at(rest) {
@@ -162,8 +162,8 @@ fn spaced<'a>(
 ) -> Result<Option<(Compound, &'a [Token])>, Memory>
     ensures { IfOk result (λ r. Reads (λ x. (x.0, x.1.now)) r (spaced_at (compound_at text.now (choices_at text.now levels)) tokens.now)) }
 {
-    match compound(alloc, text, levels, past_whitespace(tokens))? {
-        Some((compound, rest)) => Ok(Some((compound, past_whitespace(rest)))),
+    match compound(alloc, text, levels, skip_whitespace(tokens))? {
+        Some((compound, rest)) => Ok(Some((compound, skip_whitespace(rest)))),
         None => Ok(None),
     }
 }
@@ -179,7 +179,7 @@ fn after_comma<'a>(
 ) -> Result<Option<(Compound, &'a [Token])>, Memory>
     ensures { IfOk result (λ r. Reads (λ x. (x.0, x.1.now)) r (after_comma_at (compound_at text.now (choices_at text.now levels)) tokens.now)) }
 {
-    match past_sign(',', tokens) {
+    match delimiter(',', tokens) {
         Some(rest) => spaced(alloc, text, levels, rest),
         None => Ok(None),
     }
@@ -225,7 +225,7 @@ fn choices<'a>(
         return Ok(None);
     };
     let (compounds, rest) = with_others(alloc, text, levels - 1, first, rest)?;
-    match past_close(')', rest) {
+    match close(')', rest) {
         Some(end) => Ok(Some((compounds, end))),
         None => Ok(None),
     }

@@ -1,4 +1,4 @@
-//! The specificity of selectors (Selectors 4).
+//! The specificity of selectors (Selectors 4, "Calculating a selector's specificity").
 
 ghost use Rattle.std.specs.Prelude.{◌≡◌, map};
 ghost use Rattle.selectors.specs.Specificity.{nothing, sum_with, greatest_with, simple_specificity, compound_specificity, pseudo_specificity, specificity};

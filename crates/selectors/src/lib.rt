@@ -28,7 +28,6 @@ mod an_plus_b;
 mod compounds;
 pub mod counting;
 pub mod laws;
-mod parts;
 mod pseudo_classes;
 pub mod selector_list;
 mod simples;

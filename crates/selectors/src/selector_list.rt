@@ -3,14 +3,15 @@
 ghost use Rattle.std.specs.Prelude.{◌≡◌, ◌∷◌, [], List, IfOk, IfSome, IfNone};
 ghost use Rattle.plain_types.specs.declared.selector.Selector.{Selector};
 ghost use Rattle.std.specs.Str.{chars};
-ghost use Rattle.definitions.specs.Reading.{Reads, run_at};
-ghost use Rattle.selectors.specs.Parts.{held_at, spaced_at, after_comma_at, comma_list_at};
+ghost use Rattle.reading.specs.Reading.{Reads, run_at};
+ghost use Rattle.css_tokens.specs.TokenReading.{held_at};
+ghost use Rattle.selectors.specs.Parts.{spaced_at, after_comma_at, comma_list_at};
 ghost use Rattle.selectors.specs.Grammar.{AreSelectors};
 ghost use Rattle.selectors.specs.Selectors.{combinator_of, descendant_at, combinator_at, legacy_pseudo_element, pseudo_element, pseudo_element_at, Step, outer_compound_at, step_at, modern_pseudo_element_at, step_to, sequence, no_compound, and_no_compound, with_pseudo, lone_at, complex_end, selector_at, selector_list};
 
 use crate::compounds::compound;
-use crate::parts::{name, past_sign, past_whitespace};
 use css_tokens::token::{Token, TokenKind};
+use css_tokens::token_reading::{delimiter, ident, skip_whitespace};
 use css_tokens::words::is_word;
 use plain_types::list::List;
 use plain_types::memory::Memory;
@@ -40,7 +41,7 @@ fn descendant(tokens: &[Token]) -> Option<(Join, &[Token])>
 {
     let (token, rest) = tokens.split_first()?;
     match &token.kind {
-        TokenKind::Blank => Some((Join::Descendant, past_whitespace(rest))),
+        TokenKind::Blank => Some((Join::Descendant, skip_whitespace(rest))),
         _ => None,
     }
 }
@@ -49,8 +50,8 @@ fn descendant(tokens: &[Token]) -> Option<(Join, &[Token])>
 fn combinator(tokens: &[Token]) -> Option<(Join, &[Token])>
     ensures { Reads (λ x. (x.0, x.1.now)) result (combinator_at tokens.now) }
 {
-    match sign_combinator(past_whitespace(tokens)) {
-        Some((join, rest)) => Some((join, past_whitespace(rest))),
+    match sign_combinator(skip_whitespace(tokens)) {
+        Some((join, rest)) => Some((join, skip_whitespace(rest))),
         None => descendant(tokens),
     }
 }
@@ -84,7 +85,7 @@ fn pseudo_element_name(name: &str) -> Option<PseudoElement>
 fn modern_pseudo_element(tokens: &[Token]) -> Option<(PseudoElement, &[Token])>
     ensures { Reads (λ x. (x.0, x.1.now)) result (modern_pseudo_element_at tokens.now) }
 {
-    let (name, rest) = name(tokens)?;
+    let (name, rest) = ident(tokens)?;
     Some((pseudo_element_name(name.as_str())?, rest))
 }
 
@@ -93,11 +94,11 @@ fn modern_pseudo_element(tokens: &[Token]) -> Option<(PseudoElement, &[Token])>
 fn pseudo_element(tokens: &[Token]) -> Option<(PseudoElement, &[Token])>
     ensures { Reads (λ x. (x.0, x.1.now)) result (pseudo_element_at tokens.now) }
 {
-    let rest = past_sign(':', tokens)?;
-    if let Some(rest) = past_sign(':', rest) {
+    let rest = delimiter(':', tokens)?;
+    if let Some(rest) = delimiter(':', rest) {
         return modern_pseudo_element(rest);
     }
-    let (name, rest) = name(rest)?;
+    let (name, rest) = ident(rest)?;
     Some((legacy_pseudo_element(name.as_str())?, rest))
 }
 
@@ -261,8 +262,8 @@ fn spaced<'a>(
 ) -> Result<Option<(Selector, &'a [Token])>, Memory>
     ensures { IfOk result (λ r. Reads (λ x. (x.0, x.1.now)) r (spaced_at (selector_at text.now) tokens.now)) }
 {
-    match selector(alloc, text, past_whitespace(tokens))? {
-        Some((selector, rest)) => Ok(Some((selector, past_whitespace(rest)))),
+    match selector(alloc, text, skip_whitespace(tokens))? {
+        Some((selector, rest)) => Ok(Some((selector, skip_whitespace(rest)))),
         None => Ok(None),
     }
 }
@@ -276,7 +277,7 @@ fn after_comma<'a>(
 ) -> Result<Option<(Selector, &'a [Token])>, Memory>
     ensures { IfOk result (λ r. Reads (λ x. (x.0, x.1.now)) r (after_comma_at (selector_at text.now) tokens.now)) }
 {
-    match past_sign(',', tokens) {
+    match delimiter(',', tokens) {
         Some(rest) => spaced(alloc, text, rest),
         None => Ok(None),
     }

@@ -2,12 +2,12 @@
 
 ghost use Rattle.std.specs.Prelude.{◌≡◌, IfOk};
 ghost use Rattle.std.specs.Str.{chars};
-ghost use Rattle.definitions.specs.Reading.{Reads};
-ghost use Rattle.selectors.specs.Parts.{held_at, past_close, past_whitespace};
+ghost use Rattle.reading.specs.Reading.{Reads};
+ghost use Rattle.css_tokens.specs.TokenReading.{held_at, past_close, skip_whitespace};
 ghost use Rattle.selectors.specs.Simples.{type_at, id_at, class_at, test_of, test_at, value_of, flag_word, flag_of, or_sensitive, bracket_end, present, flag_at, tested_at, attribute_at};
 
-use crate::parts::{name, past_close, past_sign, past_whitespace};
 use css_tokens::token::{Token, TokenKind};
+use css_tokens::token_reading::{close, delimiter, ident, skip_whitespace};
 use css_tokens::words::is_word;
 use plain_types::duplicate::Duplicate;
 use plain_types::memory::Memory;
@@ -53,10 +53,10 @@ pub(crate) fn id(alloc: Global, tokens: &[Token]) -> Result<Option<(Simple, &[To
 pub(crate) fn class(alloc: Global, tokens: &[Token]) -> Result<Option<(Simple, &[Token])>, Memory>
     ensures { IfOk result (λ r. Reads (λ x. (x.0, x.1.now)) r (class_at tokens.now)) }
 {
-    let Some(rest) = past_sign('.', tokens) else {
+    let Some(rest) = delimiter('.', tokens) else {
         return Ok(None);
     };
-    let Some((name, rest)) = name(rest) else {
+    let Some((name, rest)) = ident(rest) else {
         return Ok(None);
     };
     Ok(Some((Simple::Class(name.duplicate(alloc)?), rest)))
@@ -81,11 +81,11 @@ fn sign_test(tokens: &[Token]) -> Option<(AttrTest, &[Token])>
 fn matcher(tokens: &[Token]) -> Option<(AttrTest, &[Token])>
     ensures { Reads (λ x. (x.0, x.1.now)) result (test_at tokens.now) }
 {
-    if let Some(rest) = past_sign('=', tokens) {
+    if let Some(rest) = delimiter('=', tokens) {
         return Some((AttrTest::Equal, rest));
     }
     let (test, rest) = sign_test(tokens)?;
-    let rest = past_sign('=', rest)?;
+    let rest = delimiter('=', rest)?;
     Some((test, rest))
 }
 
@@ -117,7 +117,7 @@ fn flag_word(word: &str) -> Option<bool>
 fn written_flag(tokens: &[Token]) -> Option<(bool, &[Token])>
     ensures { Reads (λ x. (x.0, x.1.now)) result (held_at flag_of tokens.now) }
 {
-    let (word, rest) = name(tokens)?;
+    let (word, rest) = ident(tokens)?;
     let fold = flag_word(word.as_str())?;
     Some((fold, rest))
 }
@@ -127,7 +127,7 @@ fn flag(tokens: &[Token]) -> (bool, &[Token])
     ensures fold { result.0 ≡ or_sensitive (flag_at tokens.now).0 }
     ensures rest { result.1.now ≡ (flag_at tokens.now).1 }
 {
-    match written_flag(past_whitespace(tokens)) {
+    match written_flag(skip_whitespace(tokens)) {
         Some((fold, rest)) => (fold, rest),
         None => (false, tokens),
     }
@@ -135,9 +135,9 @@ fn flag(tokens: &[Token]) -> (bool, &[Token])
 
 /// Whitespace and the bracket.
 fn bracket_end(tokens: &[Token]) -> Option<&[Token]>
-    ensures { Reads (λ x. x.now) result (past_close 93 (past_whitespace tokens.now)) }
+    ensures { Reads (λ x. x.now) result (past_close 93 (skip_whitespace tokens.now)) }
 {
-    past_close(']', past_whitespace(tokens))
+    close(']', skip_whitespace(tokens))
 }
 
 /// `<attr-matcher> [ <string-token> | <ident-token> ] <attr-modifier>? ']'`
@@ -148,10 +148,10 @@ fn tested<'a>(
 ) -> Result<Option<(Simple, &'a [Token])>, Memory>
     ensures { IfOk result (λ r. Reads (λ x. (x.0, x.1.now)) r (tested_at name.now tokens.now)) }
 {
-    let Some((test, rest)) = matcher(past_whitespace(tokens)) else {
+    let Some((test, rest)) = matcher(skip_whitespace(tokens)) else {
         return Ok(None);
     };
-    let Some((value, rest)) = value(past_whitespace(rest)) else {
+    let Some((value, rest)) = value(skip_whitespace(rest)) else {
         return Ok(None);
     };
     let (fold, rest) = flag(rest);
@@ -191,10 +191,10 @@ pub(crate) fn attribute(
 ) -> Result<Option<(Simple, &[Token])>, Memory>
     ensures { IfOk result (λ r. Reads (λ x. (x.0, x.1.now)) r (attribute_at tokens.now)) }
 {
-    let Some(inside) = past_sign('[', tokens) else {
+    let Some(inside) = delimiter('[', tokens) else {
         return Ok(None);
     };
-    let Some((name, rest)) = name(past_whitespace(inside)) else {
+    let Some((name, rest)) = ident(skip_whitespace(inside)) else {
         return Ok(None);
     };
     if let Some(end) = bracket_end(rest) {

@@ -1,4 +1,4 @@
-//! Specificities (Selectors 4).
+//! Specificities (Selectors 4, "Calculating a selector's specificity").
 
 ghost use Rattle.std.specs.Prelude.{◌≡◌};
 ghost use Rattle.selectors.specs.Specificity.{counts, plus, is_less, greater};

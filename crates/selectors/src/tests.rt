@@ -13,7 +13,7 @@ use std::alloc::{AllocError, Global};
 use std::test::Fail;
 
 /// Texts and the selectors that they are; `bad` where they are none. Positions are written `a b`.
-static SELECTORS: [(&str, &str); 208] = [
+static SELECTORS: [(&str, &str); 214] = [
     // types, ids and classes
     ("a", "a"),
     ("A-b", "A-b"),
@@ -226,7 +226,32 @@ static SELECTORS: [(&str, &str); 208] = [
     (":nth-last-child(2)", ":nth-last-child(0 2)"),
     (":nth-of-type(2)", ":nth-of-type(0 2)"),
     (":nth-last-of-type(2)", ":nth-last-of-type(0 2)"),
+    // positions stop at the numbers of 32 bits
+    (
+        ":nth-child(2147483646n-2147483647)",
+        ":nth-child(2147483646 -2147483647)",
+    ),
+    (
+        ":nth-child(2147483647n-2147483648)",
+        ":nth-child(2147483647 -2147483648)",
+    ),
+    (
+        ":nth-child(2147483648n-2147483649)",
+        ":nth-child(2147483647 -2147483648)",
+    ),
+    (
+        ":nth-child(-2147483648n+2147483647)",
+        ":nth-child(-2147483648 2147483647)",
+    ),
+    (
+        ":nth-child(-2147483649n+2147483648)",
+        ":nth-child(-2147483648 2147483647)",
+    ),
     (":nth-child(4294967297)", ":nth-child(0 2147483647)"),
+    (
+        ":nth-child(9223372036854775808n-9223372036854775809)",
+        ":nth-child(2147483647 -2147483648)",
+    ),
     (
         ":nth-child(-99999999999999999999n-99999999999999999999)",
         ":nth-child(-2147483648 -2147483648)",
@@ -237,7 +262,8 @@ static SELECTORS: [(&str, &str); 208] = [
 ];
 
 /// Arguments that have no meaning in the An+B notation.
-static NO_POSITIONS: [&str; 20] = [
+static NO_POSITIONS: [&str; 21] = [
+    "2n+1é",
     "2n+",
     "2n + -1",
     "2n + + 1",

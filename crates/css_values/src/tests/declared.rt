@@ -263,7 +263,7 @@ static COUNTER_PROPERTIES: [(&str, &str, &str); 62] = [
     ("counter-reset", "a+1", "a 1,"),
     ("counter-reset", "a-1", "a-1 0,"),
     ("counter-reset", "a1", "a1 0,"),
-    ("counter-reset", "a -99999999999", "a -2147483648,"),
+    ("counter-reset", "a -99999999999", "a -99999999999,"),
     (
         "counter-reset",
         "REVERSED(a)reversed(b)",
@@ -289,7 +289,7 @@ static COUNTER_PROPERTIES: [(&str, &str, &str); 62] = [
     ("counter-reset", "reversed()", ""),
     ("counter-reset", "reversed(none)", ""),
     ("counter-reset", "reversed(a b)", ""),
-    ("counter-reset", "a -0 B 99999999999", "a 0,B 2147483647,"),
+    ("counter-reset", "a -0 B 99999999999", "a 0,B 99999999999,"),
     ("counter-reset", "\\61  -7", "a -7,"),
     ("counter-reset", "a 1.5", ""),
     ("counter-reset", "a 1 2", ""),

@@ -8,7 +8,7 @@ use std::alloc::Global;
 use std::test::Fail;
 
 /// Names and values of descriptors, and what they say; nothing where they are not read.
-static SYSTEMS_AND_SIGNS: [(&str, &str, &str); 52] = [
+static SYSTEMS_AND_SIGNS: [(&str, &str, &str); 53] = [
     ("system", "cyclic", "system cyclic"),
     ("SYSTEM", "Additive", "system additive"),
     ("system", "fixed", "system fixed 1"),
@@ -29,7 +29,12 @@ static SYSTEMS_AND_SIGNS: [(&str, &str, &str); 52] = [
     ("system", "alphabetic", "system alphabetic"),
     ("system", "Symbolic", "system symbolic"),
     ("system", "fixed/**/7", "system fixed 7"),
-    ("system", "fixed 99999999999", "system fixed 2147483647"),
+    ("system", "fixed 99999999999", "system fixed 99999999999"),
+    (
+        "system",
+        "fixed -9223372036854775809",
+        "system fixed -9223372036854775808",
+    ),
     ("system", "EXTENDS DISC", "system extends disc"),
     ("system", "", ""),
     ("system", "fixed x", ""),
@@ -75,8 +80,8 @@ static RANGES_PADS_AND_FALLBACKS: [(&str, &str, &str); 52] = [
     ("range", "0 infinite", "range 0 _,"),
     (
         "range",
-        "99999999999 2147483647",
-        "range 2147483647 2147483647,",
+        "9223372036854775808 9223372036854775807",
+        "range 9223372036854775807 9223372036854775807,",
     ),
     ("range", "1 2, 3", ""),
     ("range", "1 2,", ""),
@@ -89,8 +94,8 @@ static RANGES_PADS_AND_FALLBACKS: [(&str, &str, &str); 52] = [
     ("range", "1 2/**/,/**/3 4", "range 1 2,3 4,"),
     (
         "range",
-        "-99999999999 -2147483648",
-        "range -2147483648 -2147483648,",
+        "-9223372036854775809 -9223372036854775808",
+        "range -9223372036854775808 -9223372036854775808,",
     ),
     ("range", "", ""),
     ("range", "1", ""),
@@ -168,7 +173,11 @@ static SYMBOLS: [(&str, &str, &str); 30] = [
     ("additive-symbols", "3 a, 1 b, 2 c", ""),
     ("additive-symbols", "1 a,, 0 b", ""),
     ("additive-symbols", "1.5 a", ""),
-    ("additive-symbols", "99999999999 a, 2147483647 b", ""),
+    (
+        "additive-symbols",
+        "9223372036854775808 a, 9223372036854775807 b",
+        "",
+    ),
     ("speak-as", "auto", ""),
     ("content", "none", ""),
 ];

@@ -1,6 +1,7 @@
 //! What declarations and descriptors say, as short texts for the tables.
 
 use plain_types::content::{Content, Item, Part, QuoteKind, Url};
+use plain_types::count::Count;
 use plain_types::counter_style::{Bounds, Descriptor, Weight};
 use plain_types::declaration::{Declaration, Said};
 use plain_types::style::{CounterOp, Display, ListType, Pair, Quotes, ResetOp};
@@ -249,7 +250,7 @@ pub(super) fn shown_declaration(
     }
 }
 
-fn shown_bound(alloc: Global, bound: Option<i32>) -> Result<String, AllocError> {
+fn shown_bound(alloc: Global, bound: Option<Count>) -> Result<String, AllocError> {
     match bound {
         Some(value) => format!(in alloc; "{value}"),
         None => format!(in alloc; "_"),

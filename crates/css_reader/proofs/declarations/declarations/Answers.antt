@@ -1,4 +1,4 @@
-use Rattle.definitions.proofs.Following.{takes_shorter}
+use Rattle.reading.proofs.Following.{takes_shorter}
 use Rattle.css_reader.specs.Declarations.{declaration, declarations}
 use Rattle.css_reader.specs.Rules.{part_at, parts}
 use Rattle.css_reader.proofs.Gathering.{Gathers-start, Gathers-more, Gathers-read}

@@ -2,7 +2,7 @@ use Rattle.std.proofs.Common.{◌≡◌, List, refl, sym}
 use Rattle.plain_types.specs.declared.counter_style.StyleDef.{StyleDef}
 use Rattle.plain_types.specs.declared.sheet.Sheet.{Sheet}
 use Rattle.plain_types.specs.declared.sheet.StyleRule.{StyleRule}
-use Rattle.definitions.proofs.Following.{takes_shorter}
+use Rattle.reading.proofs.Following.{takes_shorter}
 use Rattle.css_reader.specs.Rules.{rule_at, rules}
 use Rattle.css_reader.specs.Sheets.{style_rule_of, style_def_of}
 use Rattle.css_reader.proofs.Gathering.{Gathers-start, Gathers-more, Gathers-read}

@@ -1,8 +1,8 @@
 use denote.Text.{Utf8}
 use denote.Shadow.{shadow}
 use Rattle.std.specs.Str.{chars}
-use Rattle.definitions.specs.Characters.{is_hexadecimal_digit}
-use Rattle.definitions.specs.Reading.{span_of}
+use Rattle.reading.specs.Characters.{is_hexadecimal_digit}
+use Rattle.reading.specs.Reading.{span_of}
 use Rattle.css_tokens.proofs.Digits.{Counts}
 use Rattle.css_tokens.proofs.identifiers.hex_digits.Given as goal
 

@@ -1,7 +1,7 @@
 use Rattle.std.specs.Str.{chars}
-use Rattle.definitions.proofs.Runs.{Goes-start, Goes-more, Goes-read}
+use Rattle.reading.proofs.Runs.{Goes-start, Goes-more, Goes-read}
 use Rattle.css_tokens.proofs.Shortening.{ident_shorter}
-use Rattle.definitions.specs.Identifiers.{ident_character_at}
+use Rattle.css_definitions.specs.Identifiers.{ident_character_at}
 use Rattle.css_tokens.proofs.identifiers.ident_sequence.Goals as goal
 
 pub pieces-init : goal.pieces-init

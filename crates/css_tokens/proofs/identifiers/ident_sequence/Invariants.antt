@@ -2,8 +2,8 @@ use Rattle.std.proofs.Common.{length}
 use denote.Text.{Utf8}
 use denote.Shadow.{shadow}
 use Rattle.std.specs.Str.{chars}
-use Rattle.definitions.specs.Identifiers.{ident_character_at}
-use Rattle.definitions.proofs.Runs.{Goes}
+use Rattle.css_definitions.specs.Identifiers.{ident_character_at}
+use Rattle.reading.proofs.Runs.{Goes}
 use Rattle.css_tokens.proofs.identifiers.ident_sequence.Given as goal
 
 abbrev pub invariant-pieces : goal.invariant-pieces

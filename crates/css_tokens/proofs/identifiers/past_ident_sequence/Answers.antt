@@ -1,7 +1,7 @@
 use Rattle.std.specs.Str.{chars}
-use Rattle.definitions.proofs.Runs.{Skips-start, Skips-more, Skips-read}
+use Rattle.reading.proofs.Runs.{Skips-start, Skips-more, Skips-read}
 use Rattle.css_tokens.proofs.Shortening.{ident_shorter}
-use Rattle.definitions.specs.Identifiers.{ident_character_at}
+use Rattle.css_definitions.specs.Identifiers.{ident_character_at}
 use Rattle.css_tokens.proofs.identifiers.past_ident_sequence.Goals as goal
 
 pub pieces-init : goal.pieces-init

@@ -2,8 +2,8 @@ use Rattle.std.proofs.Common.{length}
 use denote.Text.{Utf8}
 use denote.Shadow.{shadow}
 use Rattle.std.specs.Str.{chars}
-use Rattle.definitions.specs.Characters.{is_digit}
-use Rattle.definitions.specs.Reading.{span}
+use Rattle.reading.specs.Characters.{is_digit}
+use Rattle.reading.specs.Reading.{span}
 use Rattle.css_tokens.proofs.Digits.{Counts}
 use Rattle.css_tokens.proofs.numbers.digit_run.Given as goal
 

@@ -1,6 +1,6 @@
 use Rattle.std.proofs.Common.{ap}
 use Rattle.std.specs.Str.{chars}
-use Rattle.definitions.specs.SheetText.{filtered, past_mark}
+use Rattle.css_definitions.specs.SheetText.{filtered, past_mark}
 use Rattle.css_tokens.proofs.Filtering.{filtered_more, filtered_end, filtered-filtered}
 use Rattle.css_tokens.proofs.sheet_text.prepare_text.Goals as goal
 

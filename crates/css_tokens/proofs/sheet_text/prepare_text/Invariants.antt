@@ -2,7 +2,7 @@ use Rattle.std.proofs.Common.{◌≡◌, ◌++◌, length}
 use denote.Text.{Utf8}
 use denote.Shadow.{shadow}
 use Rattle.std.specs.Str.{chars}
-use Rattle.definitions.specs.SheetText.{filtered, past_mark}
+use Rattle.css_definitions.specs.SheetText.{filtered, past_mark}
 use Rattle.css_tokens.proofs.sheet_text.prepare_text.Given as goal
 
 abbrev pub invariant-characters : goal.invariant-characters

@@ -1,8 +1,8 @@
 use Rattle.std.proofs.Common.{ap, ◌∙◌}
 use Rattle.std.specs.Str.{chars}
-use Rattle.definitions.proofs.Runs.{Skips-start, Skips-more, Skips-read}
+use Rattle.reading.proofs.Runs.{Skips-start, Skips-more, Skips-read}
 use Rattle.css_tokens.proofs.Shortening.{bad_shorter}
-use Rattle.definitions.specs.Reading.{past_one}
+use Rattle.reading.specs.Reading.{past_one}
 use Rattle.css_tokens.specs.Urls.{bad_url_character_at}
 use Rattle.css_tokens.proofs.urls.past_bad_url.Goals as goal
 

@@ -3,7 +3,7 @@ use denote.Text.{Utf8}
 use denote.Shadow.{shadow}
 use Rattle.std.specs.Str.{chars}
 use Rattle.css_tokens.specs.Urls.{bad_url_character_at}
-use Rattle.definitions.proofs.Runs.{Skips}
+use Rattle.reading.proofs.Runs.{Skips}
 use Rattle.css_tokens.proofs.urls.past_bad_url.Given as goal
 
 abbrev pub invariant-pieces : goal.invariant-pieces

@@ -1,5 +1,5 @@
 use Rattle.std.specs.Str.{chars}
-use Rattle.definitions.proofs.Runs.{Goes-start, Goes-more, Goes-read}
+use Rattle.reading.proofs.Runs.{Goes-start, Goes-more, Goes-read}
 use Rattle.css_tokens.proofs.Shortening.{url_shorter}
 use Rattle.css_tokens.specs.Urls.{url_character_at}
 use Rattle.css_tokens.proofs.urls.url_value.Goals as goal

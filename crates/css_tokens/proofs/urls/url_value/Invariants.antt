@@ -3,7 +3,7 @@ use denote.Text.{Utf8}
 use denote.Shadow.{shadow}
 use Rattle.std.specs.Str.{chars}
 use Rattle.css_tokens.specs.Urls.{url_character_at}
-use Rattle.definitions.proofs.Runs.{Goes}
+use Rattle.reading.proofs.Runs.{Goes}
 use Rattle.css_tokens.proofs.urls.url_value.Given as goal
 
 abbrev pub invariant-pieces : goal.invariant-pieces

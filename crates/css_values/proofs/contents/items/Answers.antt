@@ -1,5 +1,5 @@
-use Rattle.definitions.proofs.Following.{takes_shorter}
-use Rattle.definitions.proofs.Runs.{Goes-start, Goes-more, Goes-read}
+use Rattle.reading.proofs.Following.{takes_shorter}
+use Rattle.reading.proofs.Runs.{Goes-start, Goes-more, Goes-read}
 use Rattle.css_values.specs.Parts.{solid}
 use Rattle.css_values.specs.Contents.{item_at}
 use Rattle.css_values.proofs.Shortening.{item_takes}

@@ -1,6 +1,6 @@
 use Rattle.std.proofs.lemmas.Int.{to_z-of_z}
-use Rattle.definitions.proofs.Following.{takes_shorter}
-use Rattle.definitions.proofs.Runs.{Goes-start, Goes-more, Goes-read}
+use Rattle.reading.proofs.Following.{takes_shorter}
+use Rattle.reading.proofs.Runs.{Goes-start, Goes-more, Goes-read}
 use Rattle.css_values.specs.Parts.{solid}
 use Rattle.css_values.specs.Lists.{counter_op_at}
 use Rattle.css_values.proofs.Shortening.{counter_op_takes}

@@ -1,4 +1,4 @@
-use Rattle.definitions.proofs.Following.{takes_shorter}
+use Rattle.reading.proofs.Following.{takes_shorter}
 use Rattle.css_values.specs.Parts.{solid, after_comma_at}
 use Rattle.css_values.specs.Descriptors.{bounds_at}
 use Rattle.css_values.proofs.Listing.{Lists-start, Lists-more, Lists-read}

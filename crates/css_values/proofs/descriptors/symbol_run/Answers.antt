@@ -1,5 +1,5 @@
-use Rattle.definitions.proofs.Following.{takes_shorter}
-use Rattle.definitions.proofs.Runs.{Goes-start, Goes-more, Goes-read}
+use Rattle.reading.proofs.Following.{takes_shorter}
+use Rattle.reading.proofs.Runs.{Goes-start, Goes-more, Goes-read}
 use Rattle.css_values.specs.Parts.{solid, symbol_at}
 use Rattle.css_values.proofs.Shortening.{symbol_takes}
 use Rattle.css_values.proofs.descriptors.symbol_run.Goals as goal

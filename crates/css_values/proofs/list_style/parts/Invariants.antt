@@ -1,5 +1,5 @@
 use Rattle.std.proofs.Common.{length}
-use Rattle.definitions.proofs.Runs.{Goes}
+use Rattle.reading.proofs.Runs.{Goes}
 use Rattle.css_values.specs.Parts.{solid}
 use Rattle.css_values.specs.Lists.{part_at}
 use Rattle.css_values.proofs.list_style.parts.Given as goal

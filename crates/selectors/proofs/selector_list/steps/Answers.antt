@@ -1,4 +1,4 @@
-use Rattle.definitions.proofs.Following.{takes_shorter}
+use Rattle.reading.proofs.Following.{takes_shorter}
 use Rattle.selectors.specs.Selectors.{step_at}
 use Rattle.selectors.proofs.Shortening.{step_takes}
 use Rattle.selectors.proofs.Stepping.{Leads-start, Leads-more, Leads-read, same_sequence}
