@@ -1,33 +1,33 @@
 -- A line is a command where it is a keyword and operands.
 use Rattle.std.proofs.Common.{◌≡◌, ℕ, List, [], ◌++◌, Some, None, inl, inr, refl, sym, ap, subst, ◌∙◌}
-use Rattle.xhtml_items.proofs.StepLaws.{either_cases, past_word_takes}
-use Rattle.xhtml_items.specs.Reading.{past_word}
+use Rattle.xhtml_items.proofs.StepLaws.{either_cases, past_text_takes}
+use Rattle.reading.specs.Reading.{past_text}
 use Rattle.edit_script.specs.declared.action.Action.{Action}
 use Rattle.edit_script.specs.declared.keyword.Keyword.{Keyword}
 use Rattle.edit_script.specs.declared.keyword.Keyword.TheVariants.{Insert, Remove, Move, Set, Unset, Sheet, Show}
-use Rattle.edit_script.specs.Operands.{AreOperands, of_insert, of_remove, of_move, of_set, of_set_empty, of_unset, of_sheet, of_show, found, keyword_at, keyword_text}
+use Rattle.edit_script.specs.Machinery.Operands.{AreOperands, of_insert, of_remove, of_move, of_set, of_set_empty, of_unset, of_sheet, of_show, found, keyword_at, keyword_text}
 use Rattle.edit_script.specs.Scripts.{IsCommand, insert_command, remove_command, move_command, set_command, set_empty_command, unset_command, sheet_command, show_command}
 
-taken : (keyword : Keyword) (line rest : List ℕ) (x : Keyword × List ℕ) → past_word (keyword_text keyword) line ≡ Some rest → found keyword rest ≡ Some x
+taken : (keyword : Keyword) (line rest : List ℕ) (x : Keyword × List ℕ) → past_text (keyword_text keyword) line ≡ Some rest → found keyword rest ≡ Some x
     → line ≡ keyword_text x.0 ++ x.1
 taken keyword line rest x read is =
-    past_word_takes (keyword_text keyword) line rest read ∙ ap (λ (pair : Keyword × List ℕ). keyword_text pair.0 ++ pair.1) (let e : (keyword, rest) ≡ x = cc in e)
+    past_text_takes (keyword_text keyword) line rest read ∙ ap (λ (pair : Keyword × List ℕ). keyword_text pair.0 ++ pair.1) (let e : (keyword, rest) ≡ x = cc in e)
 
 pub keyword_takes : (line : List ℕ) (x : Keyword × List ℕ) → keyword_at line ≡ Some x → line ≡ keyword_text x.0 ++ x.1
 unfolding keyword_at
-keyword_takes line x e = elim (either_cases (past_word (keyword_text Insert) line) (λ (rest : List ℕ). found Insert rest) _ _ e) [
+keyword_takes line x e = elim (either_cases (past_text (keyword_text Insert) line) (λ (rest : List ℕ). found Insert rest) _ _ e) [
   | inl w ↦ taken Insert line w.0 x w.1 w.2
-  | inr w ↦ elim (either_cases (past_word (keyword_text Remove) line) (λ (rest : List ℕ). found Remove rest) _ _ w.1) [
+  | inr w ↦ elim (either_cases (past_text (keyword_text Remove) line) (λ (rest : List ℕ). found Remove rest) _ _ w.1) [
     | inl w ↦ taken Remove line w.0 x w.1 w.2
-    | inr w ↦ elim (either_cases (past_word (keyword_text Move) line) (λ (rest : List ℕ). found Move rest) _ _ w.1) [
+    | inr w ↦ elim (either_cases (past_text (keyword_text Move) line) (λ (rest : List ℕ). found Move rest) _ _ w.1) [
       | inl w ↦ taken Move line w.0 x w.1 w.2
-      | inr w ↦ elim (either_cases (past_word (keyword_text Set) line) (λ (rest : List ℕ). found Set rest) _ _ w.1) [
+      | inr w ↦ elim (either_cases (past_text (keyword_text Set) line) (λ (rest : List ℕ). found Set rest) _ _ w.1) [
         | inl w ↦ taken Set line w.0 x w.1 w.2
-        | inr w ↦ elim (either_cases (past_word (keyword_text Unset) line) (λ (rest : List ℕ). found Unset rest) _ _ w.1) [
+        | inr w ↦ elim (either_cases (past_text (keyword_text Unset) line) (λ (rest : List ℕ). found Unset rest) _ _ w.1) [
           | inl w ↦ taken Unset line w.0 x w.1 w.2
-          | inr w ↦ elim (either_cases (past_word (keyword_text Sheet) line) (λ (rest : List ℕ). found Sheet rest) _ _ w.1) [
+          | inr w ↦ elim (either_cases (past_text (keyword_text Sheet) line) (λ (rest : List ℕ). found Sheet rest) _ _ w.1) [
             | inl w ↦ taken Sheet line w.0 x w.1 w.2
-            | inr w ↦ elim (either_cases (past_word (keyword_text Show) line) (λ (rest : List ℕ). found Show rest) _ _ w.1) [
+            | inr w ↦ elim (either_cases (past_text (keyword_text Show) line) (λ (rest : List ℕ). found Show rest) _ _ w.1) [
               | inl w ↦ taken Show line w.0 x w.1 w.2
               | inr w ↦ absurd (let h = w.1 in cc)
             ]

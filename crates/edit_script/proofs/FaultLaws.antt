@@ -2,7 +2,7 @@
 use Rattle.std.proofs.Common.{◌≡◌, sym, subst}
 use Rattle.std.specs.Prelude.{Result, Ok, Err, IfErr}
 use Rattle.std.specs.Result.{IsErr, IsErrAnd}
-use Rattle.edit_script.specs.Faults.{IsLineFault}
+use Rattle.edit_script.specs.Machinery.LineFaults.{IsLineFault}
 use Rattle.edit_script.specs.declared.line_fault.LineFault.{LineFault}
 use Rattle.edit_script.specs.declared.line_fault.LineFault.TheVariants.{NoForm, Memory}
 

@@ -8,4 +8,5 @@ mod PathLaws
 mod PuttingLaws
 mod ReadLaws
 mod SectionLaws
+pub mod TotalLaws
 mod WordLaws

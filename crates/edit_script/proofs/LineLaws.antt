@@ -5,13 +5,15 @@ use Rattle.std.specs.Str.{chars, IsUtf8}
 use Rattle.std.proofs.lemmas.Bool.{and_parts, cases_Bool, eqb-true}
 use Rattle.std.proofs.lemmas.List.{length-append}
 use Rattle.std.proofs.lemmas.Str.{chars-append, chars-IsAscii, encodes-IsAscii, encodes-append, encodes-chars}
-use Rattle.definitions.specs.Reading.{begins}
+use Rattle.reading.specs.Reading.{begins}
 use Rattle.xhtml_items.proofs.StepLaws.{split_takes}
 use Rattle.xhtml_items.proofs.Texts.{IsAscii-from_test}
-use Rattle.xhtml_items.specs.Reading.{past_word, split_once}
-use Rattle.xhtml_items.specs.Tokens.{Reads, text_view}
+use Rattle.reading.specs.Reading.{past_text}
+use Rattle.xhtml_items.specs.Reading.{split_once}
+use Rattle.reading.specs.Reading.{Reads}
+use Rattle.xhtml_items.specs.Tokens.{text_view}
 use Rattle.edit_script.specs.Lines.{lines, put_before}
-use Rattle.edit_script.specs.Words.{without_return}
+use Rattle.edit_script.specs.Machinery.Words.{without_return}
 use Rattle.edit_script.proofs.WordLaws.{lacks, lacks_all, lacks_before}
 
 unequal : (c wanted : ℕ) → not (eqb c wanted) ≡ true → eqb c wanted ≡ false
@@ -73,11 +75,11 @@ return-none line utf8 none =
 
 -- Lines that are skipped.
 
-pub no_hash : (line : List ℕ) → past_word (35 ∷ []) line ≡ None → begins 35 line ≡ false
+pub no_hash : (line : List ℕ) → past_text (35 ∷ []) line ≡ None → begins 35 line ≡ false
 no_hash [] e = refl
 no_hash (c ∷ cs) e = elim (cases_Bool (eqb c 35)) [ inl same ↦ absurd (let h = rw same at e in cc) | inr other ↦ other ]
 
-pub no_hash_found : (line : List ℕ) (found : Option (Bor (List ℕ))) → is_some found ≡ false → Reads text_view found (past_word (35 ∷ []) line) → begins 35 line ≡ false
+pub no_hash_found : (line : List ℕ) (found : Option (Bor (List ℕ))) → is_some found ≡ false → Reads text_view found (past_text (35 ∷ []) line) → begins 35 line ≡ false
 no_hash_found line None none reads = no_hash line reads
 no_hash_found line (Some rest) none reads = absurd cc
 

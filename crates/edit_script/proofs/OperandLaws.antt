@@ -5,18 +5,18 @@ use Rattle.std.proofs.lemmas.Fmt.{decimal_injective}
 use Rattle.forest.specs.Forest.{Forest}
 use Rattle.plain_types.specs.declared.edit.Edit.TheVariants as edit
 use Rattle.plain_types.specs.declared.node.Node.{Node}
-use Rattle.definitions.specs.Dump.{path_text}
-use Rattle.definitions.specs.Spelling.{IsName}
-use Rattle.definitions.specs.Texts.{IsFragmentText}
+use Rattle.dump_definitions.specs.Dump.{path_text}
+use Rattle.xml_definitions.specs.Spelling.{IsName}
+use Rattle.xml_definitions.specs.Texts.{IsFragmentText}
 use Rattle.xhtml_reader.proofs.Places.{only_fragment}
 use Rattle.edit_script.specs.declared.action.Action.{Action}
 use Rattle.edit_script.specs.declared.action.Action.TheVariants as actions
 use Rattle.edit_script.specs.declared.action.Action.TheVariants.{Change, SheetFile}
 use Rattle.edit_script.specs.declared.keyword.Keyword.{Keyword}
 use Rattle.edit_script.specs.declared.keyword.Keyword.TheVariants.{Insert, Remove, Move, Set, Unset, Sheet, Show}
-use Rattle.edit_script.specs.Operands.{AreOperands, of_insert, of_remove, of_move, of_set, of_set_empty, of_unset, of_sheet, of_show}
+use Rattle.edit_script.specs.Machinery.Operands.{AreOperands, of_insert, of_remove, of_move, of_set, of_set_empty, of_unset, of_sheet, of_show}
 use Rattle.edit_script.specs.Scripts.{IsPath, IsPosition}
-use Rattle.edit_script.specs.Words.{AreParts, IsNameAndValue, with_value, without_value, IsNameText, IsPathText, IsPositionText, IsWordAndRest}
+use Rattle.edit_script.specs.Machinery.Words.{AreParts, IsNameAndValue, with_value, without_value, IsNameText, IsPathText, IsPositionText, IsWordAndRest}
 use Rattle.edit_script.proofs.PathLaws.{same_path}
 use Rattle.edit_script.proofs.WordLaws.{decimal_word, name_word, no_parts, path_word, same_word, small}
 

@@ -9,9 +9,9 @@ use Rattle.std.proofs.lemmas.List.{length-append}
 use Rattle.std.proofs.lemmas.Slice.Eq.{bytes_eq-Decides}
 use Rattle.std.proofs.lemmas.Str.{chars-IsAscii, encodes-IsAscii, encodes-chars}
 use Rattle.xhtml_items.proofs.Texts.{IsAscii-from_test}
-use Rattle.definitions.specs.Dump.{path_text}
+use Rattle.dump_definitions.specs.Dump.{path_text}
 use Rattle.edit_script.specs.Scripts.{IsPath, IsPosition}
-use Rattle.edit_script.specs.Words.{ArePositions, HasPositions, IsPathText, IsPositionAndRest, IsPositionFront, positions_text, starts_with_digit}
+use Rattle.edit_script.specs.Machinery.Words.{ArePositions, HasPositions, IsPathText, IsPositionAndRest, IsPositionFront, positions_text, starts_with_digit}
 use Rattle.edit_script.proofs.WordLaws.{same_position, small}
 
 positions-append : (xs ys : List ℕ) → positions_text (xs ++ ys) ≡ positions_text xs ++ positions_text ys

@@ -8,7 +8,7 @@ use Rattle.plain_types.specs.declared.node.Node.{Node}
 use Rattle.plain_types.specs.declared.node.Node.TheVariants.{Element}
 use Rattle.plain_types.specs.declared.row.Row.{Row}
 use Rattle.edit_script.specs.Generator.{element}
-use Rattle.edit_script.specs.Putting.{with_trees}
+use Rattle.edit_script.specs.Machinery.Putting.{with_trees}
 
 abbrev built : List Row → ℕ → Building
 built all inside = record { rows = all; inside = inside }

@@ -9,7 +9,7 @@ use Rattle.edit_script.specs.declared.fault.ScriptFault.{ScriptFault}
 use Rattle.edit_script.specs.declared.fault.ScriptFault.TheVariants.{BadLine, Memory}
 use Rattle.edit_script.specs.Faults.{IsFault}
 use Rattle.edit_script.specs.Lines.{lines}
-use Rattle.edit_script.specs.Reading.{AddsLine, adds_nothing, adds_command, HasLines, IsBadLine}
+use Rattle.edit_script.specs.Machinery.Reading.{AddsLine, adds_nothing, adds_command, HasLines, IsBadLine}
 use Rattle.edit_script.specs.Scripts.{AreCommands, no_line, skipped_line, command_line, IsFirstBad, IsGood, bad_here, bad_later, command}
 
 module _ (text rest line after : List ℕ) (number : ℕ) (old : List Command) (so_far : HasLines text number old rest) (split : lines rest ≡ line ∷ lines after) where

@@ -10,7 +10,7 @@ use Rattle.plain_types.specs.declared.node.Node.{Node}
 use Rattle.plain_types.specs.declared.node.Node.TheVariants.{Element, Text}
 use Rattle.edit_script.specs.Draws.{drawn, next_state, state_after}
 use Rattle.edit_script.specs.Generator.{attr, document_of, heading, item, item_list, link, section, sections}
-use Rattle.edit_script.specs.Putting.{with_trees}
+use Rattle.edit_script.specs.Machinery.Putting.{with_trees}
 use Rattle.edit_script.proofs.PuttingLaws.{put-inside, put-none, put-then, with_start}
 
 -- a section is begun, filled and ended

@@ -9,13 +9,15 @@ use Rattle.std.proofs.lemmas.Fmt.{decimal_by_steps, decimal_injective, IsAscii-d
 use Rattle.std.proofs.lemmas.List.{length-append}
 use Rattle.std.proofs.lemmas.Str.{chars-IsAscii, encodes-IsAscii, encodes-chars}
 use Rattle.std.specs.Prelude.{encode_utf8_all}
-use Rattle.definitions.specs.Characters.{is_digit, is_name_character, is_name_start}
-use Rattle.definitions.specs.Dump.{path_text}
-use Rattle.definitions.specs.Spelling.{IsName}
-use Rattle.xhtml_items.proofs.StepLaws.{IsFirst, past_word_takes, span_takes, split_takes, start_goes_on}
-use Rattle.xhtml_items.specs.Reading.{◌then◌, past_word, span, split_once, with_first}
+use Rattle.reading.specs.Characters.{is_digit}
+use Rattle.xml_definitions.specs.Characters.{is_name_character, is_name_start}
+use Rattle.dump_definitions.specs.Dump.{path_text}
+use Rattle.xml_definitions.specs.Spelling.{IsName}
+use Rattle.xhtml_items.proofs.StepLaws.{IsFirst, past_text_takes, span_takes, split_takes, start_goes_on}
+use Rattle.reading.specs.Reading.{◌then◌, past_text, span}
+use Rattle.xhtml_items.specs.Reading.{split_once, with_first}
 use Rattle.edit_script.specs.Scripts.{IsPath, IsPosition}
-use Rattle.edit_script.specs.Words.{IsPositionAndRest, IsPositionFront, IsPositionText, IsWordAndRest, is_word, positions_text, starts_with_digit}
+use Rattle.edit_script.specs.Machinery.Words.{IsPositionAndRest, IsPositionFront, IsPositionText, IsWordAndRest, is_spaceless, positions_text, starts_with_digit}
 
 -- Tests of all characters.
 
@@ -36,7 +38,7 @@ not_space test fails c passes = elim (cases_Bool (eqb c 32)) [
 
 -- Words.
 
-pub name_word : (name : List ℕ) → IsName name → is_word name ≡ true
+pub name_word : (name : List ℕ) → IsName name → is_spaceless name ≡ true
 name_word [] h = refl
 name_word (c ∷ cs) h =
     let p = and_parts (is_name_start c) (list_all is_name_character cs) h in
@@ -58,35 +60,35 @@ decimal_digits n h = decimal_by_steps (λ n ds. list_all is_digit ds ≡ true) o
 pub small : (n : ℕ) → IsPosition n → n < 2 ^ 64
 small n h = omega arith
 
-pub decimal_word : (n : ℕ) → IsPosition n → is_word (decimal n) ≡ true
+pub decimal_word : (n : ℕ) → IsPosition n → is_spaceless (decimal n) ≡ true
 decimal_word n h = all-weaker is_digit (λ c. not (eqb c 32)) (not_space is_digit refl) (decimal n) (decimal_digits n (small n h))
 
-positions_word : (path : List ℕ) → IsPath path → is_word (positions_text path) ≡ true
+positions_word : (path : List ℕ) → IsPath path → is_spaceless (positions_text path) ≡ true
 positions_word [] sound = refl
 positions_word (position ∷ path) sound = all-append (λ c. not (eqb c 32)) (decimal position) (positions_text path) (decimal_word position sound.0) (positions_word path sound.1)
 
-pub path_word : (path : List ℕ) → IsPath path → is_word (path_text path) ≡ true
+pub path_word : (path : List ℕ) → IsPath path → is_spaceless (path_text path) ≡ true
 path_word [] sound = refl
 path_word (position ∷ path) sound = positions_word (position ∷ path) sound
 
 -- a text begins with one word, where a space stands behind it
-pub same_word : (xs ys r s : List ℕ) → is_word xs ≡ true → is_word ys ≡ true → xs ++ 32 ∷ r ≡ ys ++ 32 ∷ s → (xs ≡ ys) × (r ≡ s)
+pub same_word : (xs ys r s : List ℕ) → is_spaceless xs ≡ true → is_spaceless ys ≡ true → xs ++ 32 ∷ r ≡ ys ++ 32 ∷ s → (xs ≡ ys) × (r ≡ s)
 same_word [] [] r s h k e = (refl, cc)
-same_word [] (y ∷ ys) r s h k e = absurd (let first : y ≡ 32 = cc in let p = and_parts (not (eqb y 32)) (is_word ys) k in let at = p.0 in let no = rw first at at in cc)
-same_word (x ∷ xs) [] r s h k e = absurd (let first : x ≡ 32 = cc in let p = and_parts (not (eqb x 32)) (is_word xs) h in let at = p.0 in let no = rw first at at in cc)
+same_word [] (y ∷ ys) r s h k e = absurd (let first : y ≡ 32 = cc in let p = and_parts (not (eqb y 32)) (is_spaceless ys) k in let at = p.0 in let no = rw first at at in cc)
+same_word (x ∷ xs) [] r s h k e = absurd (let first : x ≡ 32 = cc in let p = and_parts (not (eqb x 32)) (is_spaceless xs) h in let at = p.0 in let no = rw first at at in cc)
 same_word (x ∷ xs) (y ∷ ys) r s h k e =
     let head : x ≡ y = cc in
     let tail : xs ++ 32 ∷ r ≡ ys ++ 32 ∷ s = cc in
-    let more = same_word xs ys r s (and_parts (not (eqb x 32)) (is_word xs) h).1 (and_parts (not (eqb y 32)) (is_word ys) k).1 tail in
+    let more = same_word xs ys r s (and_parts (not (eqb x 32)) (is_spaceless xs) h).1 (and_parts (not (eqb y 32)) (is_spaceless ys) k).1 tail in
     (rw (head, more.0) refl, more.1)
 
-spaced : (xs ys : List ℕ) → is_word (xs ++ 32 ∷ ys) ≡ false
+spaced : (xs ys : List ℕ) → is_spaceless (xs ++ 32 ∷ ys) ≡ false
 spaced [] ys = refl
 spaced (x ∷ xs) ys = elim (cases_Bool (not (eqb x 32))) [ inl same ↦ rw (same, spaced xs ys) refl | inr other ↦ rw other refl ]
 
 -- no space stands in a word
-pub no_parts : (word xs ys : List ℕ) → is_word word ≡ true → word ≡ xs ++ 32 ∷ ys → ⊥
-no_parts word xs ys h e = let no : is_word word ≡ false = ap is_word e ∙ spaced xs ys in cc
+pub no_parts : (word xs ys : List ℕ) → is_spaceless word ≡ true → word ≡ xs ++ 32 ∷ ys → ⊥
+no_parts word xs ys h e = let no : is_spaceless word ≡ false = ap is_spaceless e ∙ spaced xs ys in cc
 
 -- Splitting at a character.
 
@@ -161,12 +163,12 @@ unfolding span
 digits_end [] = refl
 digits_end (c ∷ cs) = elim (cases_Bool (is_digit c)) [ inl same ↦ rw same (digits_end cs) | inr other ↦ rw other other ]
 
-pub position_front : (whole text digits rest : List ℕ) (number : ℕ) → past_word (47 ∷ []) whole ≡ Some text → span is_digit text ≡ (digits, rest) → IsPositionText digits number
+pub position_front : (whole text digits rest : List ℕ) (number : ℕ) → past_text (47 ∷ []) whole ≡ Some text → span is_digit text ≡ (digits, rest) → IsPositionText digits number
     → IsPositionAndRest whole number rest
 position_front whole text digits rest number slash read is =
     let parts : text ≡ digits ++ rest = (span_takes is_digit text).1 ∙ ap (λ (x : List ℕ × List ℕ). x.0 ++ x.1) read in
     record {
-      parts = past_word_takes (47 ∷ []) whole text slash ∙ ap (λ (t : List ℕ). 47 ∷ t) (parts ∙ ap (λ (t : List ℕ). t ++ rest) is.written);
+      parts = past_text_takes (47 ∷ []) whole text slash ∙ ap (λ (t : List ℕ). 47 ∷ t) (parts ∙ ap (λ (t : List ℕ). t ++ rest) is.written);
       sound = is.sound;
       ends = sym (ap (λ (x : List ℕ × List ℕ). starts_with_digit x.1) read) ∙ digits_end text;
     }
@@ -181,13 +183,13 @@ same_position text number other rest after is too =
     (decimal_injective number other (small number first) (small other second) same.0, same.1)
 
 -- the digits behind a slash are those of the position that stands there
-pub position_digits : (whole text digits rest : List ℕ) (x : ℕ × List ℕ) → past_word (47 ∷ []) whole ≡ Some text → span is_digit text ≡ (digits, rest) → IsPositionFront whole x
+pub position_digits : (whole text digits rest : List ℕ) (x : ℕ × List ℕ) → past_text (47 ∷ []) whole ≡ Some text → span is_digit text ≡ (digits, rest) → IsPositionFront whole x
     → IsPositionText digits x.0
 position_digits whole text digits rest x slash read is =
     let parts : text ≡ digits ++ rest = (span_takes is_digit text).1 ∙ ap (λ (x : List ℕ × List ℕ). x.0 ++ x.1) read in
     let all : list_all is_digit digits ≡ true = sym (ap (λ (x : List ℕ × List ℕ). list_all is_digit x.0) read) ∙ (span_takes is_digit text).0 in
     let ends : starts_with_digit rest ≡ false = sym (ap (λ (x : List ℕ × List ℕ). starts_with_digit x.1) read) ∙ digits_end text in
-    let behind : text ≡ decimal x.0 ++ x.1 = (let e = sym (past_word_takes (47 ∷ []) whole text slash) ∙ is.parts in cc) in
+    let behind : text ≡ decimal x.0 ++ x.1 = (let e = sym (past_text_takes (47 ∷ []) whole text slash) ∙ is.parts in cc) in
     let sound = is.sound in
     let same = same_digits digits (decimal x.0) rest x.1 all (decimal_digits x.0 (small x.0 sound)) ends is.ends (sym parts ∙ behind) in
     record { written = same.0; sound = sound }

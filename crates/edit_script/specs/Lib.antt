@@ -3,7 +3,4 @@ pub mod Scripts
 pub mod Draws
 pub mod Generator
 pub mod Faults
-pub mod Words
-pub mod Operands
-pub mod Reading
-pub mod Putting
+pub mod Machinery

@@ -1,8 +1,8 @@
 -- The lines of a text (our own).
 use Rattle.std.specs.Prelude.{ℕ, Bool, ◌&&◌, ◌||◌, ◌==◌, if◌then◌else◌, List, [], ◌∷◌}
 use Rattle.std.specs.List.{list_all}
-use Rattle.definitions.specs.Punctuation.{carriage_return, line_feed, number_sign}
-use Rattle.definitions.specs.Reading.{begins}
+use Rattle.reading.specs.Punctuation.{carriage_return, line_feed, number_sign}
+use Rattle.reading.specs.Reading.{begins}
 
 -- a character and then lines: it stands at the front of the first
 abbrev pub put_before : ℕ → List (List ℕ) → List (List ℕ)

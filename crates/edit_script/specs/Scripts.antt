@@ -5,10 +5,10 @@ use Rattle.std.specs.List.{AllByRecursion, join_with_byte}
 use Rattle.forest.specs.Forest.{Forest}
 use Rattle.plain_types.specs.declared.edit.Edit.TheVariants.{Insert, Remove, Move, SetAttr, UnsetAttr}
 use Rattle.plain_types.specs.declared.node.Node.{Node}
-use Rattle.definitions.specs.Dump.{path_text}
-use Rattle.definitions.specs.Prepared.{without_mark}
-use Rattle.definitions.specs.Spelling.{IsName}
-use Rattle.definitions.specs.Texts.{IsFragmentText}
+use Rattle.dump_definitions.specs.Dump.{path_text}
+use Rattle.xml_definitions.specs.Normalized.{without_mark}
+use Rattle.xml_definitions.specs.Spelling.{IsName}
+use Rattle.xml_definitions.specs.Texts.{IsFragmentText}
 use Rattle.edit_script.specs.declared.action.Action.{Action}
 use Rattle.edit_script.specs.declared.action.Action.TheVariants.{Change, SheetFile, Show}
 use Rattle.edit_script.specs.declared.command.Command.{Command}

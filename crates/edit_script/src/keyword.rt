@@ -2,8 +2,8 @@
 
 ghost use Rattle.std.specs.Prelude.{IfSome};
 ghost use Rattle.std.specs.Str.{chars, IsUtf8};
-ghost use Rattle.xhtml_items.specs.Tokens.{Reads};
-ghost use Rattle.edit_script.specs.Operands.{keyword_at, keyword_view};
+ghost use Rattle.reading.specs.Reading.{Reads};
+ghost use Rattle.edit_script.specs.Machinery.Operands.{keyword_at, keyword_view};
 
 use xhtml_items::text::past_word;
 
@@ -19,7 +19,7 @@ pub(crate) enum Keyword {
 }
 
 /// The keyword at the front of a line, and its operands.
-#[tactic(auto, unfolding(crate::specs::Operands::keyword_at))]
+#[tactic(auto, unfolding(crate::specs::Machinery::Operands::keyword_at))]
 pub(crate) fn split_keyword(line: &str) -> Option<(Keyword, &str)>
     ensures reads { Reads keyword_view result (keyword_at (chars line.now)) }
     ensures text { IfSome result (λ x. IsUtf8 x.1.now) }

@@ -11,6 +11,11 @@ pub fn one_action()
     ensures { (line : List ℕ) (action other : Action) → IsCommand line action → IsCommand line other → action ≡ other }
 {}
 
+/// Each text has a reading: it is a script of some commands, or it has a first bad line.
+pub fn some_reading()
+    ensures { (text : List ℕ) → (reading : Result (List Command) ℕ) × ReadsAsScript text reading }
+{}
+
 /// A text is a script of one list of commands, or has one first bad line, and not both.
 pub fn one_reading()
     ensures { (text : List ℕ) (reading other : Result (List Command) ℕ) → ReadsAsScript text reading → ReadsAsScript text other → reading ≡ other }

@@ -8,7 +8,8 @@
 //!
 //! The layer above knows this by `IsScript text commands`, that the text is a script of these commands, and
 //! `FailsAsScript text number`, that it is none and its first bad line has this number (`specs/Scripts.antt`);
-//! `IsCommand line action` has the form of each command. [`laws`] says that a text reads in one way.
+//! `IsCommand line action` has the form of each command. [`laws`] says that each text reads in one way, and in
+//! one only.
 //!
 //! ```text
 //! let commands = read_script(alloc, "set /0 class x\n\nshow\n")?;    // two commands, of lines 1 and 3
@@ -40,7 +41,7 @@ mod sections;
 #[cfg(test)]
 mod tests;
 mod texts;
-mod words;
+pub mod words;
 
 pub use generator::generate;
 pub use script::read_script;

@@ -3,7 +3,7 @@
 ghost use Rattle.std.specs.Prelude.{◌≡◌, ◌∷◌, ◌<◌, ◌||◌, ◌==◌, [], IfSome, MatchOption, length};
 ghost use Rattle.std.specs.Str.{chars, IsUtf8};
 ghost use Rattle.edit_script.specs.Lines.{is_skipped, lines};
-ghost use Rattle.edit_script.specs.Words.{without_return};
+ghost use Rattle.edit_script.specs.Machinery.Words.{without_return};
 
 use xhtml_items::text::{past_word, split_once};
 

@@ -2,10 +2,10 @@
 
 ghost use Rattle.std.specs.Prelude.{IfErr, IfOk};
 ghost use Rattle.std.specs.Str.{chars, IsUtf8};
-ghost use Rattle.definitions.specs.Texts.{IsFragmentText};
-ghost use Rattle.edit_script.specs.Faults.{IsLineFault};
-ghost use Rattle.edit_script.specs.Operands.{AreOperands};
-ghost use Rattle.edit_script.specs.Words.{IsNameAndValue, IsNameText};
+ghost use Rattle.xml_definitions.specs.Texts.{IsFragmentText};
+ghost use Rattle.edit_script.specs.Machinery.LineFaults.{IsLineFault};
+ghost use Rattle.edit_script.specs.Machinery.Operands.{AreOperands};
+ghost use Rattle.edit_script.specs.Machinery.Words.{IsNameAndValue, IsNameText};
 ghost use Rattle.edit_script.specs.declared.keyword.Keyword.TheVariants as keywords;
 
 use crate::action::Action;

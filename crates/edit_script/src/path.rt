@@ -2,8 +2,8 @@
 
 ghost use Rattle.std.specs.Prelude.{IfOk, IfErr};
 ghost use Rattle.std.specs.Str.{chars, IsUtf8};
-ghost use Rattle.edit_script.specs.Faults.{IsLineFault};
-ghost use Rattle.edit_script.specs.Words.{ArePositions, IsPathText, IsPositionAndRest, IsPositionFront};
+ghost use Rattle.edit_script.specs.Machinery.LineFaults.{IsLineFault};
+ghost use Rattle.edit_script.specs.Machinery.Words.{ArePositions, IsPathText, IsPositionAndRest, IsPositionFront};
 
 use crate::line_fault::LineFault;
 use crate::words::read_position;

@@ -2,8 +2,9 @@
 
 ghost use Rattle.std.specs.Prelude.{IfErr, IfOk, OnOk};
 ghost use Rattle.std.specs.Str.{chars};
-ghost use Rattle.edit_script.specs.Faults.{IsFault, IsLineFault};
-ghost use Rattle.edit_script.specs.Reading.{AddsLine, IsBadLine};
+ghost use Rattle.edit_script.specs.Faults.{IsFault};
+ghost use Rattle.edit_script.specs.Machinery.LineFaults.{IsLineFault};
+ghost use Rattle.edit_script.specs.Machinery.Reading.{AddsLine, IsBadLine};
 ghost use Rattle.edit_script.specs.Scripts.{FailsAsScript, IsCommand, IsScript};
 
 use crate::action::Action;

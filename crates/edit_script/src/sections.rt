@@ -7,7 +7,7 @@ ghost use Rattle.plain_types.specs.Tree.{HasDistinctNames};
 ghost use Rattle.xhtml_items.specs.Classes.{is_ascii};
 ghost use Rattle.edit_script.specs.Draws.{state_after};
 ghost use Rattle.edit_script.specs.Generator.{attr, element, heading, item_list, link, section, sections};
-ghost use Rattle.edit_script.specs.Putting.{with_trees};
+ghost use Rattle.edit_script.specs.Machinery.Putting.{with_trees};
 
 use crate::draws::Draws;
 use crate::texts::{copied, numbered};

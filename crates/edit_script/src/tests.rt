@@ -143,6 +143,19 @@ static FORMS: [(&str, &str); 15] = [
 ];
 
 #[test]
+fn messages(rt: HostRuntime) -> Result<(), Fail> {
+    let faults = [
+        (ScriptFault::BadLine { number: 3 }, "line 3 is no command"),
+        (ScriptFault::Memory, "out of memory"),
+    ];
+    for (fault, message) in &faults {
+        let told = format!(in rt.alloc(); "{fault}")?;
+        assert_eq!(rt; told.as_str(), *message);
+    }
+    Ok(())
+}
+
+#[test]
 fn each_form(rt: HostRuntime) -> Result<(), Fail> {
     for (text, answer) in &FORMS {
         let found = told(&rt, text)?;

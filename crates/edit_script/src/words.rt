@@ -3,8 +3,8 @@
 ghost use Rattle.std.specs.Prelude.{◌≡◌, ◌<◌, ◌^◌, ℕ, IfOk, IfErr, IfSome, IfNone};
 ghost use Rattle.std.specs.Fmt.{decimal};
 ghost use Rattle.std.specs.Str.{chars, IsUtf8};
-ghost use Rattle.edit_script.specs.Faults.{IsLineFault};
-ghost use Rattle.edit_script.specs.Words.{AreParts, IsPositionText, IsWordAndRest};
+ghost use Rattle.edit_script.specs.Machinery.LineFaults.{IsLineFault};
+ghost use Rattle.edit_script.specs.Machinery.Words.{AreParts, IsPositionText, IsWordAndRest};
 
 use crate::line_fault::LineFault;
 use itoa::Buffer;
@@ -23,8 +23,8 @@ pub(crate) fn split_word(text: &str) -> Result<(&str, &str), LineFault>
     }
 }
 
-/// The number that is written so: `0`, or digits that don't begin with `0`.
-fn read_natural(text: &str) -> Option<u32>
+/// The number below 2^32 that is written so: `0`, or digits that don't begin with `0`. It takes no memory.
+pub fn read_natural(text: &str) -> Option<u32>
     ensures found { IfSome result (λ number. text.now ≡ decimal number) }
     ensures none { IfNone result ((number : ℕ) → number < 2 ^ 32 → text.now ≡ decimal number → ⊥) }
 {

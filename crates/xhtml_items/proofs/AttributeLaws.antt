@@ -5,14 +5,18 @@ use Rattle.std.proofs.lemmas.Bool.{and_parts, eqb-true}
 use Rattle.std.proofs.lemmas.Bool.Decides.{nat_tests}
 use Rattle.std.proofs.lemmas.List.{length-append}
 use Rattle.plain_types.specs.declared.attr.Attr.{Attr}
-use Rattle.definitions.specs.Characters.{is_blank, is_plain, is_quote, is_name_start, is_name_character}
-use Rattle.definitions.specs.Items.{ArePieces}
-use Rattle.definitions.specs.Spelling.{as_read, AreBlanks, AreSomeBlanks, IsName, IsValuePart, written_character, referred_character, IsAttribute}
-use Rattle.xhtml_items.specs.Runs.{run_at}
-use Rattle.xhtml_items.specs.Reading.{◌then◌, past, past_blanks, skip_blanks, name_at, reference_at, value_part_at, quoted_at, attribute, attribute_at}
-use Rattle.xhtml_items.proofs.StepLaws.{chosen, then_some, past_takes, past_again, name_takes, name_again, skip_takes, skip_again, past_blanks_takes, past_blanks_again, some_filled}
+use Rattle.reading.specs.Characters.{is_blank, is_quote}
+use Rattle.reading.specs.Reading.{run_at, ◌then◌, past_character}
+use Rattle.reading.proofs.Runs.{chosen, then_some, run_is}
+use Rattle.reading.proofs.Following.{run_Run}
+use Rattle.xml_definitions.specs.Characters.{is_plain, is_name_start, is_name_character}
+use Rattle.xml_definitions.specs.Items.{ArePieces}
+use Rattle.xml_definitions.specs.Spelling.{as_read, AreBlanks, AreSomeBlanks, IsName, IsValuePart, written_character, referred_character, IsAttribute}
+use Rattle.xhtml_items.specs.Reading.{name_at}
+use Rattle.xhtml_items.specs.Machinery.Items.{past_some_blanks, skip_blanks, reference_at, value_part_at, quoted_at, attribute, attribute_at}
+use Rattle.xhtml_items.proofs.StepLaws.{past_takes, past_again, name_takes, name_again, skip_takes, skip_again, past_some_blanks_takes, past_some_blanks_again, some_filled}
 use Rattle.xhtml_items.proofs.ReferenceLaws.{reference_takes, reference_again}
-use Rattle.xhtml_items.proofs.RunLaws.{IsReader, Run-takes, Run-again, run_at-is, run_at-Run}
+use Rattle.xhtml_items.proofs.RunLaws.{IsReader, Run-takes, Run-again, shorter, takes_one}
 
 -- Parts of values.
 
@@ -77,9 +81,9 @@ quoted_takes [] x e = absurd cc
 quoted_takes (quote ∷ cs) x e = elim (chosen (is_quote quote) _ _ _ e) [
   | inl w ↦ (
       let run = run_at (value_part_at quote) cs in
-      let t = then_some (past quote run.1) (λ (rest : List ℕ). Some (run.0, rest)) x w.1 in
+      let t = then_some (past_character quote run.1) (λ (rest : List ℕ). Some (run.0, rest)) x w.1 in
       let is : (run.0, t.0) ≡ x = (let h = t.2 in cc) in
-      let took = Run-takes (IsValuePart quote) (value_part_at quote) (part_reader quote) (run_at-Run (IsValuePart quote) (value_part_at quote) (part_reader quote) cs) in
+      let took = Run-takes (IsValuePart quote) (value_part_at quote) (part_reader quote) (run_Run (value_part_at quote) (takes_one (IsValuePart quote) (value_part_at quote) (part_reader quote)) cs) in
       rw (← is) (record {
         quote = quote;
         value = took.0;
@@ -94,7 +98,7 @@ quoted_again : (quote : ℕ) (written value rest : List ℕ) → is_quote quote 
     → quoted_at (quote ∷ (written ++ quote ∷ rest)) ≡ Some (value, rest)
 unfolding quoted_at
 quoted_again quote written value rest h p =
-    let run = run_at-is (IsValuePart quote) (value_part_at quote) (part_reader quote)
+    let run = run_is (value_part_at quote) (shorter (IsValuePart quote) (value_part_at quote) (part_reader quote))
     (Run-again (IsValuePart quote) (value_part_at quote) (part_reader quote) value written (quote ∷ rest) p (no_part quote h rest)) in
     rw (h, run, past_again quote rest) refl
 
@@ -103,14 +107,14 @@ quoted_again quote written value rest h p =
 attribute_takes : (cs : List ℕ) (x : Attr × List ℕ) → attribute_at cs ≡ Some x → (front : List ℕ) × IsAttribute front x.0 × (cs ≡ front ++ x.1)
 unfolding attribute_at
 attribute_takes cs x e =
-    let b = then_some (past_blanks cs) (λ (start : List ℕ).
-    name_at start then λ name. past 61 (skip_blanks name.1) then λ sign. quoted_at (skip_blanks sign) then λ value. Some (attribute name.0 value.0, value.1)) x e in
+    let b = then_some (past_some_blanks cs) (λ (start : List ℕ).
+    name_at start then λ name. past_character 61 (skip_blanks name.1) then λ sign. quoted_at (skip_blanks sign) then λ value. Some (attribute name.0 value.0, value.1)) x e in
     let n = then_some (name_at b.0) (λ (name : List ℕ × List ℕ).
-    past 61 (skip_blanks name.1) then λ sign. quoted_at (skip_blanks sign) then λ value. Some (attribute name.0 value.0, value.1)) x b.2 in
-    let s = then_some (past 61 (skip_blanks n.0.1)) (λ (sign : List ℕ). quoted_at (skip_blanks sign) then λ value. Some (attribute n.0.0 value.0, value.1)) x n.2 in
+    past_character 61 (skip_blanks name.1) then λ sign. quoted_at (skip_blanks sign) then λ value. Some (attribute name.0 value.0, value.1)) x b.2 in
+    let s = then_some (past_character 61 (skip_blanks n.0.1)) (λ (sign : List ℕ). quoted_at (skip_blanks sign) then λ value. Some (attribute n.0.0 value.0, value.1)) x n.2 in
     let v = then_some (quoted_at (skip_blanks s.0)) (λ (value : List ℕ × List ℕ). Some (attribute n.0.0 value.0, value.1)) x s.2 in
     let is : (attribute n.0.0 v.0.0, v.0.1) ≡ x = (let h = v.2 in cc) in
-    rw (← is) (made cs b.0 n.0 s.0 v.0 (past_blanks_takes cs b.0 b.1) (name_takes b.0 n.0 n.1) (skip_takes n.0.1) (past_takes 61 (skip_blanks n.0.1) s.0 s.1) (skip_takes s.0) (quoted_takes (skip_blanks s.0) v.0 v.1))
+    rw (← is) (made cs b.0 n.0 s.0 v.0 (past_some_blanks_takes cs b.0 b.1) (name_takes b.0 n.0 n.1) (skip_takes n.0.1) (past_takes 61 (skip_blanks n.0.1) s.0 s.1) (skip_takes s.0) (quoted_takes (skip_blanks s.0) v.0 v.1))
   where
     made : (cs start : List ℕ) (name : List ℕ × List ℕ) (sign : List ℕ) (value : List ℕ × List ℕ)
         → ((before : List ℕ) × AreSomeBlanks before × (cs ≡ before ++ start)) → IsName name.0 × (start ≡ name.0 ++ name.1)
@@ -154,9 +158,9 @@ name_before name [] d more h k stops = name_again name d more h stops
 name_before name (b ∷ bs) d more h k stops = name_again name b (bs ++ d ∷ more) h (blank_ends_name b (and_parts (is_blank b) (list_all is_blank bs) k).0)
 
 -- blanks before a name
-pub blanks_before : (bs name more : List ℕ) → AreSomeBlanks bs → IsName name → past_blanks (bs ++ (name ++ more)) ≡ Some (name ++ more)
+pub blanks_before : (bs name more : List ℕ) → AreSomeBlanks bs → IsName name → past_some_blanks (bs ++ (name ++ more)) ≡ Some (name ++ more)
 blanks_before bs [] more k h = absurd cc
-blanks_before bs (c ∷ cs) more k h = past_blanks_again bs c (cs ++ more) k (name_not_blank c (and_parts (is_name_start c) (list_all is_name_character cs) h).0)
+blanks_before bs (c ∷ cs) more k h = past_some_blanks_again bs c (cs ++ more) k (name_not_blank c (and_parts (is_name_start c) (list_all is_name_character cs) h).0)
 
 attribute_again : (attr : Attr) (front rest : List ℕ) → IsAttribute front attr → attribute_at (front ++ rest) ≡ Some (attr, rest)
 unfolding attribute_at
@@ -167,7 +171,7 @@ attribute_again attr front rest s =
     (skip_again s.after_name 61 _ s.blanks.0 refl) (skip_again s.after_sign s.quote _ s.blanks.1 (not_blank s.quote s.quoted)) (quoted_again s.quote s.value attr.value rest s.quoted s.reads)
   where
     chain : (before name after_name after_sign : List ℕ) (q : ℕ) (more : List ℕ) (v : List ℕ × List ℕ)
-        → past_blanks (before ++ (name ++ (after_name ++ 61 ∷ (after_sign ++ q ∷ more)))) ≡ Some (name ++ (after_name ++ 61 ∷ (after_sign ++ q ∷ more)))
+        → past_some_blanks (before ++ (name ++ (after_name ++ 61 ∷ (after_sign ++ q ∷ more)))) ≡ Some (name ++ (after_name ++ 61 ∷ (after_sign ++ q ∷ more)))
         → name_at (name ++ (after_name ++ 61 ∷ (after_sign ++ q ∷ more))) ≡ Some (name, after_name ++ 61 ∷ (after_sign ++ q ∷ more))
         → skip_blanks (after_name ++ 61 ∷ (after_sign ++ q ∷ more)) ≡ 61 ∷ (after_sign ++ q ∷ more)
         → skip_blanks (after_sign ++ q ∷ more) ≡ q ∷ more

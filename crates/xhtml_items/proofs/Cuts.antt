@@ -4,7 +4,7 @@ use Rattle.std.specs.Char.{encode_utf8}
 use Rattle.std.specs.Str.{chars, IsUtf8, IsCharBoundary}
 use Rattle.std.proofs.lemmas.List.{take_at, drop_at, length-append, append-nil, append_cancel_right}
 use Rattle.std.proofs.lemmas.Str.{chars-append, IsUtf8-take, IsCharBoundary-at_seam}
-use Rattle.xhtml_items.specs.Reading.{span}
+use Rattle.reading.specs.Reading.{span}
 
 -- rest is what follows the characters front in the text
 pub record Cut (whole front rest : List ℕ) : Type 0 where

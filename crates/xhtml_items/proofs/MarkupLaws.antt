@@ -4,11 +4,15 @@ use Rattle.std.specs.Char.{to_ascii_uppercase}
 use Rattle.std.specs.List.{list_all}
 use Rattle.std.proofs.lemmas.Bool.{and_parts}
 use Rattle.std.proofs.lemmas.Bool.Decides.{nat_tests}
-use Rattle.definitions.specs.Characters.{is_blank, is_character, is_quote, is_name_character}
-use Rattle.definitions.specs.Items.{Item, doctype, instruction}
-use Rattle.definitions.specs.Spelling.{AreBlanks, AreSomeBlanks, IsName, AreUpTo, IsInstruction, bare_instruction, instruction_text, IsLiteral, literal, IsExternalId, no_identifier, system_identifier, public_identifier, both_identifiers, IsDoctype}
-use Rattle.xhtml_items.specs.Reading.{◌then◌, either_way, span, past, past_word, past_capitals, past_blanks, skip_blanks, name_at, up_to, found, instruction_text_at, instruction_at, past_literal, past_second, past_system, past_public, past_identifier, past_external, doctype_at}
-use Rattle.xhtml_items.proofs.StepLaws.{chosen, then_some, either_cases, past_takes, past_again, past_word_takes, past_capitals_takes, past_capitals_again, span_takes, span_again, past_blanks_takes, past_blanks_again, name_takes, name_again, skip_takes, skip_again, up_to_takes, up_to_again}
+use Rattle.reading.specs.Characters.{is_blank, is_quote}
+use Rattle.reading.specs.Reading.{◌then◌, span, past_character, past_text}
+use Rattle.reading.proofs.Runs.{chosen, then_some}
+use Rattle.xml_definitions.specs.Characters.{is_character, is_name_character}
+use Rattle.xml_definitions.specs.Items.{Item, doctype, instruction}
+use Rattle.xml_definitions.specs.Spelling.{AreBlanks, AreSomeBlanks, IsName, AreUpTo, IsInstruction, bare_instruction, instruction_text, IsLiteral, literal, IsExternalId, no_identifier, system_identifier, public_identifier, both_identifiers, IsDoctype}
+use Rattle.xhtml_items.specs.Reading.{either_way, name_at}
+use Rattle.xhtml_items.specs.Machinery.Items.{past_capitals, past_some_blanks, skip_blanks, up_to, found, instruction_text_at, instruction_at, past_literal, past_second, past_system, past_public, past_identifier, past_external, doctype_at}
+use Rattle.xhtml_items.proofs.StepLaws.{either_cases, past_takes, past_again, past_text_takes, past_capitals_takes, past_capitals_again, span_takes, span_again, past_some_blanks_takes, past_some_blanks_again, name_takes, name_again, skip_takes, skip_again, up_to_takes, up_to_again}
 use Rattle.xhtml_items.proofs.AttributeLaws.{name_before, blanks_before}
 
 -- Instructions.
@@ -17,16 +21,16 @@ pub instruction_takes : (cs : List ℕ) (x : Item × List ℕ) → instruction_a
     → (front : List ℕ) × (x.0 ≡ instruction) × IsInstruction (60 ∷ 63 ∷ front) × (cs ≡ front ++ x.1)
 unfolding instruction_at instruction_text_at
 instruction_takes cs x e =
-    let n = then_some (name_at cs) (λ (target : List ℕ × List ℕ). either_way (past_word (codes "?>") target.1) (λ rest. found instruction rest) (instruction_text_at target.1)) x e in
+    let n = then_some (name_at cs) (λ (target : List ℕ × List ℕ). either_way (past_text (codes "?>") target.1) (λ rest. found instruction rest) (instruction_text_at target.1)) x e in
     let p = name_takes cs n.0 n.1 in
-    elim (either_cases (past_word (codes "?>") n.0.1) (λ (rest : List ℕ). found instruction rest) _ _ n.2) [
+    elim (either_cases (past_text (codes "?>") n.0.1) (λ (rest : List ℕ). found instruction rest) _ _ n.2) [
       | inl w ↦ (
           let is : (instruction, w.0) ≡ x = (let h = w.2 in cc) in
           rw (← is) (
             n.0.0 ++ codes "?>",
             refl,
             bare_instruction n.0.0 p.0,
-            p.1 ∙ ap (λ (r : List ℕ). n.0.0 ++ r) (past_word_takes (codes "?>") n.0.1 w.0 w.1) ∙ sym (append_assoc n.0.0 (codes "?>") w.0),
+            p.1 ∙ ap (λ (r : List ℕ). n.0.0 ++ r) (past_text_takes (codes "?>") n.0.1 w.0 w.1) ∙ sym (append_assoc n.0.0 (codes "?>") w.0),
           ))
       | inr w ↦ (
           let t = text_takes n.0.0 n.0.1 x p.0 w.1 in
@@ -58,7 +62,7 @@ instruction_again (bare_instruction target named) rest =
 instruction_again (instruction_text target blank {inside} named h up) rest =
     let whole : (target ++ blank ∷ inside ++ codes "?>") ++ rest ≡ target ++ blank ∷ (inside ++ (codes "?>" ++ rest)) = simp append_assoc in
     let ends : is_name_character blank ≡ false = grind (arith, nat_tests) in
-    let other : past_word (codes "?>") (blank ∷ (inside ++ (codes "?>" ++ rest))) ≡ None = (let unlike : eqb blank 63 ≡ false = grind (arith, nat_tests) in rw unlike refl) in (
+    let other : past_text (codes "?>") (blank ∷ (inside ++ (codes "?>" ++ rest))) ≡ None = (let unlike : eqb blank 63 ≡ false = grind (arith, nat_tests) in rw unlike refl) in (
       target ++ blank ∷ inside ++ codes "?>",
       refl,
       ap instruction_at whole
@@ -86,12 +90,12 @@ not_blank quote h = grind (arith, nat_tests)
 
 -- blanks and a literal are passed
 literal_again : (between : List ℕ) {text : List ℕ} → AreSomeBlanks between → IsLiteral text → (rest : List ℕ)
-    → (past_blanks (between ++ (text ++ rest)) ≡ Some (text ++ rest)) × (past_literal (text ++ rest) ≡ Some rest)
+    → (past_some_blanks (between ++ (text ++ rest)) ≡ Some (text ++ rest)) × (past_literal (text ++ rest) ≡ Some rest)
 unfolding past_literal
 literal_again between some (literal quote inside quoted all) rest = (
-  past_blanks_again between quote (inside ++ quote ∷ [] ++ rest) some (not_blank quote quoted),
+  past_some_blanks_again between quote (inside ++ quote ∷ [] ++ rest) some (not_blank quote quoted),
   rw (quoted, append_assoc inside (quote ∷ []) rest)
-      (ap (λ (x : List ℕ × List ℕ). past quote x.1) (span_again (λ c. is_character c && not (eqb c quote)) inside quote rest all (excluded quote)) ∙ past_again quote rest),
+      (ap (λ (x : List ℕ × List ℕ). past_character quote x.1) (span_again (λ c. is_character c && not (eqb c quote)) inside quote rest all (excluded quote)) ∙ past_again quote rest),
 )
   where
     excluded : (quote : ℕ) → (is_character quote && not (eqb quote quote)) ≡ false
@@ -101,8 +105,8 @@ system_takes : (cs rest : List ℕ) → past_system cs ≡ Some rest
     → (between : List ℕ) × (text : List ℕ) × AreSomeBlanks between × IsLiteral text × (cs ≡ between ++ (text ++ rest))
 unfolding past_system
 system_takes cs rest e =
-    let b = then_some (past_blanks cs) (λ (start : List ℕ). past_literal start) rest e in
-    let s = past_blanks_takes cs b.0 b.1 in
+    let b = then_some (past_some_blanks cs) (λ (start : List ℕ). past_literal start) rest e in
+    let s = past_some_blanks_takes cs b.0 b.1 in
     let l = literal_takes b.0 rest b.2 in
     (s.0, l.0, s.1, l.1, s.2 ∙ ap (λ (r : List ℕ). s.0 ++ r) l.2)
 
@@ -119,8 +123,8 @@ second_takes cs = go (past_system cs) refl
 
 external_takes : (cs rest : List ℕ) → past_external cs ≡ Some rest → (front : List ℕ) × IsExternalId front × (cs ≡ front ++ rest)
 unfolding past_external past_identifier past_public
-external_takes cs rest e = elim (either_cases (past_blanks cs) (λ (start : List ℕ). past_identifier cs start) (Some cs) _ e) [
-  | inl w ↦ (let b = past_blanks_takes cs w.0 w.1 in identifier_takes b.0 w.0 b.1 b.2 w.2)
+external_takes cs rest e = elim (either_cases (past_some_blanks cs) (λ (start : List ℕ). past_identifier cs start) (Some cs) _ e) [
+  | inl w ↦ (let b = past_some_blanks_takes cs w.0 w.1 in identifier_takes b.0 w.0 b.1 b.2 w.2)
   | inr w ↦ ([], no_identifier, let h = w.1 in cc)
 ] where
   public_takes : (before start : List ℕ) → AreSomeBlanks before → cs ≡ before ++ (codes "PUBLIC" ++ start) → past_public start ≡ Some rest
@@ -145,16 +149,16 @@ external_takes cs rest e = elim (either_cases (past_blanks cs) (λ (start : List
 
   identifier_takes : (before start : List ℕ) → AreSomeBlanks before → cs ≡ before ++ start → past_identifier cs start ≡ Some rest
       → (front : List ℕ) × IsExternalId front × (cs ≡ front ++ rest)
-  identifier_takes before start some parts e = elim (either_cases (past_word (codes "SYSTEM") start) (λ (rest : List ℕ). past_system rest) _ _ e) [
+  identifier_takes before start some parts e = elim (either_cases (past_text (codes "SYSTEM") start) (λ (rest : List ℕ). past_system rest) _ _ e) [
     | inl w ↦ (
         let s = system_takes w.0 rest w.2 in (
           before ++ codes "SYSTEM" ++ s.0 ++ s.1,
           system_identifier before s.0 some s.2 s.3,
-          parts ∙ ap (λ (r : List ℕ). before ++ r) (past_word_takes (codes "SYSTEM") start w.0 w.1 ∙ ap (λ (r : List ℕ). codes "SYSTEM" ++ r) s.4) ∙ sym (simp append_assoc),
+          parts ∙ ap (λ (r : List ℕ). before ++ r) (past_text_takes (codes "SYSTEM") start w.0 w.1 ∙ ap (λ (r : List ℕ). codes "SYSTEM" ++ r) s.4) ∙ sym (simp append_assoc),
         ))
-    | inr w ↦ elim (either_cases (past_word (codes "PUBLIC") start) (λ (rest : List ℕ). past_public rest) (Some cs) _ w.1) [
+    | inr w ↦ elim (either_cases (past_text (codes "PUBLIC") start) (λ (rest : List ℕ). past_public rest) (Some cs) _ w.1) [
       | inl v ↦ (
-          let whole : cs ≡ before ++ (codes "PUBLIC" ++ v.0) = parts ∙ ap (λ (r : List ℕ). before ++ r) (past_word_takes (codes "PUBLIC") start v.0 v.1) in
+          let whole : cs ≡ before ++ (codes "PUBLIC" ++ v.0) = parts ∙ ap (λ (r : List ℕ). before ++ r) (past_text_takes (codes "PUBLIC") start v.0 v.1) in
           public_takes before v.0 some whole v.2)
       | inr v ↦ ([], no_identifier, let h = v.1 in cc)
     ]
@@ -164,12 +168,12 @@ external_takes cs rest e = elim (either_cases (past_blanks cs) (λ (start : List
 no_second : (blanks rest : List ℕ) → AreBlanks blanks → past_second (blanks ++ 62 ∷ rest) ≡ blanks ++ 62 ∷ rest
 unfolding past_second past_system past_literal
 no_second [] rest blank = refl
-no_second (b ∷ blanks) rest blank = rw (past_blanks_again (b ∷ blanks) 62 rest blank refl) refl
+no_second (b ∷ blanks) rest blank = rw (past_some_blanks_again (b ∷ blanks) 62 rest blank refl) refl
 
 no_external : (blanks rest : List ℕ) → AreBlanks blanks → past_external (blanks ++ 62 ∷ rest) ≡ Some (blanks ++ 62 ∷ rest)
 unfolding past_external past_identifier
 no_external [] rest blank = refl
-no_external (b ∷ blanks) rest blank = rw (past_blanks_again (b ∷ blanks) 62 rest blank refl) refl
+no_external (b ∷ blanks) rest blank = rw (past_some_blanks_again (b ∷ blanks) 62 rest blank refl) refl
 
 external_again : {identifier : List ℕ} → IsExternalId identifier → (blanks rest : List ℕ) → AreBlanks blanks
     → past_external (identifier ++ (blanks ++ 62 ∷ rest)) ≡ Some (blanks ++ 62 ∷ rest)
@@ -179,19 +183,19 @@ external_again (system_identifier before between {system} some parted text) blan
     let end = blanks ++ 62 ∷ rest in
     let whole : (before ++ codes "SYSTEM" ++ between ++ system) ++ end ≡ before ++ (codes "SYSTEM" ++ (between ++ (system ++ end))) = simp append_assoc in
     let l = literal_again between parted text end in
-    ap past_external whole ∙ rw (past_blanks_again before 83 (89 ∷ 83 ∷ 84 ∷ 69 ∷ 77 ∷ (between ++ (system ++ end))) some refl, l.0, l.1) refl
+    ap past_external whole ∙ rw (past_some_blanks_again before 83 (89 ∷ 83 ∷ 84 ∷ 69 ∷ 77 ∷ (between ++ (system ++ end))) some refl, l.0, l.1) refl
 external_again (public_identifier before between {public} some parted text) blanks rest blank =
     let end = blanks ++ 62 ∷ rest in
     let whole : (before ++ codes "PUBLIC" ++ between ++ public) ++ end ≡ before ++ (codes "PUBLIC" ++ (between ++ (public ++ end))) = simp append_assoc in
     let l = literal_again between parted text end in
-    ap past_external whole ∙ rw (past_blanks_again before 80 (85 ∷ 66 ∷ 76 ∷ 73 ∷ 67 ∷ (between ++ (public ++ end))) some refl, l.0, l.1, no_second blanks rest blank) refl
+    ap past_external whole ∙ rw (past_some_blanks_again before 80 (85 ∷ 66 ∷ 76 ∷ 73 ∷ 67 ∷ (between ++ (public ++ end))) some refl, l.0, l.1, no_second blanks rest blank) refl
 external_again (both_identifiers before between after {public} {system} some parted text apart other) blanks rest blank =
     let end = blanks ++ 62 ∷ rest in
     let whole : (before ++ codes "PUBLIC" ++ between ++ public ++ after ++ system) ++ end ≡ before ++ (codes "PUBLIC" ++ (between ++ (public ++ (after ++ (system ++ end))))) = simp append_assoc in
     let l = literal_again between parted text (after ++ (system ++ end)) in
     let m = literal_again after apart other end in
     ap past_external whole
-    ∙ rw (past_blanks_again before 80 (85 ∷ 66 ∷ 76 ∷ 73 ∷ 67 ∷ (between ++ (public ++ (after ++ (system ++ end))))) some refl, l.0, l.1, m.0, m.1) refl
+    ∙ rw (past_some_blanks_again before 80 (85 ∷ 66 ∷ 76 ∷ 73 ∷ 67 ∷ (between ++ (public ++ (after ++ (system ++ end))))) some refl, l.0, l.1, m.0, m.1) refl
 
 -- Doctypes.
 
@@ -221,15 +225,15 @@ pub doctype_takes : (cs : List ℕ) (x : Item × List ℕ) → doctype_at cs ≡
 unfolding doctype_at
 doctype_takes cs x e =
     let w = then_some (past_capitals (codes "DOCTYPE") cs) (λ (word : List ℕ).
-    past_blanks word then λ start. name_at start then λ name. past_external name.1 then λ rest. past 62 (skip_blanks rest) then λ rest. found doctype rest) x e in
-    let b = then_some (past_blanks w.0) (λ (start : List ℕ).
-    name_at start then λ name. past_external name.1 then λ rest. past 62 (skip_blanks rest) then λ rest. found doctype rest) x w.2 in
-    let n = then_some (name_at b.0) (λ (name : List ℕ × List ℕ). past_external name.1 then λ rest. past 62 (skip_blanks rest) then λ rest. found doctype rest) x b.2 in
-    let i = then_some (past_external n.0.1) (λ (rest : List ℕ). past 62 (skip_blanks rest) then λ rest. found doctype rest) x n.2 in
-    let t = then_some (past 62 (skip_blanks i.0)) (λ (rest : List ℕ). found doctype rest) x i.2 in
+    past_some_blanks word then λ start. name_at start then λ name. past_external name.1 then λ rest. past_character 62 (skip_blanks rest) then λ rest. found doctype rest) x e in
+    let b = then_some (past_some_blanks w.0) (λ (start : List ℕ).
+    name_at start then λ name. past_external name.1 then λ rest. past_character 62 (skip_blanks rest) then λ rest. found doctype rest) x w.2 in
+    let n = then_some (name_at b.0) (λ (name : List ℕ × List ℕ). past_external name.1 then λ rest. past_character 62 (skip_blanks rest) then λ rest. found doctype rest) x b.2 in
+    let i = then_some (past_external n.0.1) (λ (rest : List ℕ). past_character 62 (skip_blanks rest) then λ rest. found doctype rest) x n.2 in
+    let t = then_some (past_character 62 (skip_blanks i.0)) (λ (rest : List ℕ). found doctype rest) x i.2 in
     let is : (doctype, t.0) ≡ x = (let h = t.2 in cc) in
     let f = past_capitals_takes (codes "DOCTYPE") cs w.0 w.1 in
-    let s = past_blanks_takes w.0 b.0 b.1 in
+    let s = past_some_blanks_takes w.0 b.0 b.1 in
     let p = name_takes b.0 n.0 n.1 in
     let d = external_takes n.0.1 i.0 i.1 in
     let k = skip_takes i.0 in

@@ -14,7 +14,7 @@ use Rattle.std.proofs.lemmas.Map.Text.{is_eq-slice_cmp}
 use Rattle.std.proofs.lemmas.Slice.Eq.{bytes_eq-Decides}
 use Rattle.std.proofs.lemmas.Str.{encodes_same}
 use Rattle.plain_types.specs.declared.attr.Attr.{Attr}
-use Rattle.xhtml_items.specs.Reading.{are_distinct}
+use Rattle.xhtml_items.specs.Machinery.Items.{are_distinct}
 
 -- the order of `&str`
 abbrev pub str_cmp : Bor (List ℕ) → Bor (List ℕ) → Ordering

@@ -8,9 +8,10 @@ use Rattle.std.proofs.lemmas.Bool.{and_parts, ltb-true, cases_lt}
 use Rattle.std.proofs.lemmas.Bool.Decides.{nat_tests}
 use Rattle.std.proofs.lemmas.Str.{encodes-chars, encodes-IsAscii}
 use Rattle.std.proofs.lemmas.Str.Ascii.{IsAscii-nil, IsAscii-cons}
-use Rattle.definitions.specs.Spelling.{is_legal}
+use Rattle.reading.specs.Reading.{span}
+use Rattle.xml_definitions.specs.Spelling.{is_legal}
 use Rattle.xhtml_items.specs.Classes.{are_digits}
-use Rattle.xhtml_items.specs.Reading.{span, numbered}
+use Rattle.xhtml_items.specs.Machinery.Items.{numbered}
 use Rattle.xhtml_items.proofs.StepLaws.{span_takes}
 
 -- a digit of a base that std knows is ASCII, and no plus

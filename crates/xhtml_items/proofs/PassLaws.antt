@@ -10,12 +10,15 @@ use Rattle.std.proofs.lemmas.List.{nil_from_length}
 use Rattle.std.proofs.lemmas.List.Folds.{list_any-append, list_any_more}
 use Rattle.std.proofs.lemmas.List.Sums.{fails_before_first, passes_at_first, prefix_len-le-length}
 use Rattle.std.proofs.lemmas.Str.{encode_ascii, encodes-chars, scalars-chars, chars-append, chars-nil}
-use Rattle.definitions.specs.Characters.{is_character, is_plain, is_quote}
+use Rattle.reading.specs.Characters.{is_quote}
+use Rattle.reading.specs.Reading.{span}
+use Rattle.reading.proofs.Runs.{Goes}
+use Rattle.xml_definitions.specs.Characters.{is_character, is_plain}
 use Rattle.lane_class.specs.Ranges.{is_in}
-use Rattle.xhtml_items.specs.Reading.{span, value_part_at}
-use Rattle.xhtml_items.specs.StopBytes.{has_stop, is_straight, Tells, AreFirst}
+use Rattle.xhtml_items.specs.Machinery.Items.{value_part_at}
+use Rattle.xhtml_items.specs.Machinery.StopBytes.{has_stop, is_straight, Tells, AreFirst}
 use Rattle.xhtml_items.proofs.Cuts.{Cut, Runs}
-use Rattle.xhtml_items.proofs.RunLaws.{Goes, Goes-over}
+use Rattle.xhtml_items.proofs.RunLaws.{Goes-over}
 
 -- The bytes of one character.
 

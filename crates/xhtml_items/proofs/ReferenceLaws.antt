@@ -7,10 +7,14 @@ use Rattle.std.specs.Str.Parse.{digits_value}
 use Rattle.std.proofs.lemmas.Bool.{and_parts}
 use Rattle.std.proofs.lemmas.Bool.Decides.{nat_tests}
 use Rattle.std.proofs.lemmas.Slice.Eq.{bytes_eq-Decides}
-use Rattle.definitions.specs.Characters.{is_digit, is_hexadecimal_digit, is_name, is_name_start, is_name_character}
-use Rattle.definitions.specs.Spelling.{are_some, is_legal, entities, entity, IsName, IsReference, decimal_reference, hexadecimal_reference, entity_reference}
-use Rattle.xhtml_items.specs.Reading.{◌then◌, span, past, name_at, numbered, number_at, numeric_at, entity_at, reference_at}
-use Rattle.xhtml_items.proofs.StepLaws.{chosen, then_some, either_cases, past_takes, past_none, span_takes, span_again, all_from_some, name_takes, name_again}
+use Rattle.reading.specs.Characters.{is_digit, is_hexadecimal_digit}
+use Rattle.reading.specs.Reading.{◌then◌, span, past_character}
+use Rattle.reading.proofs.Runs.{chosen, then_some}
+use Rattle.xml_definitions.specs.Characters.{is_name, is_name_start, is_name_character}
+use Rattle.xml_definitions.specs.Spelling.{are_some, is_legal, entities, entity, IsName, IsReference, decimal_reference, hexadecimal_reference, entity_reference}
+use Rattle.xhtml_items.specs.Reading.{name_at}
+use Rattle.xhtml_items.specs.Machinery.Items.{numbered, number_at, numeric_at, entity_at, reference_at}
+use Rattle.xhtml_items.proofs.StepLaws.{either_cases, past_takes, past_none, span_takes, span_again, all_from_some, name_takes, name_again}
 
 numbered_takes : (test : ℕ → Bool) (base : ℕ) (digits : List ℕ) (c : ℕ) → list_all test digits ≡ true → numbered base digits ≡ Some c
     → IsTrue (are_some test digits) × IsTrue (is_legal (digits_value base digits)) × (c ≡ digits_value base digits)
@@ -30,7 +34,7 @@ number_takes : (test : ℕ → Bool) (base : ℕ) (cs : List ℕ) (x : ℕ × Li
 unfolding number_at
 number_takes test base cs x e =
     let digits = (span test cs).0 in
-    let t = then_some (past 59 (span test cs).1) (λ (rest : List ℕ). numbered base digits then λ c. Some (c, rest)) x e in
+    let t = then_some (past_character 59 (span test cs).1) (λ (rest : List ℕ). numbered base digits then λ c. Some (c, rest)) x e in
     let n = then_some (numbered base digits) (λ (c : ℕ). Some (c, t.0)) x t.2 in
     let is : (n.0, t.0) ≡ x = (let h = n.2 in cc) in
     let s = span_takes test cs in
@@ -54,14 +58,14 @@ hexadecimal_is digits c some allowed e = rw e (hexadecimal_reference digits some
 -- what stands behind `&` is the rest of a reference
 pub reference_takes : (cs : List ℕ) (x : ℕ × List ℕ) → reference_at cs ≡ Some x → (front : List ℕ) × IsReference (38 ∷ front) x.0 × (cs ≡ front ++ x.1)
 unfolding reference_at numeric_at entity_at
-reference_takes cs x e = elim (either_cases (past 35 cs) (λ (rest : List ℕ). numeric_at rest) (entity_at cs) _ e) [
+reference_takes cs x e = elim (either_cases (past_character 35 cs) (λ (rest : List ℕ). numeric_at rest) (entity_at cs) _ e) [
   | inl w ↦ (
       let t = numeric_takes w.0 x w.2 in
       (35 ∷ t.0, t.1, past_takes 35 cs w.0 w.1 ∙ ap (λ (r : List ℕ). 35 ∷ r) t.2))
   | inr w ↦ entity_takes cs x w.1
 ] where
   numeric_takes : (cs : List ℕ) (x : ℕ × List ℕ) → numeric_at cs ≡ Some x → (front : List ℕ) × IsReference (38 ∷ 35 ∷ front) x.0 × (cs ≡ front ++ x.1)
-  numeric_takes cs x e = elim (either_cases (past 120 cs) (λ (rest : List ℕ). number_at is_hexadecimal_digit 16 rest) (number_at is_digit 10 cs) _ e) [
+  numeric_takes cs x e = elim (either_cases (past_character 120 cs) (λ (rest : List ℕ). number_at is_hexadecimal_digit 16 rest) (number_at is_digit 10 cs) _ e) [
     | inl w ↦ (
         let t = number_takes is_hexadecimal_digit 16 w.0 x w.2 in
         (120 ∷ (t.0 ++ 59 ∷ []), hexadecimal_is t.0 x.0 t.1 t.2 t.3, past_takes 120 cs w.0 w.1 ∙ ap (λ (r : List ℕ). 120 ∷ r) (t.4 ∙ sym (append_assoc t.0 (59 ∷ []) x.1))))
@@ -72,8 +76,8 @@ reference_takes cs x e = elim (either_cases (past 35 cs) (λ (rest : List ℕ). 
 
   entity_takes : (cs : List ℕ) (x : ℕ × List ℕ) → entity_at cs ≡ Some x → (front : List ℕ) × IsReference (38 ∷ front) x.0 × (cs ≡ front ++ x.1)
   entity_takes cs x e =
-      let n = then_some (name_at cs) (λ (name : List ℕ × List ℕ). past 59 name.1 then λ rest. entity name.0 then λ c. Some (c, rest)) x e in
-      let p = then_some (past 59 n.0.1) (λ (rest : List ℕ). entity n.0.0 then λ c. Some (c, rest)) x n.2 in
+      let n = then_some (name_at cs) (λ (name : List ℕ × List ℕ). past_character 59 name.1 then λ rest. entity name.0 then λ c. Some (c, rest)) x e in
+      let p = then_some (past_character 59 n.0.1) (λ (rest : List ℕ). entity n.0.0 then λ c. Some (c, rest)) x n.2 in
       let c = then_some (entity n.0.0) (λ (c : ℕ). Some (c, p.0)) x p.2 in
       let is : (c.0, p.0) ≡ x = (let h = c.2 in cc) in
       let parts : cs ≡ n.0.0 ++ (59 ∷ p.0) = (name_takes cs n.0 n.1).1 ∙ ap (λ (r : List ℕ). n.0.0 ++ r) (past_takes 59 n.0.1 p.0 p.1) in
@@ -100,14 +104,14 @@ pub record Referred (characters : List ℕ) (c : ℕ) (rest : List ℕ) : Type 0
   pub parts : characters ≡ 38 ∷ tail
   pub again : reference_at (tail ++ rest) ≡ Some (c, rest)
 
-no_letter : (digits : List ℕ) (rest : List ℕ) → are_some is_digit digits ≡ true → past 120 (digits ++ rest) ≡ None
+no_letter : (digits : List ℕ) (rest : List ℕ) → are_some is_digit digits ≡ true → past_character 120 (digits ++ rest) ≡ None
 no_letter [] rest some = absurd cc
 no_letter (c ∷ cs) rest some =
     let p = and_parts (is_digit c) (list_all is_digit cs) some in
     let digit = p.0 in
     past_none 120 c (cs ++ rest) (grind (arith, nat_tests))
 
-no_number_sign : (name : List ℕ) (rest : List ℕ) → IsName name → past 35 (name ++ rest) ≡ None
+no_number_sign : (name : List ℕ) (rest : List ℕ) → IsName name → past_character 35 (name ++ rest) ≡ None
 no_number_sign [] rest h = absurd cc
 no_number_sign (c ∷ cs) rest h =
     let p = and_parts (is_name_start c) (list_all is_name_character cs) h in

@@ -1,26 +1,17 @@
 -- The steps of which reading is made: what each takes from the front, and that it takes it again.
-use Rattle.std.proofs.Common.{◌≡◌, ◌≢◌, ℕ, ◌<◌, ◌≤◌, Bool, true, false, cond, eqb, List, [], ◌∷◌, ◌++◌, length, Option, Some, None, ◌⊎◌, inl, inr, refl, sym, ap, ◌∙◌, append_assoc, map, arith}
+use Rattle.std.proofs.Common.{◌≡◌, ◌≢◌, ℕ, ◌<◌, ◌≤◌, Bool, true, false, eqb, List, [], ◌∷◌, ◌++◌, length, Option, Some, None, ◌⊎◌, inl, inr, refl, sym, ap, ◌∙◌, append_assoc, map, arith}
 use Rattle.std.specs.Char.{to_ascii_uppercase}
 use Rattle.std.specs.List.{list_all}
 use Rattle.std.proofs.lemmas.List.{length-append, nil_from_length}
-use Rattle.std.proofs.lemmas.Bool.{and_parts, eqb-true}
+use Rattle.std.proofs.lemmas.Bool.{and_parts, cases_Bool, eqb-true}
 use Rattle.std.proofs.lemmas.Bool.Decides.{nat_tests}
-use Rattle.definitions.specs.Characters.{is_blank, is_character, is_name_start, is_name_character}
-use Rattle.definitions.specs.Spelling.{are_some, AreBlanks, AreSomeBlanks, IsName, AreUpTo}
-use Rattle.xhtml_items.specs.Reading.{◌then◌, either_way, span, past, past_word, past_capital, past_capitals, skip_blanks, past_blanks, name_at, with_first, split_once, if_allowed, up_to}
-
--- which way a test went
-pub chosen : {A : Type 0} (b : Bool) (x y z : A) → cond b x y ≡ z → ((b ≡ true) × (x ≡ z)) ⊎ ((b ≡ false) × (y ≡ z))
-chosen true x y z e = inl (refl, e)
-chosen false x y z e = inr (refl, e)
-
-pub cases : (b : Bool) → (b ≡ true) ⊎ (b ≡ false)
-cases true = inl refl
-cases false = inr refl
-
-pub then_some : {A B : Type 0} (o : Option A) (f : A → Option B) (y : B) → (o then f) ≡ Some y → (x : A) × (o ≡ Some x) × (f x ≡ Some y)
-then_some (Some x) f y e = (x, refl, e)
-then_some None f y e = absurd cc
+use Rattle.reading.specs.Characters.{is_blank}
+use Rattle.reading.specs.Reading.{span, past_character, past_text}
+use Rattle.reading.proofs.Runs.{chosen, then_some}
+use Rattle.xml_definitions.specs.Characters.{is_character, is_name_start, is_name_character}
+use Rattle.xml_definitions.specs.Spelling.{are_some, AreBlanks, AreSomeBlanks, IsName, AreUpTo}
+use Rattle.xhtml_items.specs.Reading.{either_way, name_at, with_first, split_once}
+use Rattle.xhtml_items.specs.Machinery.Items.{past_capital, past_capitals, skip_blanks, past_some_blanks, if_allowed, up_to}
 
 pub either_cases : {A B : Type 0} (o : Option A) (f : A → B) (d y : B) → either_way o f d ≡ y → ((x : A) × (o ≡ Some x) × (f x ≡ y)) ⊎ ((o ≡ None) × (d ≡ y))
 either_cases (Some x) f d y e = inl (x, refl, e)
@@ -35,28 +26,28 @@ eqb-same c = grind (arith, nat_tests)
 
 -- Words.
 
-pub past_takes : (wanted : ℕ) (cs rest : List ℕ) → past wanted cs ≡ Some rest → cs ≡ wanted ∷ rest
+pub past_takes : (wanted : ℕ) (cs rest : List ℕ) → past_character wanted cs ≡ Some rest → cs ≡ wanted ∷ rest
 past_takes wanted [] rest e = absurd cc
 past_takes wanted (c ∷ cs) rest e = elim (chosen (eqb c wanted) _ _ _ e) [
   | inl w ↦ (let same : c ≡ wanted = eqb-true c wanted w.0 in let tail : cs ≡ rest = (let h = w.1 in cc) in rw (same, tail) refl)
   | inr w ↦ absurd (let h = w.1 in cc)
 ]
 
-pub past_again : (wanted : ℕ) (rest : List ℕ) → past wanted (wanted ∷ rest) ≡ Some rest
+pub past_again : (wanted : ℕ) (rest : List ℕ) → past_character wanted (wanted ∷ rest) ≡ Some rest
 past_again wanted rest = rw (eqb-same wanted) refl
 
-pub past_none : (wanted c : ℕ) (rest : List ℕ) → eqb c wanted ≡ false → past wanted (c ∷ rest) ≡ None
+pub past_none : (wanted c : ℕ) (rest : List ℕ) → eqb c wanted ≡ false → past_character wanted (c ∷ rest) ≡ None
 past_none wanted c rest e = rw e refl
 
-pub past_word_takes : (word cs rest : List ℕ) → past_word word cs ≡ Some rest → cs ≡ word ++ rest
-past_word_takes [] cs rest e = cc
-past_word_takes (letter ∷ letters) cs rest e =
-    let t = then_some (past letter cs) (λ (r : List ℕ). past_word letters r) rest e in
-    past_takes letter cs t.0 t.1 ∙ ap (λ (r : List ℕ). letter ∷ r) (past_word_takes letters t.0 rest t.2)
+pub past_text_takes : (word cs rest : List ℕ) → past_text word cs ≡ Some rest → cs ≡ word ++ rest
+past_text_takes [] cs rest e = cc
+past_text_takes (letter ∷ letters) cs rest e =
+    let t = then_some (past_character letter cs) (λ (r : List ℕ). past_text letters r) rest e in
+    past_takes letter cs t.0 t.1 ∙ ap (λ (r : List ℕ). letter ∷ r) (past_text_takes letters t.0 rest t.2)
 
-pub past_word_again : (word rest : List ℕ) → past_word word (word ++ rest) ≡ Some rest
-past_word_again [] rest = refl
-past_word_again (letter ∷ letters) rest = rw (eqb-same letter) (past_word_again letters rest)
+pub past_text_again : (word rest : List ℕ) → past_text word (word ++ rest) ≡ Some rest
+past_text_again [] rest = refl
+past_text_again (letter ∷ letters) rest = rw (eqb-same letter) (past_text_again letters rest)
 
 pub past_capital_takes : (wanted : ℕ) (cs rest : List ℕ) → past_capital wanted cs ≡ Some rest → (c : ℕ) × (to_ascii_uppercase c ≡ wanted) × (cs ≡ c ∷ rest)
 past_capital_takes wanted [] rest e = absurd cc
@@ -82,7 +73,7 @@ past_capitals_again word (c ∷ cs) rest e = rw (← e) (rw (eqb-same (to_ascii_
 pub span_takes : (test : ℕ → Bool) (cs : List ℕ) → (list_all test (span test cs).0 ≡ true) × (cs ≡ (span test cs).0 ++ (span test cs).1)
 unfolding span
 span_takes test [] = (refl, refl)
-span_takes test (c ∷ cs) = elim (cases (test c)) [
+span_takes test (c ∷ cs) = elim (cases_Bool (test c)) [
   | inl same ↦ (let r = span_takes test cs in rw same (rw (same, r.0) refl, ap (λ (t : List ℕ). c ∷ t) r.1))
   | inr other ↦ rw other (refl, refl)
 ]
@@ -106,9 +97,9 @@ skip_takes cs = let t = span_takes is_blank cs in ((span is_blank cs).0, t.0, t.
 pub skip_again : (bs : List ℕ) (d : ℕ) (more : List ℕ) → AreBlanks bs → is_blank d ≡ false → skip_blanks (bs ++ d ∷ more) ≡ d ∷ more
 skip_again bs d more h stops = ap (λ (x : List ℕ × List ℕ). x.1) (span_again is_blank bs d more h stops)
 
-pub past_blanks_takes : (cs rest : List ℕ) → past_blanks cs ≡ Some rest → (front : List ℕ) × AreSomeBlanks front × (cs ≡ front ++ rest)
-past_blanks_takes [] rest e = absurd cc
-past_blanks_takes (c ∷ cs) rest e = elim (chosen (is_blank c) _ _ _ e) [
+pub past_some_blanks_takes : (cs rest : List ℕ) → past_some_blanks cs ≡ Some rest → (front : List ℕ) × AreSomeBlanks front × (cs ≡ front ++ rest)
+past_some_blanks_takes [] rest e = absurd cc
+past_some_blanks_takes (c ∷ cs) rest e = elim (chosen (is_blank c) _ _ _ e) [
   | inl w ↦ (
       let t = skip_takes cs in
       let is : skip_blanks cs ≡ rest = (let h = w.1 in cc) in
@@ -116,12 +107,9 @@ past_blanks_takes (c ∷ cs) rest e = elim (chosen (is_blank c) _ _ _ e) [
   | inr w ↦ absurd (let h = w.1 in cc)
 ]
 
-pub past_blanks_again : (bs : List ℕ) (d : ℕ) (more : List ℕ) → AreSomeBlanks bs → is_blank d ≡ false → past_blanks (bs ++ d ∷ more) ≡ Some (d ∷ more)
-past_blanks_again [] d more h stops = absurd cc
-past_blanks_again (b ∷ bs) d more h stops = let p = and_parts (is_blank b) (list_all is_blank bs) h in rw (p.0, skip_again bs d more p.1 stops) refl
-
-pub past_blanks_none : (c : ℕ) (cs : List ℕ) → is_blank c ≡ false → past_blanks (c ∷ cs) ≡ None
-past_blanks_none c cs h = rw h refl
+pub past_some_blanks_again : (bs : List ℕ) (d : ℕ) (more : List ℕ) → AreSomeBlanks bs → is_blank d ≡ false → past_some_blanks (bs ++ d ∷ more) ≡ Some (d ∷ more)
+past_some_blanks_again [] d more h stops = absurd cc
+past_some_blanks_again (b ∷ bs) d more h stops = let p = and_parts (is_blank b) (list_all is_blank bs) h in rw (p.0, skip_again bs d more p.1 stops) refl
 
 -- Names.
 
@@ -175,31 +163,31 @@ IsFirst stop inside = (before after : List ℕ) → inside ++ stop ≡ before ++
 pub split_takes : (stop cs : List ℕ) (x : List ℕ × List ℕ) → split_once stop cs ≡ Some x → IsFirst stop x.0 × (cs ≡ x.0 ++ (stop ++ x.1))
 unfolding split_once
 split_takes stop [] x e = absurd cc
-split_takes stop (c ∷ cs) x e = elim (either_cases (past_word stop (c ∷ cs)) (λ (rest : List ℕ). Some ([], rest)) _ _ e) [
+split_takes stop (c ∷ cs) x e = elim (either_cases (past_text stop (c ∷ cs)) (λ (rest : List ℕ). Some ([], rest)) _ _ e) [
   | inl w ↦ (
       let is : ([], w.0) ≡ x = (let h = w.2 in cc) in
-      rw (← is) ((λ before after e. nothing_after stop before after e), past_word_takes stop (c ∷ cs) w.0 w.1))
+      rw (← is) ((λ before after e. nothing_after stop before after e), past_text_takes stop (c ∷ cs) w.0 w.1))
   | inr w ↦ (
       let t = then_some (split_once stop cs) (λ (text : List ℕ × List ℕ). with_first c text) x w.1 in
       let is : (c ∷ t.0.0, t.0.1) ≡ x = (let h = t.2 in cc) in
       let more = split_takes stop cs t.0 t.1 in
       rw (← is) ((λ before after e. later t.0.0 t.0.1 w.0 more.0 more.1 before after e), ap (λ (r : List ℕ). c ∷ r) more.1))
 ] where
-  later : (inside rest : List ℕ) → past_word stop (c ∷ cs) ≡ None → IsFirst stop inside → cs ≡ inside ++ (stop ++ rest)
+  later : (inside rest : List ℕ) → past_text stop (c ∷ cs) ≡ None → IsFirst stop inside → cs ≡ inside ++ (stop ++ rest)
       → (before after : List ℕ) → (c ∷ inside) ++ stop ≡ before ++ stop ++ after → after ≡ []
   later inside rest none first parts [] after e =
       let whole : c ∷ cs ≡ stop ++ (after ++ rest) =
       ap (λ (r : List ℕ). c ∷ r) (parts ∙ sym (append_assoc inside stop rest)) ∙ ap (λ (r : List ℕ). r ++ rest) e ∙ append_assoc stop after rest in
-      let again : past_word stop (c ∷ cs) ≡ Some (after ++ rest) = rw whole (past_word_again stop (after ++ rest)) in
+      let again : past_text stop (c ∷ cs) ≡ Some (after ++ rest) = rw whole (past_text_again stop (after ++ rest)) in
       absurd cc
   later inside rest none first parts (b ∷ before) after e = first before after cc
 
 pub split_again : (stop inside rest : List ℕ) → 0 < length stop → IsFirst stop inside → split_once stop (inside ++ (stop ++ rest)) ≡ Some (inside, rest)
 unfolding split_once
 split_again [] [] rest filled first = absurd (omega arith)
-split_again (s ∷ stop) [] rest filled first = rw (past_word_again (s ∷ stop) rest) refl
+split_again (s ∷ stop) [] rest filled first = rw (past_text_again (s ∷ stop) rest) refl
 split_again stop (c ∷ inside) rest filled first =
-    let none : past_word stop (c ∷ (inside ++ (stop ++ rest))) ≡ None = none_from _ (λ w e. earlier w (past_word_takes stop _ w e)) in
+    let none : past_text stop (c ∷ (inside ++ (stop ++ rest))) ≡ None = none_from _ (λ w e. earlier w (past_text_takes stop _ w e)) in
     rw (none, split_again stop inside rest filled (λ before after e. first (c ∷ before) after (ap (λ (r : List ℕ). c ∷ r) e))) refl
   where
     earlier : (w : List ℕ) → c ∷ (inside ++ (stop ++ rest)) ≡ stop ++ w → ⊥

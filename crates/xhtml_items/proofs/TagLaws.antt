@@ -10,14 +10,18 @@ use Rattle.std.proofs.lemmas.List.Kept.{AllPairs-cons}
 use Rattle.std.proofs.lemmas.Slice.Eq.{bytes_eq-Decides}
 use Rattle.plain_types.specs.Tree.{HasDistinctNames}
 use Rattle.plain_types.specs.declared.attr.Attr.{Attr}
-use Rattle.definitions.specs.Characters.{is_blank, is_name_start, is_name_character}
-use Rattle.definitions.specs.Items.{Item, ArePieces, start_tag, empty_tag, end_tag}
-use Rattle.definitions.specs.Spelling.{AreBlanks, AreSomeBlanks, IsName, IsAttribute, IsTag, IsEndTag, Spells}
-use Rattle.xhtml_items.specs.Runs.{run_at}
-use Rattle.xhtml_items.specs.Reading.{◌then◌, past, past_word, skip_blanks, name_at, attribute_at, are_distinct, found, tag_end_at, attributes_at, tag_at, end_tag_at}
-use Rattle.xhtml_items.proofs.StepLaws.{chosen, then_some, either_cases, past_takes, past_word_takes, past_blanks_again, name_takes, name_again, skip_takes, skip_again}
+use Rattle.reading.specs.Characters.{is_blank}
+use Rattle.reading.specs.Reading.{run_at, ◌then◌, past_character, past_text}
+use Rattle.reading.proofs.Runs.{chosen, then_some, run_is}
+use Rattle.reading.proofs.Following.{run_Run}
+use Rattle.xml_definitions.specs.Characters.{is_name_start, is_name_character}
+use Rattle.xml_definitions.specs.Items.{Item, ArePieces, start_tag, empty_tag, end_tag}
+use Rattle.xml_definitions.specs.Spelling.{AreBlanks, AreSomeBlanks, IsName, IsAttribute, IsTag, IsEndTag, Spells}
+use Rattle.xhtml_items.specs.Reading.{name_at}
+use Rattle.xhtml_items.specs.Machinery.Items.{skip_blanks, attribute_at, are_distinct, found, tag_end_at, attributes_at, tag_at, end_tag_at}
+use Rattle.xhtml_items.proofs.StepLaws.{either_cases, past_takes, past_text_takes, past_some_blanks_again, name_takes, name_again, skip_takes, skip_again}
 use Rattle.xhtml_items.proofs.AttributeLaws.{name_before, attribute_reader}
-use Rattle.xhtml_items.proofs.RunLaws.{Run-takes, Run-again, run_at-is, run_at-Run}
+use Rattle.xhtml_items.proofs.RunLaws.{Run-takes, Run-again, shorter, takes_one}
 
 -- Distinct names.
 
@@ -66,16 +70,16 @@ tag_end_takes : (name written blanks : List ℕ) (attrs : List Attr) (cs : List 
     → IsName name → ArePieces IsAttribute written attrs → HasDistinctNames attrs → AreBlanks blanks → tag_end_at name attrs cs ≡ Some x
     → Behind (60 ∷ name ++ written ++ blanks) cs x
 unfolding tag_end_at
-tag_end_takes name written blanks attrs cs x named pieces distinct blank e = elim (either_cases (past_word (47 ∷ 62 ∷ []) cs) (λ (rest : List ℕ). found (empty_tag name attrs) rest) _ _ e) [
+tag_end_takes name written blanks attrs cs x named pieces distinct blank e = elim (either_cases (past_text (47 ∷ 62 ∷ []) cs) (λ (rest : List ℕ). found (empty_tag name attrs) rest) _ _ e) [
   | inl w ↦ (
       let is : (empty_tag name attrs, w.0) ≡ x = (let h = w.2 in cc) in
       rw (← is) (record {
         front = 47 ∷ 62 ∷ [];
         spelled = record { written = written; blanks = blanks; named = named; attributes = pieces; distinct = distinct; blank = blank; parts = refl };
-        parts = past_word_takes (47 ∷ 62 ∷ []) cs w.0 w.1;
+        parts = past_text_takes (47 ∷ 62 ∷ []) cs w.0 w.1;
       }))
   | inr w ↦ (
-      let t = then_some (past 62 cs) (λ (rest : List ℕ). found (start_tag name attrs) rest) x w.1 in
+      let t = then_some (past_character 62 cs) (λ (rest : List ℕ). found (start_tag name attrs) rest) x w.1 in
       let is : (start_tag name attrs, t.0) ≡ x = (let h = t.2 in cc) in
       rw (← is) (record {
         front = 62 ∷ [];
@@ -97,7 +101,7 @@ unfolding attributes_at
 attributes_takes name cs x named e = elim (chosen (are_distinct (run_at attribute_at cs).0) _ _ _ e) [
   | inl w ↦ (
       let run = run_at attribute_at cs in
-      let t = Run-takes IsAttribute attribute_at attribute_reader (run_at-Run IsAttribute attribute_at attribute_reader cs) in
+      let t = Run-takes IsAttribute attribute_at attribute_reader (run_Run attribute_at (takes_one IsAttribute attribute_at attribute_reader) cs) in
       let s = skip_takes run.1 in
       let b = tag_end_takes name t.0 s.0 run.0 (skip_blanks run.1) x named t.1 (distinct_from_test run.0 w.0) s.1 w.1 in
       Behind-more (60 ∷ name) t.0 cs run.1 x (Behind-more (60 ∷ name ++ t.0) s.0 run.1 (skip_blanks run.1) x b s.2) t.2)
@@ -115,7 +119,7 @@ tag_takes cs x e =
 no_attribute : (blanks : List ℕ) (d : ℕ) (more : List ℕ) → AreBlanks blanks → is_blank d ≡ false → is_name_start d ≡ false → attribute_at (blanks ++ d ∷ more) ≡ None
 unfolding attribute_at name_at
 no_attribute [] d more h stops starts = rw stops refl
-no_attribute (b ∷ blanks) d more h stops starts = rw (past_blanks_again (b ∷ blanks) d more h stops, starts) refl
+no_attribute (b ∷ blanks) d more h stops starts = rw (past_some_blanks_again (b ∷ blanks) d more h stops, starts) refl
 
 -- attributes begin with a blank
 name_before_attributes : (name written : List ℕ) (attrs : List Attr) (blanks : List ℕ) (d : ℕ) (more : List ℕ)
@@ -139,7 +143,7 @@ pub tag_again : (d : ℕ) (end characters name : List ℕ) (attrs : List Attr) (
 unfolding tag_at attributes_at
 tag_again d end characters name attrs item rest s not_blank not_name not_start ends =
     let more = s.blanks ++ d ∷ (end ++ rest) in
-    let run = run_at-is IsAttribute attribute_at attribute_reader
+    let run = run_is attribute_at (shorter IsAttribute attribute_at attribute_reader)
     (Run-again IsAttribute attribute_at attribute_reader attrs s.written more s.attributes (no_attribute s.blanks d (end ++ rest) s.blank not_blank not_start)) in (
       name ++ s.written ++ s.blanks ++ d ∷ end,
       s.parts,
@@ -161,8 +165,8 @@ tag_again d end characters name attrs item rest s not_blank not_name not_start e
 pub end_tag_takes : (cs : List ℕ) (x : Item × List ℕ) → end_tag_at cs ≡ Some x → Behind (60 ∷ 47 ∷ []) cs x
 unfolding end_tag_at
 end_tag_takes cs x e =
-    let n = then_some (name_at cs) (λ (name : List ℕ × List ℕ). past 62 (skip_blanks name.1) then λ rest. found (end_tag name.0) rest) x e in
-    let t = then_some (past 62 (skip_blanks n.0.1)) (λ (rest : List ℕ). found (end_tag n.0.0) rest) x n.2 in
+    let n = then_some (name_at cs) (λ (name : List ℕ × List ℕ). past_character 62 (skip_blanks name.1) then λ rest. found (end_tag name.0) rest) x e in
+    let t = then_some (past_character 62 (skip_blanks n.0.1)) (λ (rest : List ℕ). found (end_tag n.0.0) rest) x n.2 in
     let is : (end_tag n.0.0, t.0) ≡ x = (let h = t.2 in cc) in
     let p = name_takes cs n.0 n.1 in
     let s = skip_takes n.0.1 in

@@ -11,13 +11,15 @@ use Rattle.std.proofs.lemmas.Str.{chars-append, chars-IsAscii, encodes-IsAscii, 
 use Rattle.std.specs.Map.{lookup}
 use Rattle.std.proofs.lemmas.Bool.Decides.{same_from_decides}
 use Rattle.std.proofs.lemmas.Slice.Eq.{bytes_eq-Decides}
-use Rattle.definitions.specs.Spelling.{entities, entity}
+use Rattle.reading.specs.Reading.{past_text, Reads}
+use Rattle.xml_definitions.specs.Spelling.{entities, entity}
 use Rattle.std.proofs.lemmas.Str.Ascii.{IsAscii-nil, IsAscii-cons}
 use Rattle.std.proofs.lemmas.Str.Pattern.{split_text_parts}
 use Rattle.xhtml_items.specs.Classes.{is_ascii}
-use Rattle.xhtml_items.specs.Reading.{past_word, past_capital, past_capitals, split_once}
-use Rattle.xhtml_items.specs.Tokens.{Reads, text_view, two_texts, entry}
-use Rattle.xhtml_items.proofs.StepLaws.{none_from, past_word_takes, past_word_again, split_again, split_none}
+use Rattle.xhtml_items.specs.Reading.{split_once}
+use Rattle.xhtml_items.specs.Machinery.Items.{past_capital, past_capitals}
+use Rattle.xhtml_items.specs.Tokens.{text_view, two_texts, entry}
+use Rattle.xhtml_items.proofs.StepLaws.{none_from, past_text_takes, past_text_again, split_again, split_none}
 
 pub IsAscii-from_test : (bytes : List ℕ) → is_ascii bytes ≡ true → IsAscii bytes
 IsAscii-from_test [] h = IsAscii-nil
@@ -36,14 +38,14 @@ word_chars word rest ascii = chars-append word rest (IsUtf8-from_ascii word asci
 
 -- `strip_prefix` of a word of ASCII
 pub strip_word : (word text : List ℕ) (r : Option (Bor (List ℕ))) → is_ascii word ≡ true → IsUtf8 text
-    → MatchOption r (FindsTextPrefix word text None) (λ x. StripsPrefix (FindsTextPrefix word) text x.now) → Reads text_view r (past_word word (chars text))
-strip_word word text None small utf8 h = none_from _ (λ w e. lacks w (past_word_takes word (chars text) w e))
+    → MatchOption r (FindsTextPrefix word text None) (λ x. StripsPrefix (FindsTextPrefix word) text x.now) → Reads text_view r (past_text word (chars text))
+strip_word word text None small utf8 h = none_from _ (λ w e. lacks w (past_text_takes word (chars text) w e))
   where
     lacks : (w : List ℕ) → chars text ≡ word ++ w → ⊥
     lacks w e = h (encode_utf8_all w) (sym (encodes-chars text utf8) ∙ ap encode_utf8_all e ∙ word_bytes [] word w (IsAscii-from_test word small))
 strip_word word text (Some x) small utf8 h =
     let parts : text ≡ word ++ x.now = h.1.1 ∙ ap (λ (t : List ℕ). word ++ t) (sym h.2) in
-    ap (past_word word) (ap chars parts ∙ word_chars word x.now (IsAscii-from_test word small)) ∙ past_word_again word (chars x.now)
+    ap (past_text word) (ap chars parts ∙ word_chars word x.now (IsAscii-from_test word small)) ∙ past_text_again word (chars x.now)
 
 -- a word that stands in a front, with the word behind it, stands there in the whole text
 seam : (text inside stop rest before after : List ℕ) → text ≡ inside ++ (stop ++ rest) → inside ++ stop ≡ before ++ (stop ++ after)

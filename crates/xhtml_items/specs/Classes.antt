@@ -2,18 +2,19 @@
 use Rattle.std.specs.Prelude.{ℕ, Bool, ◌&&◌, not, ◌==◌, nat_lt, List}
 use Rattle.std.specs.Char.{digit_value}
 use Rattle.std.specs.List.{list_all}
-use Rattle.definitions.specs.Characters.{is_blank, is_character, is_digit, is_hexadecimal_digit, is_name_character, is_plain}
+use Rattle.reading.specs.Characters.{is_blank, is_digit, is_hexadecimal_digit}
+use Rattle.xml_definitions.specs.Characters.{is_character, is_name_character, is_plain}
 use Rattle.xhtml_items.specs.declared.characters.Class.{Class}
 use Rattle.xhtml_items.specs.declared.characters.Class.TheVariants.{Blank, Name, Digit, HexadecimalDigit, Literal, Plain, Character}
 
-abbrev pub is_in : Class → ℕ → Bool
-is_in Blank = λ c. is_blank c
-is_in Name = λ c. is_name_character c
-is_in Digit = λ c. is_digit c
-is_in HexadecimalDigit = λ c. is_hexadecimal_digit c
-is_in (Literal quote) = λ c. is_character c && not (c == quote)
-is_in Plain = λ c. is_plain c
-is_in Character = λ c. is_character c
+abbrev pub is_of_class : Class → ℕ → Bool
+is_of_class Blank = λ c. is_blank c
+is_of_class Name = λ c. is_name_character c
+is_of_class Digit = λ c. is_digit c
+is_of_class HexadecimalDigit = λ c. is_hexadecimal_digit c
+is_of_class (Literal quote) = λ c. is_character c && not (c == quote)
+is_of_class Plain = λ c. is_plain c
+is_of_class Character = λ c. is_character c
 
 -- the bytes are ASCII, each a character
 abbrev pub is_ascii : List ℕ → Bool

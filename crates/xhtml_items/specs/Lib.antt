@@ -1,5 +1,5 @@
-pub mod Runs
+pub mod FirstItem
+pub mod Machinery
 pub mod Reading
 pub mod Classes
 pub mod Tokens
-pub mod StopBytes

@@ -2,15 +2,15 @@
 
 ghost use Rattle.std.specs.Prelude.{◌≡◌, IsTrue, IfSome, IfOk};
 ghost use Rattle.std.specs.Str.{chars, IsUtf8};
-ghost use Rattle.definitions.specs.Characters.{is_quote};
-ghost use Rattle.xhtml_items.specs.Runs.{run_at};
-ghost use Rattle.xhtml_items.specs.Reading.{value_part_at, quoted_at, attribute_at, are_distinct};
-ghost use Rattle.xhtml_items.specs.Tokens.{Reads, character_view, value_view, attribute_view, attributes_view};
+ghost use Rattle.reading.specs.Characters.{is_quote};
+ghost use Rattle.reading.specs.Reading.{run_at, Reads};
+ghost use Rattle.xhtml_items.specs.Machinery.Items.{value_part_at, quoted_at, attribute_at, are_distinct};
+ghost use Rattle.xhtml_items.specs.Tokens.{character_view, value_view, attribute_view, attributes_view};
 
 use crate::characters::{as_read, is_plain, is_quote};
 use crate::passing::{split_at_stop, value_stops};
 use crate::references::reference;
-use crate::text::{first_char, past, past_blanks, skip_blanks, split_name};
+use crate::text::{first_char, past, past_some_blanks, skip_blanks, split_name};
 use plain_types::attr::Attr;
 use plain_types::list::List;
 use plain_types::memory::Memory;
@@ -19,7 +19,7 @@ use std::alloc::Global;
 use std::collections::BTreeSet;
 
 /// A part of a value between two of these quotes: the character that it reads as.
-#[tactic(auto, unfolding(crate::specs::Reading::value_part_at))]
+#[tactic(auto, unfolding(crate::specs::Machinery::Items::value_part_at))]
 fn value_part(quote: char, text: &str) -> Option<(char, &str)>
     ensures reads { Reads character_view result (value_part_at quote (chars text.now)) }
     ensures text { IfSome result (λ x. IsUtf8 x.1.now) }
@@ -55,7 +55,7 @@ fn value(alloc: Global, quote: char, text: &str) -> Result<(Text, &str), Memory>
 }
 
 /// A value between two quotes.
-#[tactic(auto, unfolding(crate::specs::Reading::quoted_at))]
+#[tactic(auto, unfolding(crate::specs::Machinery::Items::quoted_at))]
 fn quoted(alloc: Global, text: &str) -> Result<Option<(Text, &str)>, Memory>
     ensures reads { IfOk result (λ found. Reads value_view found (quoted_at (chars text.now))) }
     ensures text { IfOk result (λ found. IfSome found (λ x. IsUtf8 x.1.now)) }
@@ -74,12 +74,12 @@ fn quoted(alloc: Global, text: &str) -> Result<Option<(Text, &str)>, Memory>
 }
 
 /// An attribute, with the blanks before it.
-#[tactic(auto, unfolding(crate::specs::Reading::attribute_at))]
+#[tactic(auto, unfolding(crate::specs::Machinery::Items::attribute_at))]
 fn first_attribute(alloc: Global, text: &str) -> Result<Option<(Attr, &str)>, Memory>
     ensures reads { IfOk result (λ found. Reads attribute_view found (attribute_at (chars text.now))) }
     ensures text { IfOk result (λ found. IfSome found (λ x. IsUtf8 x.1.now)) }
 {
-    let Some(start) = past_blanks(text) else {
+    let Some(start) = past_some_blanks(text) else {
         return Ok(None);
     };
     let Some((name, rest)) = split_name(start) else {

@@ -1,9 +1,10 @@
 //! Classes of characters.
 
 ghost use Rattle.std.specs.Prelude.{◌≡◌};
-ghost use Rattle.definitions.specs.Characters.{is_blank, is_character, is_plain, is_quote, is_name_start, is_name_character};
-ghost use Rattle.definitions.specs.Spelling.{is_legal, as_read};
-ghost use Rattle.xhtml_items.specs.Classes.{is_in};
+ghost use Rattle.reading.specs.Characters.{is_blank, is_quote};
+ghost use Rattle.xml_definitions.specs.Characters.{is_character, is_plain, is_name_start, is_name_character};
+ghost use Rattle.xml_definitions.specs.Spelling.{is_legal, as_read};
+ghost use Rattle.xhtml_items.specs.Classes.{is_of_class};
 
 /// A space, a tab or a line feed.
 pub fn is_blank(c: char) -> bool
@@ -72,7 +73,7 @@ pub enum Class {
 
 impl Class {
     pub(crate) fn contains(self, c: char) -> bool
-        ensures { result ≡ is_in self c }
+        ensures { result ≡ is_of_class self c }
     {
         match self {
             Class::Blank => is_blank(c),

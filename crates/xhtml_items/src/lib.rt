@@ -7,13 +7,12 @@
 //!
 //! The text is one whose line ends have become line feeds (XML 1.0, 2.11). The grammar is that of XML
 //! 1.0, sections 2.3 to 2.8, 3.1 and 4.1, without declarations inside a doctype and with twenty entities
-//! of our own; `Spells` of the crate `definitions` is that grammar, and says which characters are which
+//! of our own; `Spells` of the crate `xml_definitions` is that grammar, and says which characters are which
 //! item. Values of attributes read as 3.3.3 has it. Names and the text of sections are slices of the text.
 //!
-//! The layer above knows this crate by `item_at` of `specs/Reading`, which gives the item at the front of
-//! a list of characters and the characters behind it, and by two laws of `proofs/ItemLaws`: `item_takes`,
-//! that what `item_at` gives is spelled at the front, and `item_again`, that it gives each item that is.
-//! From these follows `same_first`, that no item begins another one.
+//! The layer above knows this crate by `BeginsWith text item rest` and `BeginsWithNone text`
+//! (`specs/FirstItem`): the text begins with characters that spell this item, or that spell none. [`laws`]
+//! says that no item begins another one.
 //!
 //! Long runs of characters, in content, values, comments and sections, are passed over by their bytes, with
 //! `lane_class`; [`passing`] does it, and what is read is the same.
@@ -25,6 +24,7 @@
 mod attributes;
 pub mod characters;
 pub mod item;
+pub mod laws;
 mod markup;
 pub mod passing;
 mod references;

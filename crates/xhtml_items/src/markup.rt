@@ -2,18 +2,19 @@
 
 ghost use Rattle.std.specs.Prelude.{◌≡◌, IfSome};
 ghost use Rattle.std.specs.Str.{chars, IsUtf8};
-ghost use Rattle.xhtml_items.specs.Reading.{past_literal, past_second, past_system, past_public, past_identifier, past_external, doctype_at, instruction_text_at, instruction_at, comment_at, section_at, declaration_at};
-ghost use Rattle.xhtml_items.specs.Tokens.{Reads, text_view, token_view, IsText};
+ghost use Rattle.reading.specs.Reading.{Reads};
+ghost use Rattle.xhtml_items.specs.Machinery.Items.{past_literal, past_second, past_system, past_public, past_identifier, past_external, doctype_at, instruction_text_at, instruction_at, comment_at, section_at, declaration_at};
+ghost use Rattle.xhtml_items.specs.Tokens.{text_view, token_view, IsText};
 
 use crate::characters::{Class, is_blank, is_quote};
 use crate::text::{
-    first_char, past, past_blanks, past_capitals, past_word, skip_blanks, split_name, split_while,
-    up_to,
+    first_char, past, past_capitals, past_some_blanks, past_word, skip_blanks, split_name,
+    split_while, up_to,
 };
 use crate::token::Token;
 
 /// What stands behind the target of an instruction, if more than its end does.
-#[tactic(auto, unfolding(crate::specs::Reading::instruction_text_at))]
+#[tactic(auto, unfolding(crate::specs::Machinery::Items::instruction_text_at))]
 fn instruction_text(text: &str) -> Option<(Token<'_>, &str)>
     ensures reads { Reads token_view result (instruction_text_at (chars text.now)) }
     ensures text { IfSome result (λ x. IsText x.0) }
@@ -29,7 +30,7 @@ fn instruction_text(text: &str) -> Option<(Token<'_>, &str)>
 }
 
 /// An instruction, behind its `<?`.
-#[tactic(auto, unfolding(crate::specs::Reading::instruction_at))]
+#[tactic(auto, unfolding(crate::specs::Machinery::Items::instruction_at))]
 pub(crate) fn instruction(text: &str) -> Option<(Token<'_>, &str)>
     ensures reads { Reads token_view result (instruction_at (chars text.now)) }
     ensures text { IfSome result (λ x. IsText x.0) }
@@ -43,7 +44,7 @@ pub(crate) fn instruction(text: &str) -> Option<(Token<'_>, &str)>
 }
 
 /// The text after a literal.
-#[tactic(auto, unfolding(crate::specs::Reading::past_literal))]
+#[tactic(auto, unfolding(crate::specs::Machinery::Items::past_literal))]
 fn past_literal(text: &str) -> Option<&str>
     ensures reads { Reads text_view result (past_literal (chars text.now)) }
     ensures text { IfSome result (λ rest. IsUtf8 rest.now) }
@@ -58,16 +59,16 @@ fn past_literal(text: &str) -> Option<&str>
 }
 
 /// The text after blanks and a literal.
-#[tactic(auto, unfolding(crate::specs::Reading::past_system))]
+#[tactic(auto, unfolding(crate::specs::Machinery::Items::past_system))]
 fn past_system(text: &str) -> Option<&str>
     ensures reads { Reads text_view result (past_system (chars text.now)) }
     ensures text { IfSome result (λ rest. IsUtf8 rest.now) }
 {
-    past_literal(past_blanks(text)?)
+    past_literal(past_some_blanks(text)?)
 }
 
 /// The text after blanks and a second literal, if they are there.
-#[tactic(auto, unfolding(crate::specs::Reading::past_second))]
+#[tactic(auto, unfolding(crate::specs::Machinery::Items::past_second))]
 fn past_second(text: &str) -> &str
     ensures reads { past_second (chars text.now) ≡ chars result.now }
     ensures text { IsUtf8 result.now }
@@ -79,7 +80,7 @@ fn past_second(text: &str) -> &str
 }
 
 /// The text after blanks, a literal, and maybe blanks and a second one.
-#[tactic(auto, unfolding(crate::specs::Reading::past_public))]
+#[tactic(auto, unfolding(crate::specs::Machinery::Items::past_public))]
 fn past_public(text: &str) -> Option<&str>
     ensures reads { Reads text_view result (past_public (chars text.now)) }
     ensures text { IfSome result (λ rest. IsUtf8 rest.now) }
@@ -89,7 +90,7 @@ fn past_public(text: &str) -> Option<&str>
 }
 
 /// The text after the external identifier that begins at `start`, if one does, and else `text`.
-#[tactic(auto, unfolding(crate::specs::Reading::past_identifier))]
+#[tactic(auto, unfolding(crate::specs::Machinery::Items::past_identifier))]
 fn past_identifier<'a>(text: &'a str, start: &'a str) -> Option<&'a str>
     ensures reads { Reads text_view result (past_identifier (chars text.now) (chars start.now)) }
     ensures text { IfSome result (λ rest. IsUtf8 rest.now) }
@@ -104,26 +105,26 @@ fn past_identifier<'a>(text: &'a str, start: &'a str) -> Option<&'a str>
 }
 
 /// The text after blanks and an external identifier, if they are there.
-#[tactic(auto, unfolding(crate::specs::Reading::past_external))]
+#[tactic(auto, unfolding(crate::specs::Machinery::Items::past_external))]
 fn past_external(text: &str) -> Option<&str>
     ensures reads { Reads text_view result (past_external (chars text.now)) }
     ensures text { IfSome result (λ rest. IsUtf8 rest.now) }
 {
-    match past_blanks(text) {
+    match past_some_blanks(text) {
         Some(start) => past_identifier(text, start),
         None => Some(text),
     }
 }
 
 /// A doctype, behind its `<!`.
-#[tactic(auto, unfolding(crate::specs::Reading::doctype_at))]
+#[tactic(auto, unfolding(crate::specs::Machinery::Items::doctype_at))]
 fn doctype(text: &str) -> Option<(Token<'_>, &str)>
     ensures reads { Reads token_view result (doctype_at (chars text.now)) }
     ensures text { IfSome result (λ x. IsText x.0) }
     ensures rest { IfSome result (λ x. IsUtf8 x.1.now) }
 {
     let word = past_capitals(b"DOCTYPE", text)?;
-    let (_, rest) = split_name(past_blanks(word)?)?;
+    let (_, rest) = split_name(past_some_blanks(word)?)?;
     let rest = past('>', skip_blanks(past_external(rest)?))?;
     Some((Token::Doctype, rest))
 }
@@ -149,7 +150,7 @@ fn section(text: &str) -> Option<(Token<'_>, &str)>
 }
 
 /// A comment, a section or a doctype, behind its `<!`.
-#[tactic(auto, unfolding(crate::specs::Reading::declaration_at))]
+#[tactic(auto, unfolding(crate::specs::Machinery::Items::declaration_at))]
 pub(crate) fn declaration(text: &str) -> Option<(Token<'_>, &str)>
     ensures reads { Reads token_view result (declaration_at (chars text.now)) }
     ensures text { IfSome result (λ x. IsText x.0) }

@@ -7,10 +7,10 @@
 ghost use Rattle.std.specs.Prelude.{◌≡◌, ◌++◌, false, IsTrue};
 ghost use Rattle.std.specs.List.{list_all};
 ghost use Rattle.std.specs.Str.{chars, IsUtf8};
-ghost use Rattle.definitions.specs.Characters.{is_character, is_plain};
-ghost use Rattle.xhtml_items.specs.Classes.{is_in};
-ghost use Rattle.xhtml_items.specs.Reading.{span};
-ghost use Rattle.xhtml_items.specs.StopBytes.{has_stop, is_straight, Tells, AreFirst};
+ghost use Rattle.reading.specs.Reading.{span};
+ghost use Rattle.xml_definitions.specs.Characters.{is_character, is_plain};
+ghost use Rattle.xhtml_items.specs.Classes.{is_of_class};
+ghost use Rattle.xhtml_items.specs.Machinery.StopBytes.{has_stop, is_straight, Tells, AreFirst};
 ghost use Rattle.xhtml_items.specs.Tokens.{two_texts};
 
 use crate::characters::{Class, is_plain};
@@ -62,9 +62,9 @@ pub(crate) fn split_at_stop<'a>(stops: &ByteClass, text: &'a str) -> (&'a str, &
 
 /// The longest front of characters of the class, and the text after it, where the stops tell the class.
 fn split_run<'a>(stops: &ByteClass, class: Class, text: &'a str) -> (&'a str, &'a str)
-    requires tells { Tells stops.now (is_in class) }
+    requires tells { Tells stops.now (is_of_class class) }
     requires first { AreFirst stops.now }
-    ensures reads { span (is_in class) (chars text.now) ≡ two_texts result }
+    ensures reads { span (is_of_class class) (chars text.now) ≡ two_texts result }
     ensures front { IsUtf8 result.0.now }
     ensures text { IsUtf8 result.1.now }
 {

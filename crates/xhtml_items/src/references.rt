@@ -4,10 +4,11 @@ ghost use Rattle.std.specs.Prelude.{◌≡◌, ℕ, ◌<◌, ◌≤◌, IsTrue, 
 ghost use Rattle.std.specs.Char.{digit_value};
 ghost use Rattle.std.specs.Map.{lookup};
 ghost use Rattle.std.specs.Str.{chars, IsUtf8, bytes_eq};
-ghost use Rattle.definitions.specs.Spelling.{entity};
-ghost use Rattle.xhtml_items.specs.Classes.{is_in, are_digits};
-ghost use Rattle.xhtml_items.specs.Reading.{numbered, number_at, numeric_at, entity_at, reference_at};
-ghost use Rattle.xhtml_items.specs.Tokens.{Reads, character_view, entry};
+ghost use Rattle.reading.specs.Reading.{Reads};
+ghost use Rattle.xml_definitions.specs.Spelling.{entity};
+ghost use Rattle.xhtml_items.specs.Classes.{is_of_class, are_digits};
+ghost use Rattle.xhtml_items.specs.Machinery.Items.{numbered, number_at, numeric_at, entity_at, reference_at};
+ghost use Rattle.xhtml_items.specs.Tokens.{character_view, entry};
 
 use crate::characters::{Class, is_legal};
 use crate::text::{past, split_name, split_while};
@@ -55,12 +56,12 @@ fn numbered(base: u32, digits: &str) -> Option<char>
 }
 
 /// A character by its number: the digits, of this class, in this base, and `;`.
-#[tactic(auto, unfolding(crate::specs::Reading::number_at))]
+#[tactic(auto, unfolding(crate::specs::Machinery::Items::number_at))]
 fn number(digits: Class, base: u32, text: &str) -> Option<(char, &str)>
     requires low { 2 ≤ base }
     requires high { base ≤ 36 }
-    requires digits { (c : ℕ) → IsTrue (is_in digits c) → digit_value c < base }
-    ensures reads { Reads character_view result (number_at (is_in digits) base (chars text.now)) }
+    requires digits { (c : ℕ) → IsTrue (is_of_class digits c) → digit_value c < base }
+    ensures reads { Reads character_view result (number_at (is_of_class digits) base (chars text.now)) }
     ensures text { IfSome result (λ x. IsUtf8 x.1.now) }
 {
     let (digits, rest) = split_while(digits, text);
@@ -70,7 +71,7 @@ fn number(digits: Class, base: u32, text: &str) -> Option<(char, &str)>
 }
 
 /// What stands behind `&#`.
-#[tactic(auto, unfolding(crate::specs::Reading::numeric_at))]
+#[tactic(auto, unfolding(crate::specs::Machinery::Items::numeric_at))]
 fn numeric(text: &str) -> Option<(char, &str)>
     ensures reads { Reads character_view result (numeric_at (chars text.now)) }
     ensures text { IfSome result (λ x. IsUtf8 x.1.now) }
@@ -101,7 +102,7 @@ fn entity(name: &str) -> Option<char>
 }
 
 /// What stands behind `&`, as a name.
-#[tactic(auto, unfolding(crate::specs::Reading::entity_at))]
+#[tactic(auto, unfolding(crate::specs::Machinery::Items::entity_at))]
 fn named(text: &str) -> Option<(char, &str)>
     ensures reads { Reads character_view result (entity_at (chars text.now)) }
     ensures text { IfSome result (λ x. IsUtf8 x.1.now) }
@@ -113,7 +114,7 @@ fn named(text: &str) -> Option<(char, &str)>
 }
 
 /// What stands behind `&`: the character that is referred to, and the text after the reference.
-#[tactic(auto, unfolding(crate::specs::Reading::reference_at))]
+#[tactic(auto, unfolding(crate::specs::Machinery::Items::reference_at))]
 pub(crate) fn reference(text: &str) -> Option<(char, &str)>
     ensures reads { Reads character_view result (reference_at (chars text.now)) }
     ensures text { IfSome result (λ x. IsUtf8 x.1.now) }

@@ -2,8 +2,9 @@
 
 ghost use Rattle.std.specs.Prelude.{◌≡◌, IfSome, IfOk};
 ghost use Rattle.std.specs.Str.{chars, IsUtf8};
-ghost use Rattle.xhtml_items.specs.Reading.{tag_end_at, attributes_at, tag_at, end_tag_at};
-ghost use Rattle.xhtml_items.specs.Tokens.{Reads, token_view, IsText};
+ghost use Rattle.reading.specs.Reading.{Reads};
+ghost use Rattle.xhtml_items.specs.Machinery.Items.{tag_end_at, attributes_at, tag_at, end_tag_at};
+ghost use Rattle.xhtml_items.specs.Tokens.{token_view, IsText};
 
 use crate::attributes::{are_distinct, attributes};
 use crate::text::{past, past_word, skip_blanks, split_name};
@@ -14,7 +15,7 @@ use plain_types::memory::Memory;
 use std::alloc::Global;
 
 /// The end of a tag.
-#[tactic(auto, unfolding(crate::specs::Reading::tag_end_at))]
+#[tactic(auto, unfolding(crate::specs::Machinery::Items::tag_end_at))]
 fn tag_end<'a>(name: &'a str, attrs: List<Attr>, text: &'a str) -> Option<(Token<'a>, &'a str)>
     ensures reads { Reads token_view result (tag_end_at (chars name.now) attrs (chars text.now)) }
     ensures text { IfSome result (λ x. IsText x.0) }
@@ -30,7 +31,7 @@ fn tag_end<'a>(name: &'a str, attrs: List<Attr>, text: &'a str) -> Option<(Token
 }
 
 /// A tag behind its name.
-#[tactic(auto, unfolding(crate::specs::Reading::attributes_at))]
+#[tactic(auto, unfolding(crate::specs::Machinery::Items::attributes_at))]
 fn tag_after_name<'a>(
     alloc: Global,
     name: &'a str,
@@ -49,7 +50,7 @@ fn tag_after_name<'a>(
 }
 
 /// A start tag or an empty tag, behind its `<`.
-#[tactic(auto, unfolding(crate::specs::Reading::tag_at))]
+#[tactic(auto, unfolding(crate::specs::Machinery::Items::tag_at))]
 pub(crate) fn tag(alloc: Global, text: &str) -> Result<Option<(Token<'_>, &str)>, Memory>
     ensures reads { IfOk result (λ found. Reads token_view found (tag_at (chars text.now))) }
     ensures text { IfOk result (λ found. IfSome found (λ x. IsText x.0)) }
@@ -62,7 +63,7 @@ pub(crate) fn tag(alloc: Global, text: &str) -> Result<Option<(Token<'_>, &str)>
 }
 
 /// An end tag, behind its `</`.
-#[tactic(auto, unfolding(crate::specs::Reading::end_tag_at))]
+#[tactic(auto, unfolding(crate::specs::Machinery::Items::end_tag_at))]
 pub(crate) fn end_tag(text: &str) -> Option<(Token<'_>, &str)>
     ensures reads { Reads token_view result (end_tag_at (chars text.now)) }
     ensures text { IfSome result (λ x. IsText x.0) }

@@ -3,9 +3,12 @@
 ghost use Rattle.std.specs.Prelude.{◌≡◌, ◌≢◌, ◌∷◌, ◌++◌, [], IsTrue, MatchOption, IfSome};
 ghost use Rattle.std.specs.Char.{encode_utf8};
 ghost use Rattle.std.specs.Str.{chars, IsUtf8};
-ghost use Rattle.xhtml_items.specs.Classes.{is_in, is_ascii};
-ghost use Rattle.xhtml_items.specs.Reading.{span, past, past_word, past_capital, past_capitals, skip_blanks, past_blanks, name_at, split_once, up_to};
-ghost use Rattle.xhtml_items.specs.Tokens.{Reads, text_view, two_texts};
+ghost use Rattle.reading.specs.Reading.{span, Reads};
+ghost use Rattle.xhtml_items.specs.Classes.{is_of_class, is_ascii};
+ghost use Rattle.reading.specs.Reading.{past_character, past_text};
+ghost use Rattle.xhtml_items.specs.Reading.{name_at, split_once};
+ghost use Rattle.xhtml_items.specs.Machinery.Items.{past_capital, past_capitals, skip_blanks, past_some_blanks, up_to};
+ghost use Rattle.xhtml_items.specs.Tokens.{text_view, two_texts};
 
 use crate::characters::{Class, is_blank, is_name_start};
 use crate::passing::are_characters;
@@ -23,7 +26,7 @@ pub fn first_char(text: &str) -> Option<(char, &str)>
 
 /// The text after this character.
 pub(crate) fn past(wanted: char, text: &str) -> Option<&str>
-    ensures reads { Reads text_view result (past wanted (chars text.now)) }
+    ensures reads { Reads text_view result (past_character wanted (chars text.now)) }
     ensures text { IfSome result (λ rest. IsUtf8 rest.now) }
 {
     let (c, after) = first_char(text)?;
@@ -33,7 +36,7 @@ pub(crate) fn past(wanted: char, text: &str) -> Option<&str>
 /// The text after this word; None where the word does not stand at the front. It takes time linear in the word.
 pub fn past_word<'a>(word: &str, text: &'a str) -> Option<&'a str>
     requires { IsTrue (is_ascii word.now) }
-    ensures reads { Reads text_view result (past_word word.now (chars text.now)) }
+    ensures reads { Reads text_view result (past_text word.now (chars text.now)) }
     ensures text { IfSome result (λ rest. IsUtf8 rest.now) }
 {
     text.strip_prefix(word)
@@ -66,7 +69,7 @@ pub(crate) fn past_capitals<'a>(word: &[u8], text: &'a str) -> Option<&'a str>
 
 /// The longest front of characters of the class, and the text after it, in time linear in that front.
 pub fn split_while(class: Class, text: &str) -> (&str, &str)
-    ensures reads { span (is_in class) (chars text.now) ≡ two_texts result }
+    ensures reads { span (is_of_class class) (chars text.now) ≡ two_texts result }
     ensures front { IsUtf8 result.0.now }
     ensures text { IsUtf8 result.1.now }
 {
@@ -89,8 +92,8 @@ pub(crate) fn skip_blanks(text: &str) -> &str
 }
 
 /// The text after at least one blank.
-pub(crate) fn past_blanks(text: &str) -> Option<&str>
-    ensures reads { Reads text_view result (past_blanks (chars text.now)) }
+pub(crate) fn past_some_blanks(text: &str) -> Option<&str>
+    ensures reads { Reads text_view result (past_some_blanks (chars text.now)) }
     ensures text { IfSome result (λ rest. IsUtf8 rest.now) }
 {
     let (c, after) = first_char(text)?;
@@ -129,7 +132,7 @@ pub fn split_once<'a>(word: &str, text: &'a str) -> Option<(&'a str, &'a str)>
 }
 
 /// The characters up to the first of these words, and the text after that word.
-#[tactic(auto, unfolding(crate::specs::Reading::up_to))]
+#[tactic(auto, unfolding(crate::specs::Machinery::Items::up_to))]
 pub(crate) fn up_to<'a>(stop: &str, text: &'a str) -> Option<(&'a str, &'a str)>
     requires ascii { IsTrue (is_ascii stop.now) }
     requires filled { stop.now ≢ [] }

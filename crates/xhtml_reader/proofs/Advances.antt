@@ -1,20 +1,21 @@
 -- What the text goes on with.
-use Rattle.std.proofs.Common.{◌≡◌, ◌≢◌, ℕ, ◌<◌, Bool, true, false, List, [], ◌∷◌, ◌++◌, length, map, inr, Some, refl, sym, ap, subst, arith}
+use Rattle.std.proofs.Common.{◌≡◌, ◌≢◌, ℕ, ◌<◌, Bool, true, false, List, [], ◌∷◌, ◌++◌, length, map, inr, refl, sym, ap, subst, arith}
 use Rattle.std.specs.List.{list_all}
 use Rattle.std.proofs.lemmas.Bool.{and_parts}
 use Rattle.std.proofs.lemmas.List.{length-append}
-use Rattle.definitions.specs.Characters.{is_plain}
-use Rattle.definitions.specs.Items.{Item, ArePieces, plain_character}
-use Rattle.definitions.specs.Spelling.{Spells}
-use Rattle.xhtml_items.specs.Reading.{span, item_at}
+use Rattle.xml_definitions.specs.Characters.{is_plain}
+use Rattle.xml_definitions.specs.Items.{Item, ArePieces, plain_character}
+use Rattle.xml_definitions.specs.Spelling.{Spells}
+use Rattle.reading.specs.Reading.{span}
+use Rattle.xhtml_items.specs.FirstItem.{BeginsWith}
 use Rattle.xhtml_items.specs.Tokens.{item_of}
 use Rattle.xhtml_items.specs.declared.token.Token.{Token}
 use Rattle.xhtml_items.specs.declared.token.Token.TheVariants.{Doctype, Comment, Instruction, StartTag, EmptyTag, EndTag, Reference, Section, Character}
-use Rattle.xhtml_items.proofs.ItemLaws.{item_takes, start_tag_distinct, empty_tag_distinct}
+use Rattle.xhtml_items.proofs.ItemLaws.{start_tag_distinct, empty_tag_distinct}
 use Rattle.xhtml_items.proofs.StepLaws.{span_takes}
-use Rattle.xhtml_reader.specs.Keeping.{Kept, Keeps, Adds, HasSoundNames, accepts_characters}
-use Rattle.xhtml_reader.specs.Machine.{State}
-use Rattle.xhtml_reader.specs.Reading.{Leads, Stops}
+use Rattle.xhtml_reader.specs.Machinery.Keeping.{Kept, Keeps, Adds, HasSoundNames, accepts_characters}
+use Rattle.xhtml_reader.specs.Machinery.States.{State}
+use Rattle.xhtml_reader.specs.Machinery.Leading.{Leads, Stops}
 use Rattle.xhtml_reader.proofs.Keeps.{added_run, waits_more}
 use Rattle.xhtml_reader.proofs.Places.{Leads-one}
 
@@ -46,22 +47,22 @@ run_fits old new text front after read may new_is s keeps =
       subst (λ (all : Kept). Keeps all added.0) (sym new_is) added.2,
     )
 
-pub item_fits : (old new : Kept) (text : List ℕ) (item : Item) (after : List ℕ) → item_at text ≡ Some (item, after) → Adds old item true new
+pub item_fits : (old new : Kept) (text : List ℕ) (item : Item) (after : List ℕ) → BeginsWith text item after → Adds old item true new
     → (s : State) → Keeps old s → (next : State) × Leads old.kind text s after next × Keeps new next
-item_fits old new text item after e adds s keeps = let added = adds s keeps in (added.0, Leads-one old.kind text s item after added.0 e added.1, added.2)
+item_fits old new text item after begins adds s keeps = let added = adds s keeps in (added.0, Leads-one old.kind text s item after added.0 begins added.1, added.2)
 
-pub item_stops : (old new : Kept) (text : List ℕ) (item : Item) (after : List ℕ) → item_at text ≡ Some (item, after) → Adds old item false new
+pub item_stops : (old new : Kept) (text : List ℕ) (item : Item) (after : List ℕ) → BeginsWith text item after → Adds old item false new
     → (s : State) → Keeps old s → Stops old.kind text s
-item_stops old new text item after e refuses s keeps = inr ((item, after), e, refuses s keeps)
+item_stops old new text item after begins refuses s keeps = inr (item, after, begins, refuses s keeps)
 
 -- a tag that is read has distinct names
-pub sound_names : (text : List ℕ) (token : Token) (after : List ℕ) → item_at text ≡ Some (item_of token, after) → HasSoundNames token
-sound_names text Doctype after e = tt
-sound_names text Comment after e = tt
-sound_names text Instruction after e = tt
-sound_names text (StartTag name attrs) after e = let takes = item_takes text _ e in start_tag_distinct takes.0 _ attrs takes.1
-sound_names text (EmptyTag name attrs) after e = let takes = item_takes text _ e in empty_tag_distinct takes.0 _ attrs takes.1
-sound_names text (EndTag name) after e = tt
-sound_names text (Reference character) after e = tt
-sound_names text (Section characters) after e = tt
-sound_names text (Character character) after e = tt
+pub sound_names : (text : List ℕ) (token : Token) (after : List ℕ) → BeginsWith text (item_of token) after → HasSoundNames token
+sound_names text Doctype after begins = tt
+sound_names text Comment after begins = tt
+sound_names text Instruction after begins = tt
+sound_names text (StartTag name attrs) after begins = start_tag_distinct begins.front _ attrs begins.spelled
+sound_names text (EmptyTag name attrs) after begins = empty_tag_distinct begins.front _ attrs begins.spelled
+sound_names text (EndTag name) after begins = tt
+sound_names text (Reference character) after begins = tt
+sound_names text (Section characters) after begins = tt
+sound_names text (Character character) after begins = tt

@@ -4,14 +4,14 @@ use Rattle.forest.specs.Forest.{Forest, Empty, Tree}
 use Rattle.plain_types.specs.declared.attr.Attr.{Attr}
 use Rattle.plain_types.specs.declared.node.Node.{Node}
 use Rattle.plain_types.specs.declared.node.Node.TheVariants.{Element, Text}
-use Rattle.definitions.specs.Documents.{empty_element, IsContent, and_element, IsProlog, without_doctype, with_doctype, document}
-use Rattle.definitions.specs.Faults.{Begins}
-use Rattle.definitions.specs.Items.{Item, ArePieces, start_tag, empty_tag, end_tag}
-use Rattle.definitions.specs.Spelling.{IsName, Spells}
+use Rattle.xml_definitions.specs.Documents.{empty_element, IsContent, and_element, IsProlog, without_doctype, with_doctype, document}
+use Rattle.xml_definitions.specs.Faults.{Begins}
+use Rattle.xml_definitions.specs.Items.{Item, ArePieces, start_tag, empty_tag, end_tag}
+use Rattle.xml_definitions.specs.Spelling.{IsName, Spells}
 use Rattle.xhtml_items.proofs.ItemLaws.{start_tag_named, end_tag_spelled, empty_tag_spelled}
 use Rattle.xhtml_reader.specs.declared.kind.Kind.{Kind}
 use Rattle.xhtml_reader.specs.declared.kind.Kind.TheVariants.{Document, Fragment}
-use Rattle.xhtml_reader.specs.Machine.{Frame, frame, State, at_start, after_doctype, in_text, inside, at_end, allows}
+use Rattle.xhtml_reader.specs.Machinery.States.{Frame, frame, State, at_start, after_doctype, in_text, inside, at_end, allows}
 use Rattle.xhtml_reader.proofs.Holding.{Top, Holds, outside, opened, deeper, closes, not_inside}
 use Rattle.xhtml_reader.proofs.Lists.{ArePieces-append, ArePieces-one, ArePieces-parts}
 

@@ -1,16 +1,18 @@
 -- Three texts that are no documents, and where they fail.
 use Rattle.std.proofs.Common.{◌≡◌, ℕ, List, [], ◌∷◌, ◌++◌, Some, None, refl, sym, ap, ◌∙◌, inl, inr, codes, append-nil, arith}
 use Rattle.forest.specs.Forest.{Empty}
-use Rattle.definitions.specs.Faults.{FailsAsDocument}
-use Rattle.definitions.specs.Items.{start_tag, end_tag}
-use Rattle.definitions.specs.Spelling.{IsName, Spells}
-use Rattle.xhtml_items.specs.Reading.{item_at, markup_at, tag_at, end_tag_at, attributes_at, attribute_at, quoted_at, value_part_at, name_at, span, reference_at, numeric_at, number_at}
-use Rattle.xhtml_items.specs.Runs.{run_at, run_with}
+use Rattle.xml_definitions.specs.Faults.{FailsAsDocument}
+use Rattle.xml_definitions.specs.Items.{start_tag, end_tag}
+use Rattle.xml_definitions.specs.Spelling.{IsName, Spells}
+use Rattle.xhtml_items.specs.Machinery.Items.{item_at, markup_at, tag_at, end_tag_at, attributes_at, attribute_at, quoted_at, value_part_at, reference_at, numeric_at, number_at}
+use Rattle.xhtml_items.specs.Reading.{name_at}
+use Rattle.reading.specs.Reading.{run_at, run_with, span}
+use Rattle.xhtml_items.proofs.ItemLaws.{item_begins, none_begins}
 use Rattle.xhtml_reader.specs.declared.kind.Kind.TheVariants.{Document}
-use Rattle.xhtml_reader.specs.Machine.{State, at_start, inside, frame}
-use Rattle.xhtml_reader.proofs.Holding.{opened, outside}
-use Rattle.definitions.specs.Documents.{no_content, without_doctype}
-use Rattle.xhtml_reader.proofs.Places.{Reached, stopped}
+use Rattle.xhtml_reader.specs.Machinery.States.{State, at_start, inside, frame}
+use Rattle.xhtml_reader.proofs.Holding.{opened}
+use Rattle.xml_definitions.specs.Documents.{no_content, without_doctype}
+use Rattle.xhtml_reader.proofs.Places.{Reached, fails_there, start_reached, stopped}
 
 -- a start tag without attributes
 start_tag_spelled : (name : List ℕ) → IsName name → Spells (60 ∷ (name ++ 62 ∷ [])) (start_tag name [])
@@ -36,9 +38,6 @@ after_start_tag name named = record {
   holds = opened [] (without_doctype [] refl) name [] no_content;
 }
 
-before_all : Reached Document [] at_start
-before_all = record { items = []; spelled = refl; ran = refl; holds = outside [] at_start refl }
-
 -- an end tag of another name
 no_other_end : item_at (codes "</b>") ≡ Some (end_tag (codes "b"), [])
 unfolding item_at markup_at end_tag_at name_at span
@@ -46,8 +45,7 @@ no_other_end = refl
 
 pub other_end_tag : FailsAsDocument (codes "<a></b>") 1 4
 other_end_tag =
-    let fault = stopped Document (codes "<a></b>") (codes "<a>") (codes "</b>") (in_element (codes "a")) 3 (after_start_tag (codes "a") refl) refl (λ none. cc) (inr ((end_tag (codes "b"), []), no_other_end, refl)) refl in
-    record { none = fault.0; place = 3; fault = fault.1; line_is = refl; column_is = refl }
+    fails_there Document _ 3 (stopped Document (codes "<a></b>") (codes "<a>") (codes "</b>") (in_element (codes "a")) 3 (after_start_tag (codes "a") refl) refl (λ none. cc) (inr (end_tag (codes "b"), [], item_begins (codes "</b>") (end_tag (codes "b")) [] no_other_end, refl)) refl)
 
 -- an attribute that comes twice
 no_tag : item_at (codes "<p a=\"\" a=\"\">") ≡ None
@@ -56,8 +54,7 @@ no_tag = refl
 
 pub attribute_twice : FailsAsDocument (codes "<p a=\"\" a=\"\">") 1 1
 attribute_twice =
-    let fault = stopped Document (codes "<p a=\"\" a=\"\">") [] (codes "<p a=\"\" a=\"\">") at_start 0 before_all refl (λ none. cc) (inl no_tag) refl in
-    record { none = fault.0; place = 0; fault = fault.1; line_is = refl; column_is = refl }
+    fails_there Document _ 0 (stopped Document (codes "<p a=\"\" a=\"\">") [] (codes "<p a=\"\" a=\"\">") at_start 0 (start_reached Document) refl (λ none. cc) (inl (none_begins (codes "<p a=\"\" a=\"\">") no_tag)) refl)
 
 -- a reference to no character
 no_reference : item_at (codes "&#xD800;") ≡ None
@@ -66,5 +63,4 @@ no_reference = refl
 
 pub no_character : FailsAsDocument (codes "<p>&#xD800;") 1 4
 no_character =
-    let fault = stopped Document (codes "<p>&#xD800;") (codes "<p>") (codes "&#xD800;") (in_element (codes "p")) 3 (after_start_tag (codes "p") refl) refl (λ none. cc) (inl no_reference) refl in
-    record { none = fault.0; place = 3; fault = fault.1; line_is = refl; column_is = refl }
+    fails_there Document _ 3 (stopped Document (codes "<p>&#xD800;") (codes "<p>") (codes "&#xD800;") (in_element (codes "p")) 3 (after_start_tag (codes "p") refl) refl (λ none. cc) (inl (none_begins (codes "&#xD800;") no_reference)) refl)

@@ -8,12 +8,12 @@ use Rattle.forest.specs.Forest.{Forest, Empty, Tree}
 use Rattle.plain_types.specs.declared.attr.Attr.{Attr}
 use Rattle.plain_types.specs.declared.node.Node.{Node}
 use Rattle.plain_types.specs.declared.node.Node.TheVariants.{Element, Text}
-use Rattle.definitions.specs.Documents.{is_misc, AreMisc, left_by, IsElement, empty_element, whole_element, IsContent, no_content, and_characters, and_element, IsProlog, without_doctype, with_doctype, IsDocument, document}
-use Rattle.definitions.specs.Items.{Item, doctype, comment, instruction, start_tag, empty_tag, end_tag, reference, section, plain_character}
-use Rattle.definitions.specs.Nodes.{then_element, then_characters}
+use Rattle.xml_definitions.specs.Documents.{is_misc, AreMisc, left_by, IsElement, empty_element, whole_element, IsContent, no_content, and_characters, and_element, IsProlog, without_doctype, with_doctype, IsDocument, document}
+use Rattle.xml_definitions.specs.Items.{Item, doctype, comment, instruction, start_tag, empty_tag, end_tag, reference, section, plain_character}
+use Rattle.xml_definitions.specs.Nodes.{then_element, then_characters}
 use Rattle.xhtml_reader.specs.declared.kind.Kind.{Kind}
 use Rattle.xhtml_reader.specs.declared.kind.Kind.TheVariants.{Document, Fragment}
-use Rattle.xhtml_reader.specs.Machine.{Frame, frame, State, at_start, after_doctype, in_text, inside, at_end, some_state, closed_in, outside_text, leave_text, leave_nothing, step_prolog, step_doctype, step_node, step}
+use Rattle.xhtml_reader.specs.Machinery.States.{Frame, frame, State, at_start, after_doctype, in_text, inside, at_end, some_state, closed_in, outside_text, leave_text, leave_nothing, step_prolog, step_doctype, step_node, step}
 use Rattle.xhtml_reader.proofs.Lists.{passed}
 
 -- the items may stand before the outermost element

@@ -14,13 +14,13 @@ use Rattle.plain_types.specs.declared.node.Node.{Node}
 use Rattle.plain_types.specs.declared.node.Node.TheVariants.{Element}
 use Rattle.plain_types.specs.declared.row.Row.{Row}
 use Rattle.plain_types.proofs.ForestLemmas.{forest_of-rows}
-use Rattle.definitions.specs.Documents.{is_misc, left_by}
-use Rattle.definitions.specs.Items.{Item, doctype, comment, instruction, start_tag, empty_tag, end_tag, reference, section, plain_character}
-use Rattle.definitions.specs.Nodes.{then_element, then_characters}
+use Rattle.xml_definitions.specs.Documents.{is_misc, left_by}
+use Rattle.xml_definitions.specs.Items.{Item, doctype, comment, instruction, start_tag, empty_tag, end_tag, reference, section, plain_character}
+use Rattle.xml_definitions.specs.Nodes.{then_element, then_characters}
 use Rattle.xhtml_reader.specs.declared.kind.Kind.{Kind}
 use Rattle.xhtml_reader.specs.declared.kind.Kind.TheVariants.{Document, Fragment}
-use Rattle.xhtml_reader.specs.Machine.{Frame, frame, State, at_start, after_doctype, in_text, inside, at_end, some_state, closed_in, opens, stands, outside_text, leave_text, leave_nothing, IsFinal, step, run}
-use Rattle.xhtml_reader.specs.Keeping.{Kept, kept_outside, built_of, with_text, accepts_element, accepts_characters, accepts_doctype, ended, is_fragment, ends_in_text, name_bytes, names_of, rows_before, text_rows, KeepsInside, Keeps}
+use Rattle.xhtml_reader.specs.Machinery.States.{Frame, frame, State, at_start, after_doctype, in_text, inside, at_end, some_state, closed_in, opens, stands, outside_text, leave_text, leave_nothing, IsFinal, step, run}
+use Rattle.xhtml_reader.specs.Machinery.Keeping.{Kept, kept_outside, built_of, with_text, accepts_element, accepts_characters, accepts_doctype, with_last_text, is_fragment, ends_in_text, name_bytes, names_of, rows_before, text_rows, KeepsInside, Keeps}
 use Rattle.xhtml_reader.proofs.Nodes.{then_characters-append, no_text_after, not_empty_after, rows-then_tree, rows-then_characters}
 use Rattle.xhtml_reader.proofs.Machine.{character_steps}
 use Rattle.xhtml_reader.proofs.Texts.{with_no_text}
@@ -522,14 +522,14 @@ refused_doctype all (at_end tree) keeps e = last all.kind
 Settles : State → Building → Type 0
 Settles s built = (is_whole built ≡ true → IsFinal s (forest_of built.rows)) × (is_whole built ≡ false → (tree : Forest Node) → IsFinal s tree → ⊥)
 
-settled : (all : Kept) (s : State) → Keeps all s → Settles s (ended all)
+settled : (all : Kept) (s : State) → Keeps all s → Settles s (with_last_text all)
 unfolding Settles
-settled all at_start keeps = subst (λ (built : Building). Settles at_start built) (sym (ap ended keeps)) (λ e. absurd cc, λ e tree final. final)
-settled all after_doctype keeps = subst (λ (built : Building). Settles after_doctype built) (sym (ap ended keeps)) (λ e. absurd cc, λ e tree final. final)
+settled all at_start keeps = subst (λ (built : Building). Settles at_start built) (sym (ap with_last_text keeps)) (λ e. absurd cc, λ e tree final. final)
+settled all after_doctype keeps = subst (λ (built : Building). Settles after_doctype built) (sym (ap with_last_text keeps)) (λ e. absurd cc, λ e tree final. final)
 settled all (in_text []) keeps = absurd (keeps.1 refl)
-settled all (in_text (c ∷ cs)) keeps = subst (λ (built : Building). Settles (in_text (c ∷ cs)) built) (sym (ap ended keeps.0)) (λ e. refl, λ e tree final. absurd cc)
+settled all (in_text (c ∷ cs)) keeps = subst (λ (built : Building). Settles (in_text (c ∷ cs)) built) (sym (ap with_last_text keeps.0)) (λ e. refl, λ e tree final. absurd cc)
 settled all (inside f frames here) keeps =
-    let same : ended all ≡ all.built = ap (λ (b : Bool). cond (accepts_node all.built && not b) (with_text all.built all.waiting) all.built) (inside_is all f frames here keeps) ∙ never (accepts_node all.built) in
+    let same : with_last_text all ≡ all.built = ap (λ (b : Bool). cond (accepts_node all.built && not b) (with_text all.built all.waiting) all.built) (inside_is all f frames here keeps) ∙ never (accepts_node all.built) in
     subst (λ (built : Building). Settles (inside f frames here) built) (sym same) (λ e. absurd (still all.built (inside_is all f frames here keeps) e), λ e tree final. final)
   where
     never : (a : Bool) → cond (a && false) (with_text all.built all.waiting) all.built ≡ all.built
@@ -540,18 +540,18 @@ settled all (inside f frames here) keeps =
     still built h k = grind (arith, nat_tests)
 settled all (at_end tree) keeps =
     let no_node : accepts_node (built_of (rows 0 tree) 0) ≡ false = whole_rows (rows 0 tree) (rows_some tree keeps.1) in
-    let same : ended all ≡ built_of (rows 0 tree) 0 = ap ended keeps.0 ∙ rw no_node refl in
+    let same : with_last_text all ≡ built_of (rows 0 tree) 0 = ap with_last_text keeps.0 ∙ rw no_node refl in
     subst (λ (built : Building). Settles (at_end tree) built) (sym same) (λ e. forest_of-rows tree, λ e. absurd (let bad : true ≡ false = sym (some_rows (rows 0 tree) (rows_some tree keeps.1)) ∙ e in cc))
   where
     some_rows : (all : List Row) → all ≢ [] → is_whole (built_of all 0) ≡ true
     some_rows [] some = absurd (some refl)
     some_rows (first ∷ rest) some = grind (arith, nat_tests)
 
-pub finished : (all : Kept) (s : State) → Keeps all s → is_whole (ended all) ≡ true → IsFinal s (forest_of (ended all).rows)
+pub finished : (all : Kept) (s : State) → Keeps all s → is_whole (with_last_text all) ≡ true → IsFinal s (forest_of (with_last_text all).rows)
 unfolding Settles
 finished all s keeps e = (settled all s keeps).0 e
 
-pub not_finished : (all : Kept) (s : State) → Keeps all s → is_whole (ended all) ≡ false → (tree : Forest Node) → IsFinal s tree → ⊥
+pub not_finished : (all : Kept) (s : State) → Keeps all s → is_whole (with_last_text all) ≡ false → (tree : Forest Node) → IsFinal s tree → ⊥
 unfolding Settles
 not_finished all s keeps e = (settled all s keeps).1 e
 

@@ -12,4 +12,5 @@ pub mod Lines
 pub mod Prepares
 pub mod Names
 pub mod Progress
+pub mod Totals
 pub mod Examples

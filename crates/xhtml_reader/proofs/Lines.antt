@@ -4,7 +4,7 @@ use Rattle.std.specs.List.{list_any}
 use Rattle.std.specs.Str.{chars, IsUtf8}
 use Rattle.std.proofs.lemmas.Str.{encodes-chars, length-le-encodes}
 use Rattle.std.proofs.lemmas.List.{length_push}
-use Rattle.definitions.specs.Faults.{line_feeds, last_line}
+use Rattle.xml_definitions.specs.Faults.{line_feeds, last_line}
 
 abbrev is_end : ℕ → Bool
 is_end d = eqb d 10

@@ -6,11 +6,11 @@ use Rattle.forest.specs.Forest.{Forest, Empty, Tree}
 use Rattle.plain_types.specs.declared.attr.Attr.{Attr}
 use Rattle.plain_types.specs.declared.node.Node.{Node}
 use Rattle.plain_types.specs.declared.node.Node.TheVariants.{Element}
-use Rattle.definitions.specs.Documents.{left_by, IsElement, empty_element, whole_element, IsContent, no_content, and_characters, and_element}
-use Rattle.definitions.specs.Items.{Item, doctype, comment, instruction, start_tag, empty_tag, end_tag, reference, section, plain_character}
-use Rattle.definitions.specs.Nodes.{then_element, then_characters}
+use Rattle.xml_definitions.specs.Documents.{left_by, IsElement, empty_element, whole_element, IsContent, no_content, and_characters, and_element}
+use Rattle.xml_definitions.specs.Items.{Item, doctype, comment, instruction, start_tag, empty_tag, end_tag, reference, section, plain_character}
+use Rattle.xml_definitions.specs.Nodes.{then_element, then_characters}
 use Rattle.xhtml_reader.specs.declared.kind.Kind.{Kind}
-use Rattle.xhtml_reader.specs.Machine.{Frame, frame, State, inside, at_end, some_state, step, run}
+use Rattle.xhtml_reader.specs.Machinery.States.{Frame, frame, State, inside, at_end, some_state, step, run}
 
 pub same_name : (name : List ℕ) → bytes_eq name name ≡ true
 same_name name = (bytes_eq-Decides name name).1 refl

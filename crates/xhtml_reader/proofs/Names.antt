@@ -3,9 +3,11 @@ use Rattle.std.proofs.Common.{◌≡◌, ℕ, suc, Bool, true, false, ◌&&◌, 
 use Rattle.std.specs.List.{list_all}
 use Rattle.std.proofs.lemmas.Bool.{cases_Bool}
 use Rattle.std.proofs.lemmas.Bool.Decides.{nat_tests}
-use Rattle.definitions.specs.Characters.{is_name, is_name_character, is_name_start}
-use Rattle.xhtml_items.specs.Reading.{name_at, span}
-use Rattle.xhtml_items.proofs.StepLaws.{chosen, start_goes_on}
+use Rattle.xml_definitions.specs.Characters.{is_name, is_name_character, is_name_start}
+use Rattle.reading.specs.Reading.{span}
+use Rattle.xhtml_items.specs.Reading.{name_at}
+use Rattle.reading.proofs.Runs.{chosen}
+use Rattle.xhtml_items.proofs.StepLaws.{start_goes_on}
 
 abbrev pub is_empty : List ℕ → Bool
 is_empty rest = eqb (length rest) 0

@@ -6,8 +6,8 @@ use Rattle.plain_types.specs.declared.attr.Attr.{Attr}
 use Rattle.plain_types.specs.declared.node.Node.{Node}
 use Rattle.plain_types.specs.declared.node.Node.TheVariants.{Element, Text}
 use Rattle.plain_types.specs.declared.row.Row.{Row}
-use Rattle.definitions.specs.Nodes.{then_element, joined_with, then_some_characters, then_characters}
-use Rattle.xhtml_reader.specs.Keeping.{ends_in_text, text_rows}
+use Rattle.xml_definitions.specs.Nodes.{then_element, joined_with, then_some_characters, then_characters}
+use Rattle.xhtml_reader.specs.Machinery.Keeping.{ends_in_text, text_rows}
 
 -- characters, and then more of them
 joined_twice : (node : Node) (children : Forest Node) (a b : ℕ) (xs ys : List ℕ) → then_some_characters (joined_with node children (a ∷ xs)) (b ∷ ys) ≡ joined_with node children ((a ∷ xs) ++ b ∷ ys)

@@ -1,19 +1,20 @@
 -- Where reading stops is the place of the fault, and where it ends there is a tree.
-use Rattle.std.proofs.Common.{◌≡◌, ◌≢◌, ℕ, ◌≤◌, List, [], ◌∷◌, ◌++◌, length, take, drop, ◌⊎◌, inl, inr, Option, Some, None, refl, sym, ap, subst, ◌∙◌, append_assoc, append-nil, arith}
+use Rattle.std.proofs.Common.{◌≡◌, ◌≢◌, ℕ, ◌+◌, ◌≤◌, List, [], ◌∷◌, ◌++◌, length, take, drop, ◌⊎◌, inl, inr, Option, Some, None, refl, sym, ap, subst, ◌∙◌, append_assoc, append-nil, arith}
 use Rattle.std.proofs.lemmas.List.{length-append, length-take-le, nil_from_length, take-append-drop, take_all, take_at}
 use Rattle.forest.specs.Forest.{Forest}
 use Rattle.plain_types.specs.declared.node.Node.{Node}
-use Rattle.definitions.specs.Faults.{IsSound, IsFaultPlace}
-use Rattle.definitions.specs.Items.{Item, ArePieces}
-use Rattle.definitions.specs.Prepared.{prepared}
-use Rattle.definitions.specs.Spelling.{Spells}
-use Rattle.definitions.specs.Texts.{HasTree, IsFragmentText}
-use Rattle.xhtml_items.specs.Reading.{item_at}
-use Rattle.xhtml_items.proofs.ItemLaws.{item_again, item_takes}
+use Rattle.xml_definitions.specs.Documents.{no_content}
+use Rattle.xml_definitions.specs.Faults.{IsSound, IsFaultPlace, FailsAt, last_line, line_feeds}
+use Rattle.xml_definitions.specs.Items.{Item, ArePieces}
+use Rattle.xml_definitions.specs.Normalized.{normalized}
+use Rattle.xml_definitions.specs.Spelling.{Spells}
+use Rattle.xml_definitions.specs.Texts.{HasTree, IsFragmentText}
+use Rattle.xhtml_items.specs.FirstItem.{BeginsWith}
+use Rattle.xhtml_items.proofs.ItemLaws.{item_filled, one_first, same_first}
 use Rattle.xhtml_reader.specs.declared.kind.Kind.{Kind}
 use Rattle.xhtml_reader.specs.declared.kind.Kind.TheVariants.{Document, Fragment}
-use Rattle.xhtml_reader.specs.Machine.{State, at_start, after_doctype, in_text, inside, at_end, some_state, IsFinal, allows, step, run}
-use Rattle.xhtml_reader.specs.Reading.{Leads, Stops}
+use Rattle.xhtml_reader.specs.Machinery.States.{State, at_start, after_doctype, in_text, inside, at_end, some_state, IsFinal, allows, step, run}
+use Rattle.xhtml_reader.specs.Machinery.Leading.{Leads, Stops}
 use Rattle.xhtml_reader.proofs.Beginnings.{begins}
 use Rattle.xhtml_reader.proofs.Holding.{Holds, outside, opened, deeper, steps, Top}
 use Rattle.xhtml_reader.proofs.Lists.{ArePieces-append, ArePieces-one}
@@ -25,26 +26,15 @@ AreItems characters items = ArePieces Spells characters items
 
 -- ---- a text has at most one list of items
 
-abbrev some_item : Item × List ℕ → Option (Item × List ℕ)
-some_item read = Some read
-
--- no item begins another
-same_first : (p q : Item) (f g x y : List ℕ) → Spells f p → Spells g q → f ++ x ≡ g ++ y → (p ≡ q) × (x ≡ y)
-same_first p q f g x y a b e =
-    let both : some_item (p, x) ≡ some_item (q, y) = sym (item_again p f x a) ∙ ap item_at e ∙ item_again q g y b in
-    let pair : (p, x) ≡ (q, y) = cc in
-    (ap (λ (t : Item × List ℕ). t.0) pair, ap (λ (t : Item × List ℕ). t.1) pair)
-
 not_spelled : (p : Item) (f x : List ℕ) → Spells f p → f ++ x ≡ [] → ⊥
-unfolding item_at
-not_spelled p f x a e = let h = sym (item_again p f x a) ∙ ap item_at e in cc
+not_spelled p f x a e = omega (arith, item_filled p f a, ap length e, length-append f x)
 
 pub only_items : (xs ys : List Item) (characters : List ℕ) → AreItems characters xs → AreItems characters ys → xs ≡ ys
 only_items [] [] characters p q = refl
 only_items [] (y ∷ ys) characters p q = absurd (not_spelled y q.0 q.1 q.2 (sym q.4 ∙ p))
 only_items (x ∷ xs) [] characters p q = absurd (not_spelled x p.0 p.1 p.2 (sym p.4 ∙ q))
 only_items (x ∷ xs) (y ∷ ys) characters p q =
-    let s = same_first x y p.0 q.0 p.1 q.1 p.2 q.2 (sym p.4 ∙ q.4) in
+    let s = same_first x y p.0 p.1 q.0 q.1 p.2 q.2 (sym p.4 ∙ q.4) in
     let rest = only_items xs ys p.1 p.3 (rw s.1 q.3) in
     rw (s.0, rest) refl
 
@@ -57,13 +47,17 @@ compared [] ys a b c d p q e = inl (ys, b, refl, q, ap (λ (t : List ℕ). t ++ 
 compared (x ∷ xs) [] a b c d p q e = inr (omega (arith, ap length q))
 compared (x ∷ xs) (y ∷ ys) a b c d p q e =
     let same : p.0 ++ (p.1 ++ c) ≡ q.0 ++ (q.1 ++ d) = sym (append_assoc p.0 p.1 c) ∙ ap (λ (t : List ℕ). t ++ c) (sym p.4) ∙ e ∙ ap (λ (t : List ℕ). t ++ d) q.4 ∙ append_assoc q.0 q.1 d in
-    let s = same_first x y p.0 q.0 (p.1 ++ c) (q.1 ++ d) p.2 q.2 same in
+    let s = same_first x y p.0 (p.1 ++ c) q.0 (q.1 ++ d) p.2 q.2 same in
     elim (compared xs ys p.1 q.1 c d p.3 q.3 s.1) [
       | inl w ↦ inl (w.0, w.1, rw (s.0, w.2) refl, w.3, w.4)
       | inr w ↦ inr (omega (arith, w, ap length same, ap length s.1, ap length p.4, ap length q.4, length-append {A = ℕ}))
     ]
 
 -- ---- what is read so far
+
+start_holds : (kind : Kind) → Holds kind [] at_start
+start_holds Document = outside [] at_start refl
+start_holds Fragment = outside [] at_start no_content
 
 module _ (kind : Kind) where
   -- the items of the characters so far, and where they lead
@@ -72,6 +66,9 @@ module _ (kind : Kind) where
     pub spelled : AreItems front items
     pub ran : run kind (Some at_start) items ≡ some_state s
     pub holds : Holds kind items s
+
+  pub start_reached : Reached [] at_start
+  start_reached = record { items = []; spelled = refl; ran = refl; holds = start_holds kind }
 
   reached_sound : (front : List ℕ) (s : State) → Reached front s → IsSound (allows kind) front
   reached_sound front s reached = (reached.items, reached.spelled, begins kind reached.holds front reached.spelled)
@@ -93,16 +90,14 @@ module _ (kind : Kind) where
     holds = holds_more leads.items reached.items s t reached.holds leads.ran;
   }
 
-  pub Leads-one : (rest : List ℕ) (s : State) (item : Item) (after : List ℕ) (t : State) → item_at rest ≡ Some (item, after) → step kind s item ≡ some_state t → Leads kind rest s after t
-  Leads-one rest s item after t e moves =
-      let takes = item_takes rest (item, after) e in
-      record {
-        items = item ∷ [];
-        front = takes.0;
-        spelled = ArePieces-one Spells item takes.0 takes.1;
-        parts = takes.2;
-        ran = moves;
-      }
+  pub Leads-one : (rest : List ℕ) (s : State) (item : Item) (after : List ℕ) (t : State) → BeginsWith rest item after → step kind s item ≡ some_state t → Leads kind rest s after t
+  Leads-one rest s item after t begins moves = record {
+    items = item ∷ [];
+    front = begins.front;
+    spelled = ArePieces-one Spells item begins.front begins.spelled;
+    parts = begins.parts;
+    ran = moves;
+  }
 
   -- other items of the text that lead anywhere are no more than were read
   no_longer : (front rest : List ℕ) (s : State) → Reached front s → Stops kind rest s → (a d : List ℕ) → front ++ rest ≡ a ++ d → (ys : List Item) → AreItems a ys → (t : State) → run kind (Some at_start) ys ≡ some_state t
@@ -123,13 +118,13 @@ module _ (kind : Kind) where
       at_more [] characters is spelled parts = omega (arith, ap length both, ap length parts, ap length spelled, length-append {A = ℕ})
       at_more (x ∷ more) characters is spelled parts =
           let regroup : rest ≡ spelled.0 ++ (spelled.1 ++ d) = parts ∙ ap (λ (t : List ℕ). t ++ d) spelled.4 ∙ append_assoc spelled.0 spelled.1 d in
-          let reads : item_at rest ≡ some_item (x, spelled.1 ++ d) = ap item_at regroup ∙ item_again x spelled.0 (spelled.1 ++ d) spelled.2 in
+          let there : BeginsWith rest x (spelled.1 ++ d) = record { front = spelled.0; spelled = spelled.2; parts = regroup } in
           let ran_more : run kind (Some at_start) (reached.items ++ x ∷ more) ≡ some_state t = rw (← is) ran in
           elim stops [
-            | inl none ↦ absurd (let h = sym none ∙ reads in cc)
+            | inl none ↦ absurd (none x (spelled.1 ++ d) there)
             | inr found ↦ absurd (
-                let pair : found.0 ≡ (x, spelled.1 ++ d) = (let h = sym found.1 ∙ reads in cc) in
-                let stop : step kind s x ≡ None = rw pair at found.2 in
+                let same = (one_first rest found.0 x found.1 (spelled.1 ++ d) found.2 there).0 in
+                let stop : step kind s x ≡ None = rw same at found.3 in
                 stuck x more stop ran_more)
           ]
 
@@ -182,6 +177,11 @@ module _ (kind : Kind) where
     },
   )
 
+-- the place as a line and a column
+pub fails_there : (kind : Kind) (whole : List ℕ) (n : ℕ) → NoTree kind whole × IsFaultPlace (allows kind) whole n
+    → FailsAt (allows kind) whole (1 + line_feeds (take n whole)) (1 + length (last_line (take n whole)))
+fails_there kind whole n fault = record { none = fault.0; place = n; fault = fault.1; line_is = refl; column_is = refl }
+
 final_allows : (kind : Kind) {items : List Item} {s : State} → Holds kind items s → (tree : Forest Node) → IsFinal s tree → allows kind items tree
 final_allows kind (opened before p name attrs d) tree final = absurd final
 final_allows kind (deeper h name attrs d) tree final = absurd final
@@ -223,4 +223,4 @@ only_tree kind whole tree other d e =
     one (at_end root) tree other p q = p ∙ sym q
 
 pub only_fragment : (text : List ℕ) (tree other : Forest Node) → IsFragmentText text tree → IsFragmentText text other → tree ≡ other
-only_fragment text tree other first second = only_tree Fragment (prepared text) tree other first second
+only_fragment text tree other first second = only_tree Fragment (normalized text) tree other first second

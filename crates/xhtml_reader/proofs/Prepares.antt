@@ -2,17 +2,17 @@
 use Rattle.std.proofs.Common.{◌≡◌, ℕ, Bool, true, false, ◌&&◌, cond, eqb, List, [], ◌∷◌, ◌++◌, refl, sym, ap, ◌∙◌}
 use Rattle.std.specs.Str.{chars, IsUtf8, NonePass, NoCharPasses}
 use Rattle.std.proofs.lemmas.Str.{chars_from_encodes}
-use Rattle.definitions.specs.Prepared.{as_line_feed, with_line_feeds}
-use Rattle.xhtml_reader.specs.LineEnds.{line_end_left}
+use Rattle.xml_definitions.specs.Normalized.{as_line_feed, with_line_feeds}
+use Rattle.xhtml_reader.specs.Machinery.LineEnds.{line_end_left}
 
 -- the first character, and then the others
-pub first_prepared : (c : ℕ) (rest : List ℕ) → with_line_feeds (c ∷ rest) ≡ line_end_left c rest ++ with_line_feeds rest
-first_prepared c [] = ap (λ (b : Bool). cond b [] (as_line_feed c ∷ []) ++ []) (sym (never (eqb c 13)))
+pub first_normalized : (c : ℕ) (rest : List ℕ) → with_line_feeds (c ∷ rest) ≡ line_end_left c rest ++ with_line_feeds rest
+first_normalized c [] = ap (λ (b : Bool). cond b [] (as_line_feed c ∷ []) ++ []) (sym (never (eqb c 13)))
   where
     never : (b : Bool) → (b && false) ≡ false
     never true = refl
     never false = refl
-first_prepared c (d ∷ rest) = picked (eqb c 13 && eqb d 10) (as_line_feed c) (with_line_feeds (d ∷ rest))
+first_normalized c (d ∷ rest) = picked (eqb c 13 && eqb d 10) (as_line_feed c) (with_line_feeds (d ∷ rest))
   where
     picked : (b : Bool) (x : ℕ) (xs : List ℕ) → cond b xs (x ∷ xs) ≡ cond b [] (x ∷ []) ++ xs
     picked true x xs = refl
@@ -21,7 +21,7 @@ first_prepared c (d ∷ rest) = picked (eqb c 13 && eqb d 10) (as_line_feed c) (
 -- without a carriage return
 unchanged : (cs : List ℕ) → NonePass (λ c. eqb c 13) cs → with_line_feeds cs ≡ cs
 unchanged [] none = refl
-unchanged (c ∷ cs) none = first_prepared c cs ∙ (λ i. kept i ++ unchanged cs none.1 i)
+unchanged (c ∷ cs) none = first_normalized c cs ∙ (λ i. kept i ++ unchanged cs none.1 i)
   where
     kept : line_end_left c cs ≡ c ∷ []
     kept = rw none.0 refl

@@ -3,16 +3,13 @@ use Rattle.std.proofs.Common.{◌≡◌, ◌≢◌, ℕ, ◌+◌, ◌-◌, ◌�
 use Rattle.std.proofs.lemmas.List.{length-append}
 use Rattle.forest.specs.Forest.{Forest}
 use Rattle.plain_types.specs.declared.node.Node.{Node}
-use Rattle.definitions.specs.Documents.{no_content}
-use Rattle.definitions.specs.Faults.{IsFaultPlace, FailsAt, line_feeds, last_line}
-use Rattle.definitions.specs.Texts.{HasTree}
+use Rattle.xml_definitions.specs.Faults.{FailsAt, line_feeds, last_line}
+use Rattle.xml_definitions.specs.Texts.{HasTree}
 use Rattle.xhtml_reader.specs.declared.kind.Kind.{Kind}
-use Rattle.xhtml_reader.specs.declared.kind.Kind.TheVariants.{Document, Fragment}
-use Rattle.xhtml_reader.specs.Keeping.{Kept, Keeps, Advances, Finishes}
-use Rattle.xhtml_reader.specs.Machine.{State, at_start, allows}
-use Rattle.xhtml_reader.specs.Reading.{Leads, Stops}
-use Rattle.xhtml_reader.proofs.Holding.{Holds, outside}
-use Rattle.xhtml_reader.proofs.Places.{Reached, Reached-more, NoTree, stopped, unfinished, found}
+use Rattle.xhtml_reader.specs.Machinery.Keeping.{Kept, Keeps, Advances, Finishes}
+use Rattle.xhtml_reader.specs.Machinery.States.{State, at_start, allows}
+use Rattle.xhtml_reader.specs.Machinery.Leading.{Leads, Stops}
+use Rattle.xhtml_reader.proofs.Places.{Reached, Reached-more, fails_there, found, start_reached, stopped, unfinished}
 
 pub record Progress (kind : Kind) (whole rest : List ℕ) (all : Kept) : Type 0 where
   pub front : List ℕ
@@ -22,16 +19,12 @@ pub record Progress (kind : Kind) (whole rest : List ℕ) (all : Kept) : Type 0 
   pub keeps : Keeps all state
   pub kind_is : all.kind ≡ kind
 
-start_holds : (kind : Kind) → Holds kind [] at_start
-start_holds Document = outside [] at_start refl
-start_holds Fragment = outside [] at_start no_content
-
 pub Progress-start : (kind : Kind) (whole : List ℕ) (all : Kept) → Keeps all at_start → all.kind ≡ kind → Progress kind whole whole all
 Progress-start kind whole all keeps kind_is = record {
   front = [];
   state = at_start;
   parts = refl;
-  reached = record { items = []; spelled = refl; ran = refl; holds = start_holds kind };
+  reached = start_reached kind;
   keeps = keeps;
   kind_is = kind_is;
 }
@@ -53,20 +46,13 @@ module _ (kind : Kind) (whole rest : List ℕ) (all : Kept) (progress : Progress
   pub Progress-length : length rest ≤ length whole
   Progress-length = omega (arith, ap length progress.parts, length-append progress.front rest)
 
-  -- the place at which the rest begins
-  place : ℕ
-  place = length whole - length rest
-
-  fails_there : (n : ℕ) → NoTree kind whole × IsFaultPlace (allows kind) whole n → FailsAt (allows kind) whole (1 + line_feeds (take n whole)) (1 + length (last_line (take n whole)))
-  fails_there n fault = record { none = fault.0; place = n; fault = fault.1; line_is = refl; column_is = refl }
-
   abbrev pub FailsHere : Type 0
   FailsHere = FailsAt (allows kind) whole (1 + line_feeds (take (length whole - length rest) whole)) (1 + length (last_line (take (length whole - length rest) whole)))
 
   pub none_fits : (new : Kept) → rest ≢ [] → Advances all rest None new → FailsHere
   none_fits new some advances =
       let stops = subst (λ (k : Kind). Stops k rest progress.state) progress.kind_is (advances progress.state progress.keeps) in
-      fails_there (length whole - length rest)
+      fails_there kind whole (length whole - length rest)
       (stopped kind whole progress.front rest progress.state _ progress.reached progress.parts some stops (omega (arith, ap length progress.parts, length-append progress.front rest)))
 
   all_read : rest ≡ [] → Reached kind whole progress.state
@@ -76,7 +62,7 @@ module _ (kind : Kind) (whole rest : List ℕ) (all : Kept) (progress : Progress
 
   pub none_ends : rest ≡ [] → Finishes all None → FailsHere
   none_ends none finishes =
-      fails_there (length whole - length rest)
+      fails_there kind whole (length whole - length rest)
       (unfinished kind whole progress.state _ (all_read none) (finishes progress.state progress.keeps) (omega (arith, ap length none)))
 
   pub tree_found : (tree : Forest Node) → rest ≡ [] → Finishes all (Some tree) → HasTree (allows kind) whole tree

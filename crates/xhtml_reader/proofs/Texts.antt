@@ -10,7 +10,7 @@ use Rattle.plain_types.specs.Building.{Building}
 use Rattle.plain_types.specs.Rows.{row}
 use Rattle.plain_types.specs.declared.row.Row.{Row}
 use Rattle.plain_types.specs.declared.node.Node.TheVariants.{Text}
-use Rattle.xhtml_reader.specs.Keeping.{text_rows, with_text}
+use Rattle.xhtml_reader.specs.Machinery.Keeping.{text_rows, with_text}
 
 encode_some : (c : ℕ) → 1 ≤ length (encode_utf8 c)
 encode_some c = omega (arith, length-encode c, len_utf8_bounds c)

@@ -7,13 +7,13 @@ use Rattle.plain_types.specs.Tree.{IsOne}
 use Rattle.plain_types.specs.declared.attr.Attr.{Attr}
 use Rattle.plain_types.specs.declared.node.Node.{Node}
 use Rattle.plain_types.specs.declared.node.Node.TheVariants.{Element, Text}
-use Rattle.definitions.specs.Documents.{is_misc, AreMisc, left_by, IsElement, IsContent, no_content, and_characters, and_element, IsProlog, without_doctype, with_doctype, IsDocument, document}
-use Rattle.definitions.specs.Fragments.{IsFragment}
-use Rattle.definitions.specs.Items.{Item, doctype, comment, instruction, start_tag, empty_tag, end_tag, reference, section, plain_character}
-use Rattle.definitions.specs.Nodes.{then_element, then_some_characters, then_characters}
+use Rattle.xml_definitions.specs.Documents.{is_misc, AreMisc, left_by, IsElement, IsContent, no_content, and_characters, and_element, IsProlog, without_doctype, with_doctype, IsDocument, document}
+use Rattle.xml_definitions.specs.Fragments.{IsFragment}
+use Rattle.xml_definitions.specs.Items.{Item, doctype, comment, instruction, start_tag, empty_tag, end_tag, reference, section, plain_character}
+use Rattle.xml_definitions.specs.Nodes.{then_element, then_some_characters, then_characters}
 use Rattle.xhtml_reader.specs.declared.kind.Kind.{Kind}
 use Rattle.xhtml_reader.specs.declared.kind.Kind.TheVariants.{Document, Fragment}
-use Rattle.xhtml_reader.specs.Machine.{State, at_start, after_doctype, in_text, inside, at_end, some_state, outside_text, IsFinal, allows, step, run}
+use Rattle.xhtml_reader.specs.Machinery.States.{State, at_start, after_doctype, in_text, inside, at_end, some_state, outside_text, IsFinal, allows, step, run}
 use Rattle.xhtml_reader.proofs.Machine.{run-append, root_runs}
 
 -- a whole text leads to a state whose tree is this one

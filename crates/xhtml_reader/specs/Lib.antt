@@ -1,5 +1,3 @@
-pub mod Machine
-pub mod Reading
-pub mod Keeping
-pub mod LineEnds
 pub mod Fault
+pub mod Machinery
+pub mod Readings

@@ -3,12 +3,12 @@
 //! In goes a text; out comes the tree of the document, or of the fragment, that it spells, or the line
 //! and the column at which it stops being one. The grammar is that of XML 1.0, sections 2 to 4, without
 //! declarations inside a doctype, with twenty entities, and somewhat wider and narrower in places; the
-//! crate `definitions` has it, production by production. A fragment is content that has one node.
+//! crate `xml_definitions` has it, production by production. A fragment is content that has one node.
 //!
 //! The layer above knows this crate by `IsDocumentText text tree` and `IsFragmentText text tree`, that
 //! the text is a document, or a fragment, with this tree, and by `FailsAsDocument text line column` and
-//! `FailsAsFragment text line column`, that it is none, and its fault is there. [`laws`] says that a text
-//! has at most one tree.
+//! `FailsAsFragment text line column`, that it is none, and its fault is there. [`laws`] says that each text
+//! has a tree or a fault, and one only.
 //!
 //! A text is read once, item by item, with a list of the open elements, and no call recurses: a document
 //! may be of any depth. It takes memory linear in the text, and time linear in it but for the attributes of a
@@ -33,8 +33,8 @@ mod tests;
 
 ghost use Rattle.std.specs.Prelude.{IfErr, IfOk};
 ghost use Rattle.std.specs.Str.{chars};
-ghost use Rattle.definitions.specs.Faults.{FailsAsDocument, FailsAsFragment};
-ghost use Rattle.definitions.specs.Texts.{IsDocumentText, IsFragmentText};
+ghost use Rattle.xml_definitions.specs.Faults.{FailsAsDocument, FailsAsFragment};
+ghost use Rattle.xml_definitions.specs.Texts.{IsDocumentText, IsFragmentText};
 ghost use Rattle.xhtml_reader.specs.Fault.{IsFault};
 
 use fault::DocFault;

@@ -2,7 +2,7 @@
 
 ghost use Rattle.std.specs.Prelude.{◌≡◌};
 ghost use Rattle.std.specs.Str.{chars};
-ghost use Rattle.definitions.specs.Characters.{is_name};
+ghost use Rattle.xml_definitions.specs.Characters.{is_name};
 
 use xhtml_items::text::split_name;
 

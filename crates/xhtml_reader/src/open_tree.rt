@@ -4,10 +4,10 @@ ghost use Rattle.std.specs.Prelude.{◌≡◌, ◌≢◌, ◌⊎◌, ◌<◌, []
 ghost use Rattle.std.specs.Str.{chars, IsUtf8};
 ghost use Rattle.plain_types.specs.Building.{accepts_node};
 ghost use Rattle.plain_types.specs.Tree.{HasDistinctNames};
-ghost use Rattle.definitions.specs.Items.{doctype, end_tag, start_tag, empty_tag, reference, section, plain_character};
+ghost use Rattle.xml_definitions.specs.Items.{doctype, end_tag, start_tag, empty_tag, reference, section, plain_character};
 ghost use Rattle.xhtml_items.specs.Tokens.{item_of};
-ghost use Rattle.xhtml_reader.specs.Keeping.{Adds, Advances, Finishes, HasSoundNames, Keeps, accepts_characters, accepts_doctype, accepts_element, chars_of, ended, is_fragment, kept, with_text};
-ghost use Rattle.xhtml_reader.specs.Machine.{at_start};
+ghost use Rattle.xhtml_reader.specs.Machinery.Keeping.{Adds, Advances, Finishes, HasSoundNames, Keeps, accepts_characters, accepts_doctype, accepts_element, chars_of, with_last_text, is_fragment, kept, with_text};
+ghost use Rattle.xhtml_reader.specs.Machinery.States.{at_start};
 
 use crate::kind::Kind;
 use plain_types::attr::Attr;
@@ -245,7 +245,7 @@ impl<'a> OpenTree<'a> {
 
     /// Puts the characters that wait into a text, where no node has come before.
     fn end_text(&mut self, alloc: Global) -> Result<(), Memory>
-        ensures { OnOk result (self.new.builder ≡ ended (kept self.old)) }
+        ensures { OnOk result (self.new.builder ≡ with_last_text (kept self.old)) }
     {
         if self.builder.accepts_node() && !self.builder.is_inside() {
             self.put_text(alloc)?;

@@ -2,7 +2,7 @@
 
 ghost use Rattle.std.specs.Prelude.{◌≡◌, ◌+◌, ◌-◌, ◌≤◌, length, take};
 ghost use Rattle.std.specs.Str.{chars};
-ghost use Rattle.definitions.specs.Faults.{line_feeds, last_line};
+ghost use Rattle.xml_definitions.specs.Faults.{line_feeds, last_line};
 ghost use Rattle.xhtml_reader.specs.declared.fault.DocFault.TheVariants.{Malformed};
 
 use crate::fault::DocFault;

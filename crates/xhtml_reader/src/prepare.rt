@@ -2,8 +2,8 @@
 
 ghost use Rattle.std.specs.Prelude.{◌≡◌, IfOk, true};
 ghost use Rattle.std.specs.Str.{chars, IsUtf8};
-ghost use Rattle.definitions.specs.Prepared.{with_line_feeds, without_mark};
-ghost use Rattle.xhtml_reader.specs.LineEnds.{begins_with_line_feed, line_end_left};
+ghost use Rattle.xml_definitions.specs.Normalized.{with_line_feeds, without_mark};
+ghost use Rattle.xhtml_reader.specs.Machinery.LineEnds.{begins_with_line_feed, line_end_left};
 ghost use Rattle.std.specs.Option.{option_to_list};
 
 use plain_types::memory::Memory;
@@ -46,17 +46,17 @@ fn line_end_left(c: char, after: &str) -> Option<char>
 
 /// The text with line feeds for its line ends.
 pub(crate) fn with_line_feeds(alloc: Global, text: &str) -> Result<Text, Memory>
-    ensures { IfOk result (λ prepared. prepared ≡ with_line_feeds (chars text.now)) }
+    ensures { IfOk result (λ normalized. normalized ≡ with_line_feeds (chars text.now)) }
 {
-    let mut prepared = Text::new(alloc);
+    let mut normalized = Text::new(alloc);
     let mut rest = text;
     while let Some((c, after)) = first_char(rest) {
         if let Some(left) = line_end_left(c, after) {
-            prepared.push(left)?;
+            normalized.push(left)?;
         }
         rest = after;
     }
-    Ok(prepared)
+    Ok(normalized)
 }
 
 /// Whether line ends are line feeds already.

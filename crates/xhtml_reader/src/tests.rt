@@ -224,6 +224,22 @@ fn names(rt: HostRuntime) {
     }
 }
 
+#[test]
+fn messages(rt: HostRuntime) -> Result<(), Fail> {
+    let faults = [
+        (
+            DocFault::Malformed { line: 3, column: 5 },
+            "the text is not well-formed at line 3, column 5",
+        ),
+        (DocFault::Memory, "out of memory"),
+    ];
+    for (fault, message) in &faults {
+        let told = format!(in rt.alloc(); "{fault}")?;
+        assert_eq!(rt; told.as_str(), *message);
+    }
+    Ok(())
+}
+
 /// No call recurses on a document.
 #[test]
 fn depth(rt: HostRuntime) -> Result<(), Fail> {

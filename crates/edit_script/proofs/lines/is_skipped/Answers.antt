@@ -3,7 +3,7 @@ use Rattle.std.specs.List.{list_all}
 use Rattle.std.specs.Str.{chars}
 use Rattle.std.proofs.lemmas.Iterator.{YieldsList-from_chars}
 use Rattle.std.proofs.lemmas.Iterator.Search.{all_from_yields_List}
-use Rattle.definitions.specs.Reading.{begins}
+use Rattle.reading.specs.Reading.{begins}
 use Rattle.edit_script.proofs.LineLaws.{no_hash_found}
 use Rattle.edit_script.proofs.lines.is_skipped.Goals as goal
 

@@ -1,7 +1,7 @@
 use Rattle.std.proofs.Common.{sym, subst, ◌∙◌, List, ℕ}
 use Rattle.std.specs.Str.{chars}
 use Rattle.xhtml_reader.proofs.Texts.{empty_chars, full_chars}
-use Rattle.edit_script.specs.Operands.{AreOperands, of_show}
+use Rattle.edit_script.specs.Machinery.Operands.{AreOperands, of_show}
 use Rattle.edit_script.specs.declared.action.Action.TheVariants as action
 use Rattle.edit_script.specs.declared.keyword.Keyword.TheVariants.{Show}
 use Rattle.edit_script.proofs.OperandLaws.{show_none}

@@ -1,7 +1,7 @@
 use Rattle.std.proofs.Common.{refl}
 use Rattle.std.specs.Str.{chars}
 use Rattle.std.proofs.lemmas.Str.{chars-nil}
-use Rattle.edit_script.specs.Words.{with_value, without_value}
+use Rattle.edit_script.specs.Machinery.Words.{with_value, without_value}
 use Rattle.edit_script.proofs.WordLaws.{lacks_all, split_is}
 use Rattle.edit_script.proofs.operands.split_value.Goals as goal
 

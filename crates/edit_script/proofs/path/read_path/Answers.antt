@@ -1,6 +1,6 @@
 use Rattle.std.proofs.Common.{sym, ◌∙◌}
 use Rattle.std.specs.Str.{chars}
-use Rattle.edit_script.specs.Words.{ArePositions, IsPathText}
+use Rattle.edit_script.specs.Machinery.Words.{ArePositions, IsPathText}
 use Rattle.edit_script.proofs.FaultLaws.{stopped}
 use Rattle.edit_script.proofs.PathLaws.{path-positions, path-root, slash-is, slash-no}
 use Rattle.edit_script.proofs.path.read_path.Goals as goal

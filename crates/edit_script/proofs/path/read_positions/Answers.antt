@@ -1,7 +1,7 @@
 use Rattle.std.proofs.Common.{sym}
 use Rattle.std.specs.Str.{chars}
 use Rattle.xhtml_reader.proofs.Texts.{full_chars, empty_chars}
-use Rattle.edit_script.specs.Words.{ArePositions, IsPositionFront}
+use Rattle.edit_script.specs.Machinery.Words.{ArePositions, IsPositionFront}
 use Rattle.edit_script.proofs.FaultLaws.{stopped}
 use Rattle.edit_script.proofs.PathLaws.{positions-end, positions-more, positions-next}
 use Rattle.edit_script.proofs.path.read_positions.Goals as goal

@@ -2,7 +2,7 @@ use Rattle.std.proofs.Common.{length}
 use denote.Text.{Utf8}
 use denote.Shadow.{shadow}
 use Rattle.std.specs.Str.{chars}
-use Rattle.edit_script.specs.Words.{HasPositions}
+use Rattle.edit_script.specs.Machinery.Words.{HasPositions}
 use Rattle.edit_script.proofs.path.read_positions.Given as goal
 
 abbrev pub invariant-positions : goal.invariant-positions

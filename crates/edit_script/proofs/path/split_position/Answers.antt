@@ -1,5 +1,5 @@
 use Rattle.std.specs.Str.{chars}
-use Rattle.edit_script.specs.Words.{IsPositionFront, IsPositionText}
+use Rattle.edit_script.specs.Machinery.Words.{IsPositionFront, IsPositionText}
 use Rattle.edit_script.proofs.FaultLaws.{stopped}
 use Rattle.edit_script.proofs.WordLaws.{position_front, position_digits}
 use Rattle.edit_script.proofs.path.split_position.Goals as goal

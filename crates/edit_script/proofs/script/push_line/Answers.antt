@@ -1,5 +1,5 @@
 use Rattle.std.proofs.Common.{sym, ◌∙◌}
-use Rattle.edit_script.specs.Reading.{adds_command}
+use Rattle.edit_script.specs.Machinery.Reading.{adds_command}
 use Rattle.edit_script.proofs.script.push_line.Goals as goal
 
 pub returns-in_ok-push-in-Ok-clause-ok : goal.returns-in_ok-push-in-Ok-clause-ok

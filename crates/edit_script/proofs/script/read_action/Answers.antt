@@ -1,7 +1,7 @@
 use Rattle.std.specs.Str.{chars}
 use Rattle.std.proofs.lemmas.Result.{IfErr-weaker, IfOk-weaker}
-use Rattle.edit_script.specs.Faults.{IsLineFault}
-use Rattle.edit_script.specs.Operands.{AreOperands}
+use Rattle.edit_script.specs.Machinery.LineFaults.{IsLineFault}
+use Rattle.edit_script.specs.Machinery.Operands.{AreOperands}
 use Rattle.edit_script.specs.Scripts.{IsCommand}
 use Rattle.edit_script.proofs.CommandLaws.{command_operands, found_command, no_keyword}
 use Rattle.edit_script.proofs.FaultLaws.{fault_of_whole}

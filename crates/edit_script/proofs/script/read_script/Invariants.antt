@@ -2,8 +2,8 @@ use Rattle.std.proofs.Common.{length}
 use denote.Text.{Utf8}
 use denote.Shadow.{shadow}
 use Rattle.std.specs.Str.{chars}
-use Rattle.definitions.specs.Prepared.{without_mark}
-use Rattle.edit_script.specs.Reading.{HasLines}
+use Rattle.xml_definitions.specs.Normalized.{without_mark}
+use Rattle.edit_script.specs.Machinery.Reading.{HasLines}
 use Rattle.edit_script.proofs.script.read_script.Given as goal
 
 abbrev pub invariant-lines : goal.invariant-lines

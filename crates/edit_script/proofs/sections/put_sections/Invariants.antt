@@ -1,7 +1,7 @@
 use Rattle.std.proofs.Common.{◌≡◌, ◌-◌}
 use Rattle.edit_script.specs.Draws.{state_after}
 use Rattle.edit_script.specs.Generator.{sections}
-use Rattle.edit_script.specs.Putting.{with_trees}
+use Rattle.edit_script.specs.Machinery.Putting.{with_trees}
 use Rattle.edit_script.proofs.sections.put_sections.Given as goal
 
 abbrev pub invariant-loop-number : goal.invariant-loop-number

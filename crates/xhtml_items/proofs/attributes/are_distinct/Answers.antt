@@ -1,6 +1,6 @@
 use Rattle.std.proofs.Common.{◌≡◌, ◌+◌, Bool, true, false, not, take, drop, refl, ap, sym, ◌∙◌, arith}
 use Rattle.std.proofs.lemmas.List.{take_all}
-use Rattle.xhtml_items.specs.Reading.{are_distinct}
+use Rattle.xhtml_items.specs.Machinery.Items.{are_distinct}
 use Rattle.xhtml_items.proofs.Names.{Seen-start, Seen-more, Seen-repeated, around, one_more}
 use Rattle.xhtml_items.proofs.attributes.are_distinct.Goals as goal
 

@@ -1,8 +1,9 @@
 use Rattle.std.specs.Str.{chars}
-use Rattle.definitions.specs.Spelling.{IsAttribute}
-use Rattle.xhtml_items.specs.Reading.{attribute_at}
+use Rattle.reading.proofs.Runs.{Goes-start, Goes-more, Goes-end, run_is}
+use Rattle.xml_definitions.specs.Spelling.{IsAttribute}
+use Rattle.xhtml_items.specs.Machinery.Items.{attribute_at}
 use Rattle.xhtml_items.proofs.AttributeLaws.{attribute_reader}
-use Rattle.xhtml_items.proofs.RunLaws.{Goes-start, Goes-more, Goes-end, shorter, run_at-is}
+use Rattle.xhtml_items.proofs.RunLaws.{shorter}
 use Rattle.xhtml_items.proofs.attributes.attributes.Goals as goal
 
 pub pieces-init : goal.pieces-init
@@ -24,4 +25,4 @@ pieces-preserved c =
 pub returns-clause-reads : goal.returns-clause-reads
 returns-clause-reads c =
     let reads = rw c.in_default.is at c.in_ok-attr.ensures.reads in
-    run_at-is IsAttribute attribute_at attribute_reader (Goes-end attribute_at _ _ _ c.pieces.invariant.goes reads)
+    run_is attribute_at (shorter IsAttribute attribute_at attribute_reader) (Goes-end attribute_at _ _ _ c.pieces.invariant.goes reads)

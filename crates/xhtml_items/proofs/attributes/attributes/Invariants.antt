@@ -2,8 +2,8 @@ use Rattle.std.proofs.Common.{length}
 use denote.Text.{Utf8}
 use denote.Shadow.{shadow}
 use Rattle.std.specs.Str.{chars}
-use Rattle.xhtml_items.specs.Reading.{attribute_at}
-use Rattle.xhtml_items.proofs.RunLaws.{Goes}
+use Rattle.reading.proofs.Runs.{Goes}
+use Rattle.xhtml_items.specs.Machinery.Items.{attribute_at}
 use Rattle.xhtml_items.proofs.attributes.attributes.Given as goal
 
 abbrev pub invariant-pieces : goal.invariant-pieces

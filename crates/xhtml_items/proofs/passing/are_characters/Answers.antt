@@ -1,6 +1,6 @@
 use Rattle.std.proofs.Common.{ap}
 use Rattle.std.specs.Str.{chars}
-use Rattle.definitions.specs.Characters.{is_character}
+use Rattle.xml_definitions.specs.Characters.{is_character}
 use Rattle.xhtml_items.proofs.PassLaws.{all_from_span}
 use Rattle.xhtml_items.proofs.passing.are_characters.Goals as goal
 

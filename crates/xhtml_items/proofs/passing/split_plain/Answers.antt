@@ -1,8 +1,8 @@
 use Rattle.std.proofs.Common.{◌≡◌, [], false, refl, sym, ◌∙◌}
 use Rattle.std.specs.Str.{chars}
 use Rattle.std.proofs.lemmas.Str.{IsCharBoundary-start, chars-nil}
-use Rattle.definitions.specs.Characters.{is_plain}
-use Rattle.xhtml_items.specs.Reading.{span}
+use Rattle.reading.specs.Reading.{span}
+use Rattle.xml_definitions.specs.Characters.{is_plain}
 use Rattle.xhtml_items.proofs.passing.split_plain.Goals as goal
 use Rattle.xhtml_items.proofs.passing.split_plain.Goals.{in_default-via-in-Some+else-is_plain, in_default-via-in_default}
 

@@ -2,11 +2,11 @@ use Rattle.std.proofs.Common.{length}
 use denote.Text.{Utf8}
 use denote.Shadow.{shadow}
 use Rattle.xhtml_items.proofs.Cuts.{Runs}
-use Rattle.xhtml_items.specs.Classes.{is_in}
+use Rattle.xhtml_items.specs.Classes.{is_of_class}
 use Rattle.xhtml_items.proofs.passing.split_run.Given as goal
 
 abbrev pub invariant-loop-c : goal.invariant-loop-c
-invariant-loop-c l = record { utf8 : shadow (Utf8 l.rest); runs : Runs (is_in l.class) l.text l.rest }
+invariant-loop-c l = record { utf8 : shadow (Utf8 l.rest); runs : Runs (is_of_class l.class) l.text l.rest }
 
 abbrev pub decreases-loop-c : goal.decreases-loop-c
 decreases-loop-c l = length l.rest

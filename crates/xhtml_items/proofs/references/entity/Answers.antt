@@ -1,5 +1,5 @@
 use Rattle.std.proofs.Common.{◌∙◌, sym}
-use Rattle.definitions.specs.Spelling.{entities}
+use Rattle.xml_definitions.specs.Spelling.{entities}
 use Rattle.xhtml_items.proofs.Texts.{entity_by_bytes}
 use Rattle.xhtml_items.proofs.references.entity.Goals as goal
 

@@ -1,5 +1,5 @@
 use Rattle.std.proofs.Common.{sym, ap, ◌∙◌}
-use Rattle.definitions.specs.Spelling.{is_legal}
+use Rattle.xml_definitions.specs.Spelling.{is_legal}
 use Rattle.xhtml_items.proofs.Numbers.{numbered_none, numbered_some, numbered_not, not_scalar}
 use Rattle.xhtml_items.proofs.references.numbered.Goals as goal
 

@@ -2,7 +2,7 @@ use Rattle.std.proofs.Common.{◌≡◌, drop}
 use denote.Text.{Utf8}
 use denote.Shadow.{shadow}
 use Rattle.std.specs.Str.{chars}
-use Rattle.xhtml_items.specs.Reading.{past_capitals}
+use Rattle.xhtml_items.specs.Machinery.Items.{past_capitals}
 use Rattle.xhtml_items.proofs.text.past_capitals.Given as goal
 
 abbrev pub invariant-loop-letter : goal.invariant-loop-letter

@@ -1,6 +1,6 @@
 use Rattle.std.proofs.Common.{◌∷◌, [], true, sym, ◌∙◌, refl, ap}
-use Rattle.definitions.specs.Items.{plain_character}
-use Rattle.xhtml_reader.specs.Keeping.{kept}
+use Rattle.xml_definitions.specs.Items.{plain_character}
+use Rattle.xhtml_reader.specs.Machinery.Keeping.{kept}
 use Rattle.xhtml_reader.proofs.Keeps.{added_left, moved, waits_more}
 use Rattle.xhtml_reader.proofs.open_tree.OpenTree.add_character.Goals as goal
 

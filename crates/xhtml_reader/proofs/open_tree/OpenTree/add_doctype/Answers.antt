@@ -1,5 +1,5 @@
 use Rattle.std.proofs.Common.{sym, ◌∙◌}
-use Rattle.xhtml_reader.specs.Keeping.{kept}
+use Rattle.xhtml_reader.specs.Machinery.Keeping.{kept}
 use Rattle.xhtml_reader.proofs.Keeps.{added_doctype}
 use Rattle.xhtml_reader.proofs.open_tree.OpenTree.add_doctype.Goals as goal
 

@@ -1,8 +1,8 @@
 use Rattle.std.proofs.Common.{◌≡◌, ◌-◌, sym, ◌∙◌, ap}
 use Rattle.std.specs.Str.{chars}
 use Rattle.plain_types.specs.Building.{Building}
-use Rattle.definitions.specs.Items.{empty_tag}
-use Rattle.xhtml_reader.specs.Keeping.{kept, with_text}
+use Rattle.xml_definitions.specs.Items.{empty_tag}
+use Rattle.xhtml_reader.specs.Machinery.Keeping.{kept, with_text}
 use Rattle.xhtml_reader.proofs.Keeps.{added_empty, ends_again, moved, with_element}
 use Rattle.xhtml_reader.proofs.open_tree.OpenTree.add_empty.Goals as goal
 

@@ -2,8 +2,8 @@ use Rattle.std.proofs.Common.{◌≡◌, ◌++◌, ◌∷◌, ◌-◌, [], sym, 
 use Rattle.std.specs.Str.{chars, encode_utf8_all}
 use Rattle.std.proofs.lemmas.Str.{encodes-chars}
 use Rattle.plain_types.specs.Building.{Building}
-use Rattle.definitions.specs.Items.{end_tag}
-use Rattle.xhtml_reader.specs.Keeping.{kept, name_bytes, with_text}
+use Rattle.xml_definitions.specs.Items.{end_tag}
+use Rattle.xhtml_reader.specs.Machinery.Keeping.{kept, name_bytes, with_text}
 use Rattle.xhtml_reader.proofs.Keeps.{added_end, moved, names_last, names_popped, not_same, is_same, refused_end}
 use Rattle.xhtml_reader.proofs.open_tree.OpenTree.add_end.Goals as goal
 

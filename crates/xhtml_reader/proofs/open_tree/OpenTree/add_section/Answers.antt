@@ -1,7 +1,7 @@
 use Rattle.std.proofs.Common.{not, sym, ◌∙◌, refl, ap}
 use Rattle.std.specs.Str.{chars}
-use Rattle.definitions.specs.Items.{section}
-use Rattle.xhtml_reader.specs.Keeping.{kept}
+use Rattle.xml_definitions.specs.Items.{section}
+use Rattle.xhtml_reader.specs.Machinery.Keeping.{kept}
 use Rattle.xhtml_reader.proofs.Keeps.{added_left, refused_left, moved, waits_more, not_true, not_false}
 use Rattle.xhtml_reader.proofs.Texts.{empty_chars, full_chars}
 use Rattle.xhtml_reader.proofs.open_tree.OpenTree.add_section.Goals as goal

@@ -1,7 +1,7 @@
 use Rattle.std.proofs.Common.{◌≡◌, sym, ◌∙◌}
 use Rattle.std.specs.Str.{chars}
-use Rattle.definitions.specs.Items.{start_tag}
-use Rattle.xhtml_reader.specs.Keeping.{kept, with_text}
+use Rattle.xml_definitions.specs.Items.{start_tag}
+use Rattle.xhtml_reader.specs.Machinery.Keeping.{kept, with_text}
 use Rattle.xhtml_reader.proofs.Keeps.{added_start, moved, names_pushed, with_element}
 use Rattle.xhtml_reader.proofs.open_tree.OpenTree.add_start.Goals as goal
 

@@ -1,9 +1,9 @@
 use Rattle.std.proofs.Common.{sym, ◌∙◌, ap}
 use Rattle.std.specs.Str.{chars}
-use Rattle.definitions.specs.Characters.{is_plain}
+use Rattle.xml_definitions.specs.Characters.{is_plain}
 use Rattle.xhtml_items.specs.Tokens.{item_of}
-use Rattle.xhtml_items.proofs.ItemLaws.{item_shorter}
-use Rattle.xhtml_reader.specs.Keeping.{kept}
+use Rattle.xhtml_items.proofs.ItemLaws.{begins_shorter}
+use Rattle.xhtml_reader.specs.Machinery.Keeping.{kept}
 use Rattle.xhtml_reader.proofs.Advances.{spanned, after_some, run_fits, item_fits, sound_names}
 use Rattle.xhtml_reader.proofs.Texts.{full_chars}
 use Rattle.xhtml_reader.proofs.open_tree.OpenTree.advance.Goals as goal
@@ -20,12 +20,12 @@ returns-then-not-is_empty-clause-shorter c =
     (full_chars _ c.split_plain.ensures.front (sym c.is_empty.ensures ∙ c.if-not-is_empty.true))
 
 pub add-requires : goal.add-requires
-add-requires c = sound_names (chars c.args.text.now) c.in-Ok-Some.token (chars c.in-Ok-Some.after.now) (rw c.in-Ok-Some.field-0-is at c.in-Ok-Some.ensures.reads)
+add-requires c = sound_names (chars c.args.text.now) c.in-Ok-Some.token (chars c.in-Ok-Some.after.now) (rw c.in-Ok-Some.field-0-is at c.in-Ok-Some.ensures.item)
 
 pub returns-then-branch-clause-advances : goal.returns-then-branch-clause-advances
 returns-then-branch-clause-advances c =
-    item_fits (kept c.args.self.now) (kept c.add.new.self) (chars c.args.text.now) (item_of c.in-Ok-Some.token) (chars c.in-Ok-Some.after.now) (rw c.in-Ok-Some.field-0-is at c.in-Ok-Some.ensures.reads)
+    item_fits (kept c.args.self.now) (kept c.add.new.self) (chars c.args.text.now) (item_of c.in-Ok-Some.token) (chars c.in-Ok-Some.after.now) (rw c.in-Ok-Some.field-0-is at c.in-Ok-Some.ensures.item)
     (rw c.if-branch.true at c.in_ok-add-in-Ok-Some.ensures.adds)
 
 pub returns-then-branch-clause-shorter : goal.returns-then-branch-clause-shorter
-returns-then-branch-clause-shorter c = item_shorter (chars c.args.text.now) (item_of c.in-Ok-Some.token, chars c.in-Ok-Some.after.now) (rw c.in-Ok-Some.field-0-is at c.in-Ok-Some.ensures.reads)
+returns-then-branch-clause-shorter c = begins_shorter (chars c.args.text.now) (item_of c.in-Ok-Some.token) (chars c.in-Ok-Some.after.now) (rw c.in-Ok-Some.field-0-is at c.in-Ok-Some.ensures.item)
