@@ -7,7 +7,7 @@ use Rattle.std.proofs.lemmas.Slice.Eq.{bytes_eq-Decides}
 use Rattle.plain_types.specs.Tree.{HasDistinctNames}
 use Rattle.plain_types.specs.declared.attr.Attr.{Attr}
 use Rattle.node_arena.specs.Edits.{with_attr, without_attr}
-use Rattle.node_arena.specs.Nodes.{is_named}
+use Rattle.plain_types.specs.Attributes.{is_named}
 use Rattle.node_arena.proofs.NodeLaws.{find-more}
 
 -- How far the copies are: an attribute of the name was met, or not yet.

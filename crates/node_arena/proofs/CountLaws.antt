@@ -60,6 +60,9 @@ some-entry : (o : Option Entry) → is_some (option_map links_of o) ≡ true →
 some-entry None e = absurd (cc)
 some-entry (Some entry) e = refl
 
+pub entry-used : (nodes : Slab Entry) (f : Forest (Keyed Node)) (p : Option ℕ) (i q : ℕ) → HasEntries (links_in nodes) p i f → 0 < times q f → is_some (get nodes q) ≡ true
+entry-used nodes f p i q h more = some-entry (get nodes q) (node-there (links_in nodes) f p i q h more)
+
 -- a forest whose nodes have entries has no more nodes than there are entries
 pub there-small : (nodes : Slab Entry) (f : Forest (Keyed Node)) → ((key : ℕ) → 0 < times key f → is_some (links_in nodes key) ≡ true) → HasDistinctKeys f → size f ≤ slab_len nodes
 there-small nodes f there d =

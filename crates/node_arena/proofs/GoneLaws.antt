@@ -1,5 +1,5 @@
 -- Which nodes a change brings back.
-use Rattle.std.proofs.Common.{◌≡◌, ◌==◌, ◌<◌, ◌≤◌, ◌+◌, ◌⊎◌, ℕ, zero, suc, cond, is_some, [], ◌∷◌, Some, None, refl, sym, ap, subst, ◌∙◌, inl, inr, arith, true, false, Result, Ok, Err, OnErr}
+use Rattle.std.proofs.Common.{◌≡◌, ◌==◌, ◌<◌, ◌≤◌, ◌+◌, ◌⊎◌, ℕ, zero, suc, cond, is_some, [], ◌∷◌, Some, None, refl, sym, ap, subst, ◌∙◌, inl, inr, arith, false, Result, Ok, Err, OnErr}
 use Rattle.forest.specs.Forest.{Forest, Empty, Tree, weigh}
 use Rattle.forest.specs.Keys.{Keyed, times, HasDistinctKeys}
 use Rattle.forest.specs.Spots.{children_of, on_link, root_keys}
@@ -12,12 +12,11 @@ use Rattle.node_arena.specs.declared.change.ChildPlace.{ChildPlace}
 use Rattle.node_arena.specs.AtPaths.{with_tree}
 use Rattle.node_arena.specs.Changes.{hung, cut, aside, alone, changed, IsFreePlace, KeepsEntries, CanChange, IsChanged, IsKept, GivesUp, Prepares}
 use Rattle.node_arena.specs.Document.{Document, IsKeyedDocument}
-use Rattle.node_arena.specs.Reversals.{is_used, IsOnlyIn, FreesGone}
+use Rattle.node_arena.specs.Reversals.{is_used, IsOnlyIn, FreesGone, Reserves}
 use Rattle.node_arena.proofs.RelabelLaws.{times-put_label}
 use Rattle.node_arena.proofs.SoundLaws.{element-spot}
 use Rattle.node_arena.proofs.TakeLaws.{taken, weigh-taken, branch-is}
 use Rattle.plain_types.specs.declared.edit.Edit.{Edit}
-use Rattle.slab.specs.Slab.{get}
 
 weigh-with_tree : (w : Keyed Node → ℕ) (i : ℕ) (t c : Forest (Keyed Node)) → weigh w (with_tree i t c) ≡ weigh w c + weigh w (alone t)
 weigh-with_tree w i Empty c = omega arith
@@ -109,9 +108,13 @@ pub fresh-used : (edit : Edit) (old new : Document) (change : Change) → IsKeye
 unfolding is_used
 fresh-used edit old new change d same h key gone = ap (λ o. is_some o) (h.fresh key (gone-kept new change key d h.can (subst (λ t. IsOnlyIn (changed new change) t key) (sym same) gone)))
 
-pub used-more : (old new : Document) → ((key : ℕ) → is_some (get old.entries key) ≡ true → is_some (get new.entries key) ≡ true) → (key : ℕ) → is_used old key ≡ true → is_used new key ≡ true
+-- and no other key is used more or less
+pub reserves-used : (edit : Edit) (old new : Document) (change : Change) → IsKeyedDocument new.tree → new.tree ≡ old.tree → Prepares edit old new change → Reserves old.tree (changed new change) old new
 unfolding is_used
-used-more old new h key used = h key used
+reserves-used edit old new change d same h = record {
+  reserved = λ key gone. h.reserved key (gone-kept new change key d h.can (subst (λ t. IsOnlyIn (changed new change) t key) (sym same) gone));
+  others = λ key none. h.others key (λ kept. none (subst (λ t. IsOnlyIn (changed new change) t key) same (kept-gone new change key d h.can kept)));
+}
 
 pub on-error : {T E : Type 0} (r : Result T E) (P : Type 0) → P → OnErr r P
 on-error (Ok x) P h = tt

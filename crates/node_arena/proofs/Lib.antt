@@ -23,3 +23,4 @@ pub mod UnderLaws
 pub mod AddLaws
 pub mod KeyAtLaws
 pub mod MoveLaws
+pub mod KeyLaws

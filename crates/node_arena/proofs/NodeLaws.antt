@@ -6,7 +6,7 @@ use Rattle.std.proofs.lemmas.Bool.Decides.{same_from_decides}
 use Rattle.std.proofs.lemmas.List.{take_more}
 use Rattle.std.proofs.lemmas.Slice.Eq.{bytes_eq-Decides}
 use Rattle.plain_types.specs.declared.attr.Attr.{Attr}
-use Rattle.node_arena.specs.Nodes.{is_named, value_of}
+use Rattle.plain_types.specs.Attributes.{is_named, value_of}
 
 -- two texts have the same bytes where they have the same characters
 pub same-test : (x y a b : List ℕ) → chars x ≡ a → x ≡ encode_utf8_all a → chars y ≡ b → y ≡ encode_utf8_all b → pointwise nat_eq x y ≡ pointwise nat_eq a b

@@ -40,6 +40,7 @@ use Rattle.node_arena.specs.declared.entry.Entry.{Entry}
 use Rattle.node_arena.specs.Added.{IsAdded}
 use Rattle.node_arena.specs.Entries.{links_of, links_in, tree_in, IsArena}
 use Rattle.node_arena.proofs.AddLaws.{tree-added}
+use Rattle.node_arena.proofs.CountLaws.{entry-used}
 use Rattle.node_arena.proofs.CutLaws.{bodies-entries}
 use Rattle.node_arena.proofs.FreeLaws.{listed-contains, contains-listed}
 use Rattle.node_arena.proofs.StepLaws.{seen}
@@ -63,6 +64,8 @@ prepares-set document path name value tag attrs q d is label = record {
   };
   edits = is-edited (SetAttr path name value) document.tree (put_label q (Element tag (with_attr name value attrs)) document.tree) (relabelled-is (set_attr name value) document.tree path q (Element tag attrs) d.distinct is label);
   fresh = λ key never. absurd never;
+  reserved = λ key never. absurd never;
+  others = λ key none. refl;
 }
 
 pub prepares-unset : (document : Document) (path name tag : List ℕ) (attrs : List Attr) (q : ℕ) → IsKeyedDocument document.tree → key_at document.tree path ≡ Some q → Some (Element tag attrs) ≡ label_of document.tree q
@@ -75,6 +78,8 @@ prepares-unset document path name tag attrs q d is label = record {
   };
   edits = is-edited (UnsetAttr path name) document.tree (put_label q (Element tag (without_attr name attrs)) document.tree) (relabelled-is (unset_attr name) document.tree path q (Element tag attrs) d.distinct is label);
   fresh = λ key never. absurd never;
+  reserved = λ key never. absurd never;
+  others = λ key none. refl;
 }
 
 -- A node that isn't the root.
@@ -115,6 +120,8 @@ prepares-removal document path q place list d is h all = record {
   can = record { stands = h; listed = all };
   edits = is-edited (Remove path) document.tree (cut place document.tree) (sym (removed-is document.tree path q place d is h));
   fresh = λ key never. absurd never;
+  reserved = λ key never. absurd never;
+  others = λ key none. refl;
 }
 
 -- Moves.
@@ -186,16 +193,18 @@ prepares-move document from parent index q t place d is stands above allowed roo
       };
       edits = is-edited (Move from parent index) f (hung to (on_link f (Some q)) rest) led;
       fresh = λ key never. absurd never;
+      reserved = λ key never. absurd never;
+      others = λ key none. refl;
     }
 
 -- the same of a document whose tree is as before
-pub prepares-move-in : (old document : Document) (from parent : List ℕ) (index q t : ℕ) (place : ChildPlace) → document.tree ≡ old.tree → IsKeyedDocument old.tree → key_at old.tree from ≡ Some q → HasPlace old.tree q place → key_at old.tree parent ≡ Some t
+pub prepares-move-in : (old document : Document) (from parent : List ℕ) (index q t : ℕ) (place : ChildPlace) → document.tree ≡ old.tree → KeepsEntries old document → IsKeyedDocument old.tree → key_at old.tree from ≡ Some q → HasPlace old.tree q place → key_at old.tree parent ≡ Some t
     → move_fault from parent index (without_keys old.tree) ≡ None → HasRoom document.entries t
     → Prepares (Move from parent index) old document (MoveChild q place (record { parent = t; index = index }))
-prepares-move-in old document from parent index q t place same d is stands above allowed room =
+prepares-move-in old document from parent index q t place same keep d is stands above allowed room =
     let change : Change = MoveChild q place (record { parent = t; index = index }) in
     let h = prepares-move document from parent index q t place (subst IsKeyedDocument (sym same) d) (subst (λ f. key_at f from ≡ Some q) (sym same) is) (subst (λ f. HasPlace f q place) (sym same) stands) (subst (λ f. key_at f parent ≡ Some t) (sym same) above) (subst (λ f. move_fault from parent index (without_keys f) ≡ None) (sym same) allowed) room in
-    record { can = h.can; edits = subst (λ f. IsEdited (Move from parent index) f (changed document change)) same h.edits; fresh = λ key never. absurd never }
+    record { can = h.can; edits = subst (λ f. IsEdited (Move from parent index) f (changed document change)) same h.edits; fresh = λ key never. absurd never; reserved = λ key never. absurd never; others = λ key none. keep key }
 
 -- Insertions.
 
@@ -223,6 +232,7 @@ keeps-aside nodes new root document tree all key arena view h =
       listed = λ x. h.listed x ∙ sym (ap (times x) its);
       tree_is = ap (λ g. without_keys g) its ∙ h.tree_is;
       fresh = λ x more. none x (subst (λ g. 0 < times x g) its more);
+      reserved = λ x more. entry-used new t None 0 x h.holds.entries (subst (λ g. 0 < times x g) its more);
       others = λ x few. h.only.others x (λ in_all. absurd (let more = contains-listed all t x h.listed in_all in let same = ap (times x) its in omega arith));
     }
     )
@@ -241,12 +251,6 @@ module _ (mid new : Document) (fragment : Forest Node) (keys : List ℕ) (key : 
   room-kept t room = elim (cases_lt 0 (times t (aside new key))) [
     | inl more ↦ absurd (none-room (get mid.entries t) (h.fresh t more) room)
     | inr few ↦ subst (λ (o : Option Entry). IsSomeAnd o (λ (entry : Entry). length entry.children.items < vec_capacity entry.children)) (sym (h.others t (omega arith))) room
-  ]
-
-  pub used-kept : (old : Document) → KeepsEntries old mid → (x : ℕ) → is_some (get old.entries x) ≡ true → is_some (get new.entries x) ≡ true
-  used-kept old same x used = elim (cases_lt 0 (times x (aside new key))) [
-    | inl more ↦ absurd (let none : is_some (get mid.entries x) ≡ false = ap (λ o. is_some o) (h.fresh x more) in let some : is_some (get mid.entries x) ≡ true = same x ∙ used in let e : false ≡ true = sym none ∙ some in cc)
-    | inr few ↦ ap (λ o. is_some o) (h.others x (omega arith)) ∙ same x ∙ used
   ]
 
   pub prepares-insertion : (old : Document) (parent : List ℕ) (index t : ℕ) (list : Vec ℕ Global) → list.items ≡ keys → mid.tree ≡ old.tree → new.tree ≡ mid.tree → KeepsEntries old mid → IsKeyedDocument old.tree → key_at old.tree parent ≡ Some t → is_element_at parent (without_keys old.tree) ≡ true
@@ -269,4 +273,6 @@ module _ (mid new : Document) (fragment : Forest Node) (keys : List ℕ) (key : 
         };
         edits = is-edited (Insert parent index fragment) f (hung place added new.tree) (added, h.tree_is, apart, led);
         fresh = λ x more. no-some (get old.entries x) (sym (same x) ∙ ap (λ o. is_some o) (h.fresh x more));
+        reserved = h.reserved;
+        others = λ x none. ap (λ o. is_some o) (h.others x (elim (cases_lt 0 (times x added)) [ inl more ↦ absurd (none more) | inr few ↦ omega arith ])) ∙ same x;
       }

@@ -1,5 +1,5 @@
 -- What a prepared change of an arena's nodes makes of its tree, and when it can be done.
-use Rattle.std.specs.Prelude.{◌≡◌, ◌≢◌, ◌<◌, ◌≤◌, ◌==◌, ℕ, List, [], ◌∷◌, count_by, Option, Some, None, is_some, IsSomeAnd, IsTrue}
+use Rattle.std.specs.Prelude.{◌≡◌, ◌≢◌, ◌<◌, ◌≤◌, ◌==◌, ℕ, List, [], ◌∷◌, count_by, Option, Some, None, is_some, true, IsSomeAnd, IsTrue}
 use Rattle.forest.specs.Forest.{Forest, Empty, Tree}
 use Rattle.forest.specs.Keys.{Keyed, times, without_keys}
 use Rattle.forest.specs.Spots.{root_keys, IsLive, label_of, parent_of, index_of, children_of, child_count_of, on_link}
@@ -164,11 +164,13 @@ pub record GivesUp (old new : Document) (change : Change) : Type 0 where
   pub others : (key : ℕ) → (IsKept old change key → ⊥) → get new.entries key ≡ get old.entries key
 
 -- the change can be done, and does what the edit does to the old tree; the nodes that it puts in have keys
--- that weren't used
+-- that weren't used and are now, and no other key is used more or less
 pub record Prepares (edit : Edit) (old new : Document) (change : Change) : Type 0 where
   pub can : CanChange new change
   pub edits : IsEdited edit old.tree (changed new change)
   pub fresh : (key : ℕ) → IsKept new change key → get old.entries key ≡ None
+  pub reserved : (key : ℕ) → IsKept new change key → is_some (get new.entries key) ≡ true
+  pub others : (key : ℕ) → (IsKept new change key → ⊥) → is_some (get new.entries key) ≡ is_some (get old.entries key)
 
 -- a tree is kept aside, under keys that weren't used
 pub record KeepsAside (old new : Document) (tree : Forest Node) (keys : List ℕ) (key : ℕ) : Type 0 where
@@ -176,4 +178,5 @@ pub record KeepsAside (old new : Document) (tree : Forest Node) (keys : List ℕ
   pub listed : AreKeysOf keys (aside new key)
   pub tree_is : without_keys (aside new key) ≡ tree
   pub fresh : (other : ℕ) → 0 < times other (aside new key) → get old.entries other ≡ None
+  pub reserved : (other : ℕ) → 0 < times other (aside new key) → is_some (get new.entries other) ≡ true
   pub others : (other : ℕ) → times other (aside new key) ≡ 0 → get new.entries other ≡ get old.entries other

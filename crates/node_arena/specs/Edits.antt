@@ -12,7 +12,7 @@ use Rattle.node_arena.specs.declared.place_fault.PlaceFault.{PlaceFault}
 use Rattle.node_arena.specs.declared.place_fault.PlaceFault.TheVariants.{NoPlace, IntoItself}
 use Rattle.node_arena.specs.AtPaths.{label_at, child_count_at, inserted_at, removed_at, relabelled_at, moved, leads_into, once_out}
 use Rattle.node_arena.specs.Copies.{is_element}
-use Rattle.node_arena.specs.Nodes.{is_named}
+use Rattle.plain_types.specs.Attributes.{is_named}
 
 -- Attributes.
 

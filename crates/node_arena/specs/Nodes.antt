@@ -1,10 +1,10 @@
 -- What a node has of its own: DOM, 4.9 "Interface Element" and 4.11 "Interface Text".
-use Rattle.std.specs.Prelude.{ℕ, nat_eq, Bool, List, [], Option, Some, None, option_map, option_and_then, unwrap_or, find}
-use Rattle.std.specs.Cmp.Lexicographic.{pointwise}
+use Rattle.std.specs.Prelude.{ℕ, List, [], Option, Some, None, option_map, option_and_then, unwrap_or}
 use Rattle.forest.specs.Forest.{Forest}
 use Rattle.forest.specs.Keys.{Keyed}
 use Rattle.forest.specs.Spots.{label_of}
 use Rattle.plain_types.specs.declared.attr.Attr.{Attr}
+use Rattle.plain_types.specs.Attributes.{value_of}
 use Rattle.plain_types.specs.declared.node.Node.{Node}
 use Rattle.plain_types.specs.declared.node.Node.TheVariants.{Element, Text}
 
@@ -22,14 +22,6 @@ node_characters (Text characters) = Some characters
 abbrev pub node_attrs : Node → List Attr
 node_attrs (Element name attrs) = attrs
 node_attrs (Text characters) = []
-
--- the attribute is of this name, compared as written
-abbrev pub is_named : List ℕ → Attr → Bool
-is_named name attr = pointwise nat_eq attr.name name
-
--- the value of the attribute of this name
-abbrev pub value_of : List ℕ → List Attr → Option (List ℕ)
-value_of name attrs = option_map (λ (attr : Attr). attr.value) (find (is_named name) attrs)
 
 -- The same of the node of this key.
 

@@ -6,6 +6,7 @@ ghost use Rattle.forest.specs.Paths.{key_at};
 ghost use Rattle.node_arena.specs.Edits.{place_fault, move_fault, is_element_at, is_inner_at, has_room_at, no_place_unless};
 
 use crate::arena::Arena;
+use crate::laws::arena_holds_document;
 use crate::place_fault::PlaceFault;
 use plain_types::edit::Edit;
 use plain_types::node::Node;
@@ -77,7 +78,7 @@ impl Arena {
     fn has_room_at(&self, parent: &Path, index: usize) -> bool
         ensures { result ≡ (is_element_at parent.now (without_keys self.now.tree) && has_room_at parent.now index (without_keys self.now.tree)) }
     {
-        let _root = self.root();
+        arena_holds_document(self);
         match self.element_at(parent) {
             Some(key) => index <= self.child_count(key),
             None => false,
@@ -87,7 +88,7 @@ impl Arena {
     fn move_fault(&self, from: &Path, parent: &Path, index: usize) -> Option<PlaceFault>
         ensures { result ≡ move_fault from.now parent.now index (without_keys self.now.tree) }
     {
-        let _root = self.root();
+        arena_holds_document(self);
         let (Some(key), Some(target)) = (self.inner_at(from), self.element_at(parent)) else {
             return Some(PlaceFault::NoPlace);
         };

@@ -12,9 +12,11 @@ ghost use Rattle.node_arena.specs.Copies.{PutsNode};
 ghost use Rattle.node_arena.specs.Document.{IsKeyedDocument, HasElementRoot};
 ghost use Rattle.node_arena.specs.Nodes.{name_of, characters_of, attrs_of, attr_of};
 ghost use Rattle.node_arena.specs.Entries.{IsEntryOf};
+ghost use Rattle.node_arena.specs.Reversals.{IsSettled};
 
 use crate::add_tree::add_tree;
 use crate::entry::Entry;
+use crate::laws::arena_holds_document;
 use plain_types::attr::Attr;
 use plain_types::duplicate::Duplicate;
 use plain_types::memory::Memory;
@@ -61,11 +63,12 @@ pub fn has_element_root(tree: &Tree) -> bool
 }
 
 impl Arena {
-    /// An arena that stands for the tree, whose root is an element. Its keys are the arena's choice.
+    /// An arena that stands for the tree, whose root is an element. Its keys are the arena's choice, one a node.
     /// It takes memory of the size of the tree, and time linear in it; `Memory` where that is wanting.
     pub fn from_tree(alloc: Global, tree: &Tree) -> Result<Arena, Memory>
         requires element { HasElementRoot tree.now }
         ensures tree { IfOk result (λ arena. without_keys arena.tree ≡ tree.now) }
+        ensures settled { IfOk result (λ arena. IsSettled arena) }
     {
         let mut nodes = Slab::with_capacity(alloc, tree.len())?;
         let (root, _keys) = add_tree(alloc, &mut nodes, tree)?;
@@ -122,9 +125,6 @@ impl Arena {
     }
 
     /// The key of the root element. Constant time.
-    ///
-    /// Its contract also tells what holds of every document. A method that begins with a call of it does
-    /// so for these facts.
     pub fn root(&self) -> usize
         ensures root { Some result ≡ first_key self.now.tree }
         ensures live { IsLive self.now.tree result }
@@ -234,7 +234,7 @@ impl Arena {
         ensures link { result ≡ next_in_order_of self.now.tree key }
         ensures live { IsLink self.now.tree result }
     {
-        let _root = self.root();
+        arena_holds_document(self);
         if let Some(child) = self.first_child(key) {
             return Some(child);
         }
@@ -305,7 +305,7 @@ impl Arena {
         requires { IsLive self.now.tree key }
         ensures { result ≡ length (route_of self.now.tree key) }
     {
-        let _root = self.root();
+        arena_holds_document(self);
         let mut level = 1;
         let mut at = key;
         'climb: while let Some(parent) = self.parent(at) {
@@ -322,7 +322,7 @@ impl Arena {
         ensures live { IsLive self.now.tree result }
         ensures route { route_of self.now.tree result ≡ take (length (route_of self.now.tree key) - steps) (route_of self.now.tree key) }
     {
-        let _root = self.root();
+        arena_holds_document(self);
         let mut at = key;
         'climb: for _step in 0..steps {
             if let Some(parent) = self.parent(at) {
@@ -340,7 +340,7 @@ impl Arena {
         ensures some { IfSome result (AreDistinctParents self.now.tree first second) }
         ensures none { IfNone result (parent_of self.now.tree first ≡ parent_of self.now.tree second) }
     {
-        let _root = self.root();
+        arena_holds_document(self);
         let above_first = self.parent(first)?;
         let above_second = self.parent(second)?;
         (above_first != above_second).then_some((above_first, above_second))
@@ -353,7 +353,7 @@ impl Arena {
         requires level { length (route_of self.now.tree first) ≡ length (route_of self.now.tree second) }
         ensures { result ≡ comes_before (route_of self.now.tree first) (route_of self.now.tree second) }
     {
-        let _root = self.root();
+        arena_holds_document(self);
         let mut left = first;
         let mut right = second;
         'climb: while let Some((above_left, above_right)) = self.distinct_parents(left, right) {
@@ -370,7 +370,7 @@ impl Arena {
         requires second { IsLive self.now.tree second }
         ensures { IsTrue result ↔ Precedes self.now.tree first second }
     {
-        let _root = self.root();
+        arena_holds_document(self);
         let first_level = self.level(first);
         let second_level = self.level(second);
         let common = first_level.min(second_level);
@@ -387,7 +387,7 @@ impl Arena {
         requires { IsLive self.now.tree key }
         ensures path { IfOk result (λ path. path ≡ path_of self.now.tree key) }
     {
-        let _root = self.root();
+        arena_holds_document(self);
         let mut steps = Vec::new(alloc);
         let mut at = key;
         'climb: while let Some(parent) = self.parent(at) {

@@ -2,7 +2,7 @@
 
 ghost use Rattle.std.specs.Prelude.{◌≡◌, ◌&&◌, not, IfOk, if◌then◌else◌};
 ghost use Rattle.node_arena.specs.Edits.{with_attr, without_attr};
-ghost use Rattle.node_arena.specs.Nodes.{is_named};
+ghost use Rattle.plain_types.specs.Attributes.{is_named};
 
 use plain_types::attr::Attr;
 use plain_types::duplicate::Duplicate;

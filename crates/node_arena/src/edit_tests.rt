@@ -16,6 +16,7 @@ use plain_types::text::Text;
 use plain_types::tree::Tree;
 use plain_types::tree_builder::TreeBuilder;
 use std::alloc::Global;
+use std::fmt::InlineText;
 use std::test::Fail;
 
 const NO_PLACE: &str = "no place";
@@ -472,5 +473,15 @@ fn keys_of_new_nodes(rt: HostRuntime) -> Result<(), Fail> {
         fragment,
     };
     assert!(rt; keys_are_new(rt.alloc(), &mut arena, &removal, &insertion)?);
+    Ok(())
+}
+
+/// Each fault, in words for a person.
+#[test]
+fn faults_have_messages(rt: HostRuntime) -> Result<(), Fail> {
+    let message: InlineText<64> = InlineText::of(PlaceFault::NoPlace);
+    assert_eq!(rt; message.as_str(), "the edit has no place in the document");
+    let message: InlineText<64> = InlineText::of(PlaceFault::IntoItself);
+    assert_eq!(rt; message.as_str(), "a node can't be moved into itself");
     Ok(())
 }

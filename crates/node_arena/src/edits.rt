@@ -4,6 +4,7 @@ ghost use Rattle.std.specs.Prelude.{◌≡◌, ℕ};
 ghost use Rattle.node_arena.specs.Reversals.{IsReady, tree_after, IsReversal, tree_before, is_used, FreesGone};
 
 use crate::arena::Arena;
+use crate::laws::arena_holds_document;
 use crate::prepared::Prepared;
 use crate::reversal::Reversal;
 
@@ -34,7 +35,7 @@ impl Arena {
     {
         let Reversal { change } = reversal;
         let undone = self.apply(change);
-        let _root = self.root();
+        arena_holds_document(self);
         self.give_up(&undone);
     }
 
@@ -45,7 +46,7 @@ impl Arena {
         ensures tree { self.new.tree ≡ self.old.tree }
         ensures freed { FreesGone (tree_before self.old reversal) self.old.tree self.old self.new }
     {
-        let _root = self.root();
+        arena_holds_document(self);
         let Reversal { change } = reversal;
         self.give_up(&change);
     }

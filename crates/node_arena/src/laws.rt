@@ -1,6 +1,17 @@
-//! Laws of keyed trees. The functions do nothing: each contract is a law, proved of every document.
+//! Laws of arenas and of their trees. The functions do nothing: each contract is a law, proved of every document.
 
+ghost use Rattle.node_arena.specs.Document.{IsKeyedDocument};
 ghost use Rattle.node_arena.specs.Laws.{OfEachDocument, EachNodeHasAPath, EachPathIsItsNodes, IsOrderTotal, IsOrderStrict, IsOrderTransitive, ArePlacesByKey};
+
+use crate::arena::Arena;
+
+/// An arena holds a document: no two nodes have one key, the one root is an element, texts have no children, and
+/// the attributes of an element differ in name.
+pub fn arena_holds_document(arena: &Arena)
+    ensures document { IsKeyedDocument arena.now.tree }
+{
+    let _root = arena.root;
+}
 
 /// A path leads to at most one node, and a node has one path.
 pub fn paths_name_nodes()

@@ -9,9 +9,9 @@
 //! Contracts see an arena as a `Document`, whose `tree` is a forest of one root with keyed nodes. All that
 //! they say of a node is a word of the crate `forest`, told of that tree: `IsLive tree key`, which each
 //! look-up asks of its key, and `parent_of`, `child_of`, `index_of`, `next_sibling_of`, `key_at`, `path_of`,
-//! `Precedes` and their like. `Arena::root` gives the facts that hold of every document as well: distinct
-//! keys, one root that is an element, texts without children, elements whose attributes differ in name.
-//! [`laws`] has what holds of such trees without any arena.
+//! `Precedes` and their like. The law `arena_holds_document` of [`laws`] gives the facts that hold of every
+//! document as well: distinct keys, one root that is an element, texts without children, elements whose
+//! attributes differ in name. The others there hold of such trees without any arena.
 //!
 //! A document changes by an `Edit` of plain_types. `Arena::allows` tells whether it may be done, `prepare`
 //! takes all memory for it, `commit` does it, and then `revert` takes it back or `settle` ends it. Nodes that
@@ -19,6 +19,9 @@
 //! then. What an edit makes of a tree is said by paths (`edited`), with keys and without them alike; contracts
 //! see of a `Prepared` the tree that `commit` leads to (`tree_after`), and of a `Reversal` the one that `revert`
 //! leads to (`tree_before`).
+//!
+//! An arena whose edits are ended uses exactly the keys of its document's nodes (`IsSettled`), and between
+//! `commit` and its end those of the nodes before the edit as well (`IsCommitted`): `proofs/KeyLaws.antt`.
 //!
 //! No call recurses, so a tree may be of any depth. Only `from_tree`, `to_tree`, `path_of` and `prepare` take
 //! memory.

@@ -11,13 +11,14 @@ ghost use Rattle.node_arena.specs.Changes.{alone, HasPlace, AreKeysOf, KeepsEntr
 ghost use Rattle.node_arena.specs.Children.{HasRoom};
 ghost use Rattle.node_arena.specs.Document.{IsKeyedDocument};
 ghost use Rattle.node_arena.specs.Edits.{is_element_at, is_inner_at, has_room_at, move_fault, place_fault, IsEdited};
-ghost use Rattle.node_arena.specs.Reversals.{IsReady, tree_after, IsOnlyIn, is_used};
+ghost use Rattle.node_arena.specs.Reversals.{IsReady, tree_after, IsOnlyIn, Reserves, is_used};
 
 use crate::add_tree::add_tree;
 use crate::arena::Arena;
 use crate::attrs::{with_attr, without_attr};
 use crate::change::{Change, ChildPlace};
 use crate::children::make_room;
+use crate::laws::arena_holds_document;
 use crate::prepared::Prepared;
 use plain_types::attr::Attr;
 use plain_types::duplicate::Duplicate;
@@ -54,7 +55,7 @@ impl Arena {
         ensures place { HasPlace self.now.tree result.0 result.1 }
         ensures document { IsKeyedDocument self.now.tree }
     {
-        let _root = self.root();
+        arena_holds_document(self);
         let Some(key) = self.inner_at(path) else {
             unreachable!()
         };
@@ -100,7 +101,7 @@ impl Arena {
         requires { IsLive self.now.tree key }
         ensures { IfOk result (λ keys. AreKeysOf keys.items (alone (on_link self.now.tree (Some key)))) }
     {
-        let _root = self.root();
+        arena_holds_document(self);
         let mut keys = Vec::new(alloc);
         keys.push(key)?;
         let mut next = 0;
@@ -160,10 +161,9 @@ impl Arena {
         requires room { has_room_at parent.now index (without_keys self.old.tree) ≡ true }
         ensures tree { self.new.tree ≡ self.old.tree }
         ensures prepares { IfOk result (λ change. Prepares (edit.Insert parent.now index fragment.now) self.old self.new change) }
-        ensures entries { (key : ℕ) → is_some (get self.old.entries key) ≡ true → is_some (get self.new.entries key) ≡ true }
         ensures err { OnErr result (KeepsEntries self.old self.new) }
     {
-        let _root = self.root();
+        arena_holds_document(self);
         let Some(parent) = self.element_at(parent) else {
             unreachable!()
         };
@@ -180,10 +180,9 @@ impl Arena {
         requires { place_fault edit.now (without_keys self.old.tree) ≡ None }
         ensures tree { self.new.tree ≡ self.old.tree }
         ensures prepares { IfOk result (λ change. Prepares edit.now self.old self.new change) }
-        ensures entries { (key : ℕ) → is_some (get self.old.entries key) ≡ true → is_some (get self.new.entries key) ≡ true }
         ensures err { OnErr result (KeepsEntries self.old self.new) }
     {
-        let _root = self.root();
+        arena_holds_document(self);
         match edit {
             Edit::Insert {
                 parent,
@@ -203,8 +202,8 @@ impl Arena {
     }
 
     /// Takes all memory that an edit needs, which the arena allows; the tree and its keys stay. `commit`
-    /// then does it. Inserted nodes get keys that aren't used; `Memory` where memory is wanting, and then
-    /// no key is used more. It takes memory, and time linear in it, of the size of what is inserted, of
+    /// then does it. Inserted nodes get keys that weren't used, and no other key is used more; `Memory` where
+    /// memory is wanting, and then none is. It takes memory, and time linear in it, of the size of what is inserted, of
     /// the keys of what is removed, or of the attributes of the element that is changed.
     pub fn prepare(&mut self, alloc: Global, edit: &Edit) -> Result<Prepared, Memory>
         requires allowed { place_fault edit.now (without_keys self.old.tree) ≡ None }
@@ -212,10 +211,10 @@ impl Arena {
         ensures ready { IfOk result (λ prepared. IsReady self.new prepared) }
         ensures edits { IfOk result (λ prepared. IsEdited edit.now self.old.tree (tree_after self.new prepared)) }
         ensures fresh { IfOk result (λ prepared. (key : ℕ) → IsOnlyIn (tree_after self.new prepared) self.old.tree key → is_used self.old key ≡ false) }
-        ensures used { (key : ℕ) → is_used self.old key ≡ true → is_used self.new key ≡ true }
+        ensures reserves { IfOk result (λ prepared. Reserves self.old.tree (tree_after self.new prepared) self.old self.new) }
         ensures err { OnErr result ((key : ℕ) → is_used self.new key ≡ is_used self.old key) }
     {
-        let _root = self.root();
+        arena_holds_document(self);
         let change = self.prepare_change(alloc, edit)?;
         Ok(Prepared { change })
     }

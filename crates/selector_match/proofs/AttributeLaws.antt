@@ -15,7 +15,7 @@ use Rattle.std.proofs.Math.Seq.{drop-cons, take-append_seam, drop-append_seam}
 use Rattle.forest.proofs.SpotLaws.{chosen}
 use Rattle.plain_types.specs.StyleNames.{lower_case}
 use Rattle.selector_match.specs.Attributes.{contains, parts, has_word, in_case}
-use Rattle.selector_match.proofs.Encoding.{starts-Decides, ends-Decides}
+use Rattle.selector_match.proofs.Encoding.{starts-Decides}
 
 pub case-append : (fold : Bool) (xs ys : List ℕ) → in_case fold (xs ++ ys) ≡ in_case fold xs ++ in_case fold ys
 case-append true xs ys = map-append to_ascii_lowercase xs ys
@@ -70,11 +70,6 @@ end-same fold text value r within is =
     let same : drop (length (in_case fold text) - length (in_case fold value)) (in_case fold text) ≡ last =
     ap (λ n. drop (n - length (in_case fold value)) (in_case fold text)) (case-length fold text) ∙ ap (λ n. drop (length text - n) (in_case fold text)) (case-length fold value) ∙ sym (case-drop fold (length text - length value) text) in
     is ∙ swapped last (in_case fold value) ∙ sym (ap (bytes_eq (in_case fold value)) same)
-
-pub no-end : (fold : Bool) (text value : List ℕ) → length text < length value → false ≡ ends_with nat_eq (in_case fold text) (in_case fold value)
-no-end fold text value more =
-    sym (false_from_ne_true _ (λ e. let b = (ends-Decides (in_case fold text) (in_case fold value)).0 e in
-    absurd (omega (arith, ap length b.1, length-append b.0 (in_case fold value), case-length fold text, case-length fold value))))
 
 -- The value somewhere in the text.
 
@@ -165,14 +160,6 @@ case-dash false rest = refl
 pub dashed : (fold : Bool) (text value rest : List ℕ) → in_case fold text ≡ in_case fold value ++ in_case fold rest → (bytes_eq (in_case fold text) (in_case fold value) || starts_with nat_eq (in_case fold text) (in_case fold value ++ codes "-")) ≡ is_dash rest
 dashed fold text value rest is =
     ap (λ t. bytes_eq t (in_case fold value) || starts_with nat_eq t (in_case fold value ++ codes "-")) is ∙ dash-after (in_case fold value) (in_case fold rest) ∙ case-dash fold rest
-
-pub dash-none : (rest : List ℕ) → length rest ≡ 0 → true ≡ is_dash rest
-dash-none [] h = refl
-dash-none (x ∷ rest) h = absurd (omega arith)
-
-pub dash-first : (rest : List ℕ) → 0 < length rest → (get_or rest 0 0 == 45) ≡ is_dash rest
-dash-first [] h = absurd (omega arith)
-dash-first (x ∷ rest) h = refl
 
 pub not-dashed : (text value : List ℕ) → starts_with nat_eq text value ≡ false → false ≡ (bytes_eq text value || starts_with nat_eq text (value ++ codes "-"))
 not-dashed text value none =

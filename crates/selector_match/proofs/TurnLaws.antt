@@ -14,11 +14,10 @@ use Rattle.plain_types.specs.declared.selector_parts.Join.TheVariants.{Descendan
 use Rattle.node_arena.specs.Document.{IsKeyedDocument}
 use Rattle.selector_match.specs.Elements.{Standing, standing_of, ancestors_in, ancestors, earlier_siblings}
 use Rattle.selector_match.specs.Matching.{matches, matches_compound, matches_complex}
-use Rattle.selector_match.specs.Positions.{siblings}
 use Rattle.selector_match.specs.Lookups.{IsElement, nowhere, standing_at, IsElementBeside}
 use Rattle.selector_match.specs.Runs.{Step, steps_before, HasPlace, IsStep, begins_with, same_join, Test, reach, runs, nears, IsRun, matches_step, with_row, sibling_tests, row_matches, ancestor_tests, IsAt, RunsNext, RunsUp, EndsRow}
-use Rattle.selector_match.proofs.Chains.{and_assoc, starts_far, Runs, runs-begin, runs-on, runs-stop, run-ends, run-fails, run-reach, run-far, commits, passes-over}
-use Rattle.selector_match.proofs.RunLaws.{before, splits, matches-last, misshapen, no_compound, back-chain, no-siblings}
+use Rattle.selector_match.proofs.Chains.{and_assoc, starts_far, Runs, runs-begin, runs-on, run-ends, run-fails, run-reach, run-far, commits, passes-over}
+use Rattle.selector_match.proofs.RunLaws.{before, splits, matches-last, misshapen, no_compound, back-chain}
 use Rattle.selector_match.proofs.StandingLaws.{parent-element, parent-ancestors, root-alone}
 
 pub none-so : {A : Type 0} {P : Type 0} (o : Option A) → P → IfNone o P
@@ -116,26 +115,6 @@ module _ (tree : Forest (Keyed Node)) (selector : Selector) where
     fewer = omega (arith, i.fewer);
   }
 
-  pub next-fails : (key place at left other : ℕ) (compound : Compound) → InNext key place at left → IsStep selector left Next compound → IsElementBeside tree false at other → matches_compound (standing_at tree other) compound ≡ false → runs (sib place) (earl key) ≡ false
-  next-fails key place at left other compound i step beside no_match =
-      (next-run key place at left other compound i step beside).runs_same
-      ∙ run-fails (near_test (matches_step (the_step Next compound))) (sib (left - 1)) refl (standing_at tree other) (earl other) no_match
-
-  pub next-lacks : (key place at left : ℕ) (compound : Compound) → InNext key place at left → IsStep selector left Next compound → siblings false (standing_at tree at).level ≡ [] → runs (sib place) (earl key) ≡ false
-  next-lacks key place at left compound i step none =
-      i.run.runs_same
-      ∙ ap (runs (sib left)) (no-siblings (standing_at tree at) none)
-      ∙ ap (λ tests. runs tests []) (ap sibling_tests step.steps)
-      ∙ run-ends (near_test (matches_step (the_step Next compound))) (sib (left - 1)) refl
-
-  pub next-ends : (key place at left : ℕ) → InNext key place at left → begins_with Next (steps_before selector left) ≡ false → RunsNext tree selector key place (at, left)
-  next-ends key place at left i none = record {
-    at = i.here;
-    run = runs-stop (sib place) (earl key) (sib left) (earl at) (no-next (steps_before selector left) none) i.run;
-    others = i.others;
-    fewer = i.fewer;
-  }
-
   -- Over `+` and `~`.
 
   pub record InRow (key place at left : ℕ) : Type 0 where
@@ -182,22 +161,8 @@ module _ (tree : Forest (Keyed Node)) (selector : Selector) where
     fewer = i.fewer;
   }
 
-  pub row-lacks : (key place at left : ℕ) (compound : Compound) → InRow key place at left → IsStep selector left Later compound → siblings false (standing_at tree at).level ≡ [] → reach (sib place) (earl key) ≡ false
-  row-lacks key place at left compound i step none =
-      i.same
-      ∙ ap (reach (sib left)) (no-siblings (standing_at tree at) none)
-      ∙ ap (λ tests. reach tests []) (ap sibling_tests step.steps)
-
   row-left : (key place at left : ℕ) → InRow key place at left → begins_with Later (steps_before selector left) ≡ false → sib left ≡ []
   row-left key place at left i none = no-later (steps_before selector left) none i.far
-
-  pub row-ends : (key place at left : ℕ) → InRow key place at left → begins_with Later (steps_before selector left) ≡ false → EndsRow selector place left × (row_matches (steps_before selector place) (standing_at tree key) ≡ true)
-  row-ends key place at left i none =
-      let done = row-left key place at left i none in
-      (record { place_is = i.here.place_is; row_done = done; others = i.others; fewer = i.fewer }, i.same ∙ ap (λ tests. reach tests (earl at)) done)
-
-  pub row-shorter : (at other : ℕ) → IsElementBeside tree false at other → length (earl other) < length (earl at)
-  row-shorter at other beside = omega (arith, ap length (back-chain (standing_at tree at) (standing_at tree other) beside.beside))
 
   pub run-shorter : (tests : List Test) (chain : List Standing) (left : List Test) (chain_left : List Standing) → IsRun tests chain left chain_left → length chain_left ≤ length chain
   run-shorter tests chain left chain_left run = omega (arith, ap length run.chain_is, length-drop (nears tests) chain)
@@ -209,9 +174,6 @@ module _ (tree : Forest (Keyed Node)) (selector : Selector) where
     pub row_done : sib left ≡ []
     pub run : Runs (anc place) (ups key) (anc left) (ups at)
     pub fewer : left ≤ place
-
-  pub up-begins : (key place : ℕ) → IsAt tree selector key place → sib place ≡ [] → InUp key place key place
-  up-begins key place at done = record { here = at; row_done = done; run = runs-begin (anc place) (ups key); fewer = omega arith }
 
   -- Over `>` and descendant combinators.
 
@@ -259,14 +221,6 @@ module _ (tree : Forest (Keyed Node)) (selector : Selector) where
         ∙ ap (runs (anc left)) (no-ups at i.here.live i.here.element up)
         ∙ ap (λ tests. runs tests []) (ap ancestor_tests step.steps)
         ∙ run-ends (near_test (with_row (the_step Child compound) (steps_before selector (left - 1)))) (anc (left - 1)) refl
-
-    pub up-ends : (key place at left : ℕ) → InUp key place at left → begins_with Child (steps_before selector left) ≡ false → RunsUp tree selector key place (at, left)
-    up-ends key place at left i none = record {
-      at = i.here;
-      run = runs-stop (anc place) (ups key) (anc left) (ups at) (no-child (steps_before selector left) none i.row_done) i.run;
-      row_done = i.row_done;
-      fewer = i.fewer;
-    }
 
     pub column-begins : (key place : ℕ) (end : ℕ × ℕ) → RunsUp tree selector key place end → InColumn key place end.0 end.1
     column-begins key place end r = record {

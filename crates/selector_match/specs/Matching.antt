@@ -13,7 +13,7 @@ use Rattle.plain_types.specs.declared.selector.Simple.TheFolds.{fold-Simple, fol
 use Rattle.plain_types.specs.declared.selector.Simple.TheOpen.{Simple-F, Compound-F}
 use Rattle.plain_types.specs.declared.selector_parts.Join.{Join}
 use Rattle.plain_types.specs.declared.selector_parts.Join.TheVariants.{Descendant, Child, Next, Later}
-use Rattle.node_arena.specs.Nodes.{value_of}
+use Rattle.plain_types.specs.Attributes.{value_of}
 use Rattle.selector_match.specs.Attributes.{has_word, passes_in_case}
 use Rattle.selector_match.specs.Elements.{Element, Standing, ancestors, earlier_siblings, is_root, standing_of}
 use Rattle.selector_match.specs.Positions.{is_nth, is_only, position_of}

@@ -6,24 +6,28 @@ ghost use Rattle.std.specs.Str.{chars};
 ghost use Rattle.forest.specs.Spots.{IsLive};
 ghost use Rattle.selector_match.specs.Attributes.{passes_in_case};
 ghost use Rattle.selector_match.specs.Lookups.{IsElement, standing_at};
+ghost use Rattle.selector_match.specs.Sides.{is_aside};
 ghost use Rattle.selector_match.specs.Matching.{has_attr, matches_simple, matches_compound};
 
 use crate::attributes::passes;
-use crate::neighbours::{count_beside, is_empty};
+use crate::case::{Case, flagged, is_aside};
+use crate::neighbours::{count_siblings, is_empty};
 use crate::positions::is_nth;
+use crate::side::{Side, counted_side};
 use node_arena::arena::Arena;
+use node_arena::laws::arena_holds_document;
 use plain_types::selector::{Compound, Simple};
 use plain_types::selector_parts::AttrTest;
 
 /// Whether the element has an attribute of this name whose value passes the test.
-fn has_attr(arena: &Arena, key: usize, name: &str, test: AttrTest, value: &str, fold: bool) -> bool
+fn has_attr(arena: &Arena, key: usize, name: &str, test: AttrTest, value: &str, case: Case) -> bool
     requires live { IsLive arena.now.tree key }
     requires element { IsElement arena.now.tree key }
-    ensures { result ≡ has_attr (standing_at arena.now.tree key).level.element (chars name.now) (λ text. passes_in_case fold test text (chars value.now)) }
+    ensures { result ≡ has_attr (standing_at arena.now.tree key).level.element (chars name.now) (λ text. passes_in_case (is_aside case) test text (chars value.now)) }
 {
-    let _root = arena.root();
+    arena_holds_document(arena);
     match arena.attr(key, name) {
-        Some(text) => passes(test, text, value, fold),
+        Some(text) => passes(test, text, value, is_aside(case)),
         None => false,
     }
 }
@@ -65,13 +69,20 @@ fn matches_simple(arena: &Arena, key: usize, simple: &Simple) -> bool
     requires element { IsElement arena.now.tree key }
     ensures { result ≡ matches_simple (standing_at arena.now.tree key) simple.now }
 {
-    let _root = arena.root();
+    arena_holds_document(arena);
     match simple {
         Simple::Any => true,
         Simple::Element(name) => arena.name(key) == Some(name.as_str()),
-        Simple::Id(id) => has_attr(arena, key, "id", AttrTest::Equal, id.as_str(), false),
+        Simple::Id(id) => has_attr(arena, key, "id", AttrTest::Equal, id.as_str(), Case::Counts),
         Simple::Class(class) => {
-            has_attr(arena, key, "class", AttrTest::Word, class.as_str(), false)
+            has_attr(
+                arena,
+                key,
+                "class",
+                AttrTest::Word,
+                class.as_str(),
+                Case::Counts,
+            )
         }
         Simple::Root => arena.parent(key).is_none(),
         Simple::Empty => is_empty(arena, key),
@@ -81,10 +92,17 @@ fn matches_simple(arena: &Arena, key: usize, simple: &Simple) -> bool
             test,
             value,
             fold,
-        } => has_attr(arena, key, name.as_str(), *test, value.as_str(), *fold),
+        } => has_attr(
+            arena,
+            key,
+            name.as_str(),
+            *test,
+            value.as_str(),
+            flagged(*fold),
+        ),
         Simple::Only { same_type } => {
-            count_beside(arena, key, false, *same_type) == 0
-                && count_beside(arena, key, true, *same_type) == 0
+            count_siblings(arena, key, Side::Earlier, *same_type) == 0
+                && count_siblings(arena, key, Side::Later, *same_type) == 0
         }
         Simple::Nth {
             a,
@@ -97,7 +115,7 @@ fn matches_simple(arena: &Arena, key: usize, simple: &Simple) -> bool
             is_nth(
                 step,
                 offset,
-                count_beside(arena, key, *from_end, *same_type),
+                count_siblings(arena, key, counted_side(*from_end), *same_type),
             )
         }
         Simple::Is(choices) => matches_one(arena, key, choices.as_slice()),

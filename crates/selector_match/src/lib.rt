@@ -22,9 +22,11 @@
 #![tactic(auto)]
 
 mod attributes;
+mod case;
 mod compounds;
 pub mod matching;
 mod neighbours;
 mod positions;
+mod side;
 #[cfg(test)]
 mod tests;

@@ -5,7 +5,6 @@ mod attributes;
 use crate::matching::matches;
 use node_arena::arena::{Arena, has_element_root};
 use plain_types::attr::Attr;
-use plain_types::duplicate::Duplicate;
 use plain_types::list::List;
 use plain_types::memory::Memory;
 use plain_types::selector::{Compound, Selector, Simple};
@@ -611,8 +610,8 @@ fn a_small_document(rt: HostRuntime) -> Result<(), Fail> {
     Ok(())
 }
 
-/// `:not(:is(p))` and selectors with a combinator too many and one too few.
-fn is_right_by_hand(alloc: Global, arena: &Arena) -> Result<bool, Memory> {
+/// The one compound of `:not(:is(p))`.
+fn no_paragraph(alloc: Global) -> Result<List<Compound>, Memory> {
     let mut simples = List::new(alloc);
     simples.push(Simple::Is(types_of(alloc, &["p"])?))?;
     let mut choices = List::new(alloc);
@@ -621,24 +620,24 @@ fn is_right_by_hand(alloc: Global, arena: &Arena) -> Result<bool, Memory> {
     outer.push(Simple::Not(choices))?;
     let mut compounds = List::new(alloc);
     compounds.push(Compound { simples: outer })?;
-    let mut joins = List::new(alloc);
-    joins.push(Join::Later)?;
-    let too_many = Selector {
-        compounds,
-        joins,
-        pseudo: PseudoElement::Own,
-    };
-    let Selector {
-        compounds,
-        joins: _,
-        pseudo: _,
-    } = too_many.duplicate(alloc)?;
+    Ok(compounds)
+}
+
+/// `:not(:is(p))` and selectors with a combinator too many and one too few.
+fn is_right_by_hand(alloc: Global, arena: &Arena) -> Result<bool, Memory> {
     let nested = Selector {
-        compounds,
+        compounds: no_paragraph(alloc)?,
         joins: List::new(alloc),
         pseudo: PseudoElement::Before,
     };
-    let mut twice = nested.compounds.duplicate(alloc)?;
+    let mut joins = List::new(alloc);
+    joins.push(Join::Later)?;
+    let too_many = Selector {
+        compounds: no_paragraph(alloc)?,
+        joins,
+        pseudo: PseudoElement::Own,
+    };
+    let mut twice = no_paragraph(alloc)?;
     twice.push(Compound {
         simples: List::new(alloc),
     })?;

@@ -4,7 +4,7 @@ use Rattle.std.specs.List.{list_any, list_all}
 use Rattle.std.specs.Str.{chars, bytes_eq}
 use Rattle.selector_match.specs.Attributes.{has_word}
 use Rattle.std.proofs.lemmas.Int.{to_z-of_z}
-use Rattle.selector_match.specs.Positions.{is_nth}
+use Rattle.selector_match.specs.Positions.{is_nth, counted}
 use Rattle.selector_match.specs.Lookups.{standing_at}
 use Rattle.selector_match.specs.Matching.{has_attr, matches_simple, matches_compound}
 use Rattle.selector_match.proofs.FoldLaws.{type-alone, id-alone, class-alone, root-alone, empty-alone, nth-alone, is-choices, where-choices, not-choices, compound-simples}
@@ -21,7 +21,7 @@ pub matches_simple-returns-in-Element : goal.matches_simple-returns-in-Element
 matches_simple-returns-in-Element t c =
     let tree = c.args.arena.now.tree in
     c.eq.ensures
-    ∙ same-names _ _ _ (Some c.in-Element.name) _ _ c.name.ensures.characters c.name.ensures.bytes (element-name tree c.root-root.ensures.document c.args.key c.requires.live c.requires.element)
+    ∙ same-names _ _ _ (Some c.in-Element.name) _ _ c.name.ensures.characters c.name.ensures.bytes (element-name tree c.arena_holds_document.ensures.document c.args.key c.requires.live c.requires.element)
     (ap (λ x. Some x) c.as_str.ensures.characters) (ap (λ x. Some x) c.as_str.ensures.bytes) refl
     ∙ sym (type-alone (standing_at tree c.args.key) c.in-Element.name)
     ∙ ap (matches_simple (standing_at tree c.args.key)) (sym c.in-Element.is)
@@ -47,7 +47,7 @@ matches_simple-returns-in-Class t c =
 pub matches_simple-returns-in-Root : goal.matches_simple-returns-in-Root
 matches_simple-returns-in-Root t c =
     let tree = c.args.arena.now.tree in
-    root-test tree c.root-root.ensures.document c.args.key c.parent.result c.is_none.result c.requires.live c.requires.element c.parent.ensures.link c.is_none.ensures
+    root-test tree c.arena_holds_document.ensures.document c.args.key c.parent.result c.is_none.result c.requires.live c.requires.element c.parent.ensures.link c.is_none.ensures
     ∙ sym (root-alone (standing_at tree c.args.key))
     ∙ ap (matches_simple (standing_at tree c.args.key)) (sym c.in-Root.is)
 
@@ -55,7 +55,7 @@ pub matches_simple-returns-in-Empty : goal.matches_simple-returns-in-Empty
 matches_simple-returns-in-Empty t c =
     let tree = c.args.arena.now.tree in
     c.is_empty.ensures
-    ∙ element-empty tree c.root-root.ensures.document c.args.key c.requires.live c.requires.element
+    ∙ element-empty tree c.arena_holds_document.ensures.document c.args.key c.requires.live c.requires.element
     ∙ sym (empty-alone (standing_at tree c.args.key))
     ∙ ap (matches_simple (standing_at tree c.args.key)) (sym c.in-Empty.is)
 
@@ -65,9 +65,9 @@ matches_simple-returns-in-Nth t c =
     let step : FitsSigned w32 c.in-Nth.a = search rules in
     let offset : FitsSigned w32 c.in-Nth.b = search rules in
     c.is_nth.ensures
-    ∙ ap (λ a. is_nth a (to_z w32 (of_z w32 c.in-Nth.b)) (c.count_beside-in-Nth.result + 1)) (to_z-of_z w32 c.in-Nth.a step)
-    ∙ ap (λ b. is_nth c.in-Nth.a b (c.count_beside-in-Nth.result + 1)) (to_z-of_z w32 c.in-Nth.b offset)
-    ∙ ap (λ n. is_nth c.in-Nth.a c.in-Nth.b (n + 1)) c.count_beside-in-Nth.ensures
+    ∙ ap (λ a. is_nth a (to_z w32 (of_z w32 c.in-Nth.b)) (c.count_siblings-in-Nth.result + 1)) (to_z-of_z w32 c.in-Nth.a step)
+    ∙ ap (λ b. is_nth c.in-Nth.a b (c.count_siblings-in-Nth.result + 1)) (to_z-of_z w32 c.in-Nth.b offset)
+    ∙ ap (λ n. is_nth c.in-Nth.a c.in-Nth.b (n + 1)) (c.count_siblings-in-Nth.ensures ∙ ap (λ after. counted after c.in-Nth.same_type standing.level) c.counted_side.ensures)
     ∙ sym (nth-alone standing c.in-Nth.a c.in-Nth.b c.in-Nth.from_end c.in-Nth.same_type)
     ∙ ap (matches_simple standing) (sym c.in-Nth.is)
 

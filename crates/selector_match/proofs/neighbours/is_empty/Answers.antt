@@ -12,14 +12,14 @@ children-init c = record {
   link = c.first_child-child.ensures.live;
   nothing =
       ap (λ link. are_nothing (without_keys (on_link c.args.arena.now.tree link))) c.first_child-child.ensures.link
-      ∙ ap (λ g. are_nothing (without_keys g)) (on_first c.args.arena.now.tree c.args.key c.root-root.ensures.document.distinct c.requires).0;
+      ∙ ap (λ g. are_nothing (without_keys g)) (on_first c.args.arena.now.tree c.args.key c.arena_holds_document.ensures.document.distinct c.requires).0;
 }
 
 pub children-smaller : goal.children-smaller
 children-smaller c =
     let tree = c.args.arena.now.tree in
     let live : IsLive tree c.in-Some.at = subst (IsLink tree) c.in-Some.is c.children.invariant.link in
-    let less = fewer tree c.in-Some.at live c.root-root.ensures.document.distinct in
+    let less = fewer tree c.in-Some.at live c.arena_holds_document.ensures.document.distinct in
     let before = ap (λ link. size (on_link tree link)) c.in-Some.is in
     let after = ap (λ link. size (on_link tree link)) c.next_sibling-child.ensures.link in
     omega arith
@@ -32,7 +32,7 @@ children-preserved c =
       link = c.next_sibling-child.ensures.live;
       nothing =
           ap (λ link. are_nothing (without_keys (on_link tree link))) c.next_sibling-child.ensures.link
-          ∙ nothing tree c.in-Some.at live c.root-root.ensures.document.distinct (sym c.is_nothing.ensures ∙ c.if-not-is_nothing.false)
+          ∙ nothing tree c.in-Some.at live c.arena_holds_document.ensures.document.distinct (sym c.is_nothing.ensures ∙ c.if-not-is_nothing.false)
           ∙ sym (ap (λ link. are_nothing (without_keys (on_link tree link))) c.in-Some.is)
           ∙ c.children.invariant.nothing;
     }

@@ -8,7 +8,7 @@ use Rattle.node_arena.proofs.arena.Arena.ancestor.Goals.{in-Some, in_default}
 pub climb-preserved : goal.climb-preserved
 climb-preserved c =
     let tree = c.args.self.now.tree in
-    let distinct = c.root-root.ensures.document.distinct in
+    let distinct = c.arena_holds_document.ensures.document.distinct in
     let way = route_of tree c.args.key in
     let left = length way - (c.climb._step + 1) in
     let more : length way - c.climb._step ≡ left + 1 = omega (arith, c.climb-test.true, c.requires.deep) in

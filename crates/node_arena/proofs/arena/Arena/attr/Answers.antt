@@ -1,6 +1,7 @@
 use Rattle.std.proofs.Common.{◌≡◌, ◌∙◌, sym, ap, chars, true, false, Some, option_map, encode_utf8_all, refl}
 use Rattle.std.proofs.lemmas.Str.{encodes-chars}
-use Rattle.node_arena.specs.Nodes.{is_named, value_of, attr_of}
+use Rattle.plain_types.specs.Attributes.{is_named, value_of}
+use Rattle.node_arena.specs.Nodes.{attr_of}
 use Rattle.node_arena.proofs.NodeLaws.{same-test, find-more, value-found}
 use Rattle.node_arena.proofs.arena.Arena.attr.Goals as goal
 

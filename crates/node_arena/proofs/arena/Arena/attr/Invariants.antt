@@ -1,5 +1,5 @@
 use Rattle.std.proofs.Common.{◌≡◌, None, take, find, chars}
-use Rattle.node_arena.specs.Nodes.{is_named}
+use Rattle.plain_types.specs.Attributes.{is_named}
 use Rattle.node_arena.proofs.arena.Arena.attr.Given as goal
 
 abbrev pub invariant-loop-attr : goal.invariant-loop-attr

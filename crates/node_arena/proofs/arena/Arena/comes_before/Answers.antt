@@ -4,12 +4,12 @@ use Rattle.forest.proofs.LevelLaws.{child-level, comes-parents, comes-siblings}
 use Rattle.node_arena.proofs.arena.Arena.comes_before.Goals as goal
 
 pub climb-smaller : goal.climb-smaller
-climb-smaller c = omega (arith, child-level c.args.self.now.tree c.climb.left c.in-Some.above_left c.root-root.ensures.document.distinct c.climb.invariant.left c.in-Some.ensures.some.first_parent)
+climb-smaller c = omega (arith, child-level c.args.self.now.tree c.climb.left c.in-Some.above_left c.arena_holds_document.ensures.document.distinct c.climb.invariant.left c.in-Some.ensures.some.first_parent)
 
 pub climb-preserved : goal.climb-preserved
 climb-preserved c =
     let tree = c.args.self.now.tree in
-    let distinct = c.root-root.ensures.document.distinct in
+    let distinct = c.arena_holds_document.ensures.document.distinct in
     let above = c.in-Some.ensures.some in
     record {
       left = parent-live tree c.climb.left c.in-Some.above_left distinct c.climb.invariant.left above.first_parent;
@@ -21,4 +21,4 @@ climb-preserved c =
 pub returns : goal.returns
 returns c =
     ap₂ nat_lt c.index_of.ensures c.index_of-2.ensures
-    ∙ sym (c.climb.invariant.same ∙ comes-siblings c.args.self.now.tree c.climb.left c.climb.right c.root-root.ensures.document.distinct c.climb.invariant.left c.climb.invariant.right c.in_default.ensures.none)
+    ∙ sym (c.climb.invariant.same ∙ comes-siblings c.args.self.now.tree c.climb.left c.climb.right c.arena_holds_document.ensures.document.distinct c.climb.invariant.left c.climb.invariant.right c.in_default.ensures.none)

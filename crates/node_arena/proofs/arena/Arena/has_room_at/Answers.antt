@@ -12,4 +12,4 @@ pub returns-in-Some : goal.returns-in-Some
 returns-in-Some c =
     let tree = c.args.self.now.tree in
     let element : is_element_at c.args.parent.now (without_keys tree) ≡ true = sym c.in-Some.ensures.found in
-    rw (element, has_room_at) (ap (nat_le c.args.index) (c.child_count.ensures ∙ sym (count-found tree c.args.parent.now c.in-Some.key c.root-root.ensures.document.distinct c.in-Some.ensures.key)))
+    rw (element, has_room_at) (ap (nat_le c.args.index) (c.child_count.ensures ∙ sym (count-found tree c.args.parent.now c.in-Some.key c.arena_holds_document.ensures.document.distinct c.in-Some.ensures.key)))

@@ -23,7 +23,7 @@ level-preserved c =
     let within : c.level.next < length keys = omega (arith, c.len.ensures, c.level-test.true, c.level.keys.ok.0) in
     let items : c.extend_from_slice.new.self.items ≡ keys ++ root_keys (children_of tree c.index-at.result.now) = c.in_ok-extend_from_slice.ensures.items ∙ ap (λ more. keys ++ more) (c.as_slice.ensures.value ∙ c.entry.ensures.says.children) in
     subst (λ ks. AreFound tree ks (c.level.next + 1) c.args.key) (sym items)
-    (found-more tree keys c.level.next c.args.key c.index-at.result.now c.root-root.ensures.document.distinct within (slice_get_read keys (length keys) c.level.next c.index-at.result.now refl within c.index-at.ensures) c.level.invariant)
+    (found-more tree keys c.level.next c.args.key c.index-at.result.now c.arena_holds_document.ensures.document.distinct within (slice_get_read keys (length keys) c.level.next c.index-at.result.now refl within c.index-at.ensures) c.level.invariant)
 
 pub level-smaller : goal.level-smaller
 level-smaller c =

@@ -26,7 +26,7 @@ overflow_sub-count c =
     let key = c.in-Some-Some.key in
     let target = c.in-Some-Some.target in
     let above : parent_of tree key ≡ Some target = sym c.parent.ensures.link ∙ parent-same c.parent.result target (sym c.eq.ensures ∙ c.if-eq.true) in
-    omega (arith, index-within tree key target c.root-root.ensures.document.distinct (path-live tree c.args.from.now key c.in-Some-Some.ensures.key) above)
+    omega (arith, index-within tree key target c.arena_holds_document.ensures.document.distinct (path-live tree c.args.from.now key c.in-Some-Some.ensures.key) above)
 
 counted : (c : goal.After-no_place_unless) → ((parent_of c.args.self.now.tree c.in-Some-Some.key ≡ Some c.in-Some-Some.target) × (c.if-eq.count + 1 ≡ child_count_of c.args.self.now.tree c.in-Some-Some.target)) ⊎ ((parent_of c.args.self.now.tree c.in-Some-Some.key ≢ Some c.in-Some-Some.target) × (c.if-eq.count ≡ child_count_of c.args.self.now.tree c.in-Some-Some.target))
 counted c =
@@ -36,7 +36,7 @@ counted c =
     elim c.if-eq.branch [
       | then-eq w ↦
           let above : parent_of tree key ≡ Some target = sym c.parent.ensures.link ∙ parent-same c.parent.result target (sym c.eq.ensures ∙ w.if-eq.true) in
-          let within = index-within tree key target c.root-root.ensures.document.distinct (path-live tree c.args.from.now key c.in-Some-Some.ensures.key) above in
+          let within = index-within tree key target c.arena_holds_document.ensures.document.distinct (path-live tree c.args.from.now key c.in-Some-Some.ensures.key) above in
           inl (above, omega (arith, w.count-is, c.child_count-count.ensures))
       | else-eq w ↦ inr ((λ above. parent-other c.parent.result target (sym c.eq.ensures ∙ w.if-eq.false) (c.parent.ensures.link ∙ above)), w.count-is ∙ c.child_count-count.ensures)
     ]
@@ -47,7 +47,7 @@ returns c =
     let from = c.args.from.now in
     let parent = c.args.parent.now in
     let out : leads_into from parent ≡ false = leads-into-test _ _ _ _ _ c.as_slice-2.ensures.steps c.as_slice.ensures.steps c.starts_with.ensures.value ∙ c.if-starts_with.false in
-    let count = count-once-out tree from parent c.in-Some-Some.key c.in-Some-Some.target c.if-eq.count c.root-root.ensures.document c.in-Some-Some.ensures.key c.in-Some-Some.ensures'.key (inner-long from (without_keys tree) (sym c.in-Some-Some.ensures.found)) out (counted c) in
+    let count = count-once-out tree from parent c.in-Some-Some.key c.in-Some-Some.target c.if-eq.count c.arena_holds_document.ensures.document c.in-Some-Some.ensures.key c.in-Some-Some.ensures'.key (inner-long from (without_keys tree) (sym c.in-Some-Some.ensures.found)) out (counted c) in
     c.no_place_unless.ensures
     ∙ ap (λ n. no_place_unless (nat_le c.args.index n)) (sym count)
     ∙ sym (by-index from parent c.args.index (without_keys tree) (sym c.in-Some-Some.ensures.found) (sym c.in-Some-Some.ensures'.found) out)

@@ -7,12 +7,12 @@ use Rattle.forest.proofs.LevelLaws.{child-level}
 use Rattle.node_arena.proofs.arena.Arena.path_of.Goals as goal
 
 pub climb-smaller : goal.climb-smaller
-climb-smaller c = omega (arith, child-level c.args.self.now.tree c.climb.at c.in-Some.parent c.root-root.ensures.document.distinct c.climb.invariant.live (sym c.in-Some.ensures.link))
+climb-smaller c = omega (arith, child-level c.args.self.now.tree c.climb.at c.in-Some.parent c.arena_holds_document.ensures.document.distinct c.climb.invariant.live (sym c.in-Some.ensures.link))
 
 pub climb-preserved : goal.climb-preserved
 climb-preserved c =
     let tree = c.args.self.now.tree in
-    let distinct = c.root-root.ensures.document.distinct in
+    let distinct = c.arena_holds_document.ensures.document.distinct in
     let last = reverse c.climb.steps.items in
     record {
       live = parent-live tree c.climb.at c.in-Some.parent distinct c.climb.invariant.live (sym c.in-Some.ensures.link);
@@ -28,5 +28,5 @@ pub returns : goal.returns
 returns c =
     let tree = c.args.self.now.tree in
     let steps : path_of tree c.args.key ≡ reverse c.climb.steps.items =
-    ap (drop 1) (c.climb.invariant.route ∙ ap (λ way. way ++ reverse c.climb.steps.items) (route-of_root tree c.climb.at c.root-root.ensures.document.distinct c.climb.invariant.live (sym c.in_default.ensures.link))) in
+    ap (drop 1) (c.climb.invariant.route ∙ ap (λ way. way ++ reverse c.climb.steps.items) (route-of_root tree c.climb.at c.arena_holds_document.ensures.document.distinct c.climb.invariant.live (sym c.in_default.ensures.link))) in
     record { path = subst (λ way. IfOk c.of.result (λ path. path ≡ way)) (c.as_slice.ensures.value ∙ c.reverse.ensures.items ∙ sym steps) c.of.ensures.steps }

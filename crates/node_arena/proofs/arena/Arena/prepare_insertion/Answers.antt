@@ -4,7 +4,7 @@ use Rattle.node_arena.specs.Changes.{KeepsAside}
 use Rattle.node_arena.specs.Document.{Document}
 use Rattle.node_arena.specs.Entries.{links_of}
 use Rattle.node_arena.proofs.AddLaws.{arena-added, tree-added}
-use Rattle.node_arena.proofs.PrepareLaws.{keeps-aside, used-kept, prepares-insertion}
+use Rattle.node_arena.proofs.PrepareLaws.{keeps-aside, prepares-insertion}
 use Rattle.node_arena.proofs.StepLaws.{seen, arena-same, tree-same}
 use Rattle.node_arena.proofs.arena.Arena.prepare_insertion.Goals as goal
 
@@ -33,7 +33,6 @@ returns c =
     tree-added c.self.inside.nodes new root c.self.invariant c.args.fragment.now keys.items c.in_ok-key.key c.in_ok-key.ensures.added ∙ ap (λ (d : Document). d.tree) c.self.view_is in
     record {
       tree = stays ∙ c.in_ok-make_room.ensures.tree;
-      prepares = prepares-insertion mid (seen new root) c.args.fragment.now keys.items c.in_ok-key.key kept old c.args.parent.now c.args.index c.in-Some.parent keys refl c.in_ok-make_room.ensures.tree stays c.in_ok-make_room.ensures.entries c.root-root.ensures.document c.in-Some.ensures.key c.requires.element c.requires.room c.in_ok-make_room.ensures.room;
-      entries = used-kept mid (seen new root) c.args.fragment.now keys.items c.in_ok-key.key kept old c.in_ok-make_room.ensures.entries;
+      prepares = prepares-insertion mid (seen new root) c.args.fragment.now keys.items c.in_ok-key.key kept old c.args.parent.now c.args.index c.in-Some.parent keys refl c.in_ok-make_room.ensures.tree stays c.in_ok-make_room.ensures.entries c.arena_holds_document.ensures.document c.in-Some.ensures.key c.requires.element c.requires.room c.in_ok-make_room.ensures.room;
       err = tt;
     }

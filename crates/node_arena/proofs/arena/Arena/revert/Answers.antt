@@ -11,5 +11,5 @@ pub returns : goal.returns
 unfolding tree_before
 returns c = record {
   tree = c.give_up.ensures.tree ∙ c.apply-undone.ensures.tree;
-  freed = frees-then c.args.self.now c.apply-undone.new.self c.give_up.new.self c.args.reversal.change c.apply-undone.result c.root-root.ensures.document c.apply-undone.ensures c.give_up.ensures;
+  freed = frees-then c.args.self.now c.apply-undone.new.self c.give_up.new.self c.args.reversal.change c.apply-undone.result c.arena_holds_document.ensures.document c.apply-undone.ensures c.give_up.ensures;
 }

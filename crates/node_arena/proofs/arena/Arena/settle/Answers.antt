@@ -10,5 +10,5 @@ pub returns : goal.returns
 unfolding IsReversal tree_before
 returns c = record {
   tree = c.give_up.ensures.tree;
-  freed = frees-gone c.args.self.now c.give_up.new.self c.args.reversal.change c.root-root.ensures.document c.requires c.give_up.ensures;
+  freed = frees-gone c.args.self.now c.give_up.new.self c.args.reversal.change c.arena_holds_document.ensures.document c.requires c.give_up.ensures;
 }
