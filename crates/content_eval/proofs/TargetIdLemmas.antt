@@ -5,7 +5,7 @@ use Rattle.std.specs.Option.{option_map, MatchOption}
 use Rattle.std.specs.Str.{chars, IsUtf8}
 use Rattle.std.proofs.lemmas.Bool.{eqb-true}
 use Rattle.std.proofs.lemmas.Str.{chars_past_char, encode_ascii, encodes-chars}
-use Rattle.definitions.specs.Punctuation.{number_sign}
+use Rattle.reading.specs.Punctuation.{number_sign}
 use Rattle.content_eval.specs.Targets.{target_id}
 
 module _ (url : List ℕ) (utf8 : IsUtf8 url) where

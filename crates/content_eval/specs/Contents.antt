@@ -3,6 +3,7 @@ use Rattle.std.specs.Prelude.{ℕ, Bool, List, [], ◌∷◌, filter, find, fold
 use Rattle.std.specs.List.{join_by}
 use Rattle.std.specs.Option.{option_map_or}
 use Rattle.std.specs.Str.{bytes_eq}
+use Rattle.plain_types.specs.Attributes.{value_of}
 use Rattle.plain_types.specs.declared.attr.Attr.{Attr}
 use Rattle.plain_types.specs.declared.box_id.BoxId.{BoxId}
 use Rattle.plain_types.specs.declared.content.Item.{Item}
@@ -13,7 +14,7 @@ use Rattle.plain_types.specs.declared.counter.Counter.{Counter}
 use Rattle.plain_types.specs.declared.counter_style.CounterStyle.{CounterStyle}
 use Rattle.plain_types.specs.declared.style.Quotes.{Quotes}
 use Rattle.plain_types.specs.declared.style_ref.StyleRef.{StyleRef}
-use Rattle.definitions.specs.Representation.{representation}
+use Rattle.css_definitions.specs.Representation.{representation}
 use Rattle.counter_sets.specs.Sets.{innermost, is_named, with_counter}
 use Rattle.quote_depth.specs.Marks.{depth_after, mark}
 use Rattle.content_eval.specs.declared.generated.Generated.{Generated}
@@ -25,7 +26,7 @@ use Rattle.content_eval.specs.declared.generated.Piece.TheVariants as piece
 -- CSS Values 5, `attr()`: the value of the attribute on the originating element; one that is absent gives
 -- nothing
 abbrev pub attribute : List Attr → List ℕ → List ℕ
-attribute attrs name = option_map_or (λ (attr : Attr). attr.value) (find (λ (attr : Attr). bytes_eq attr.name name) attrs) []
+attribute attrs name = unwrap_or (value_of name attrs) []
 
 -- 2.6: the url of a target
 abbrev pub url_of : List Attr → Url → List ℕ

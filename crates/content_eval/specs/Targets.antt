@@ -6,8 +6,8 @@ use Rattle.plain_types.specs.declared.content.Part.TheVariants.{Content, Before,
 use Rattle.plain_types.specs.declared.counter.Counter.{Counter}
 use Rattle.plain_types.specs.declared.counter_style.CounterStyle.{CounterStyle}
 use Rattle.plain_types.specs.declared.style_ref.StyleRef.{StyleRef}
-use Rattle.definitions.specs.Punctuation.{number_sign}
-use Rattle.definitions.specs.Representation.{representation}
+use Rattle.reading.specs.Punctuation.{number_sign}
+use Rattle.css_definitions.specs.Representation.{representation}
 use Rattle.counter_sets.specs.Sets.{innermost}
 use Rattle.content_eval.specs.Contents.{innermost_text, joined_text}
 use Rattle.content_eval.specs.declared.generated.Piece.{Piece}

@@ -1,7 +1,8 @@
 //! Attributes of the originating element.
 
 ghost use Rattle.std.specs.Prelude.{◌≡◌, IfOk};
-ghost use Rattle.std.specs.Str.{bytes_eq, chars};
+ghost use Rattle.std.specs.Str.{chars};
+ghost use Rattle.plain_types.specs.Attributes.{is_named};
 ghost use Rattle.content_eval.specs.Contents.{attribute, url_of};
 
 use plain_types::attr::Attr;
@@ -25,7 +26,7 @@ pub fn attribute<'a>(attrs: &'a [Attr], name: &str) -> &'a str
 
 /// Whether the attribute has this name, compared as written.
 fn is_named(attr: &Attr, name: &str) -> bool
-    ensures test { result ≡ bytes_eq attr.now.name (chars name.now) }
+    ensures test { result ≡ is_named (chars name.now) attr.now }
 {
     attr.name.as_str() == name
 }

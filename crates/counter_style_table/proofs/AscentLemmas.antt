@@ -10,7 +10,7 @@ use Rattle.std.specs.Prelude.{is_some}
 use Rattle.plain_types.specs.declared.counter_style.CounterStyle.{CounterStyle}
 use Rattle.plain_types.specs.declared.counter_style.StyleDef.{StyleDef}
 use Rattle.plain_types.specs.Table.{decimal_style}
-use Rattle.definitions.specs.CounterStyles.{over}
+use Rattle.css_definitions.specs.CounterStyles.{over}
 use Rattle.counter_style_table.specs.Extends.{AreBelow, AreReady, AreSettled, IsDescent, base, finished_at, is_covered, is_done, is_in, over_at, style_from}
 use Rattle.counter_style_table.proofs.CycleLemmas.{none_some}
 use Rattle.counter_style_table.proofs.PathLemmas.{turn_plain, turn_head, turn_cycle}

@@ -6,7 +6,7 @@ use Rattle.std.proofs.lemmas.Bool.{cases_Bool, cases_eq, eq-eqb, eqb-true, or_ca
 use Rattle.std.proofs.lemmas.List.FromFn.{length-range_with_len}
 use Rattle.plain_types.specs.declared.counter_style.CounterStyle.{CounterStyle}
 use Rattle.plain_types.specs.Table.{decimal_style}
-use Rattle.definitions.proofs.Chains.{cases_option, is_met, unmet, unmet-falls, unmet-nil, by_turns, by_turns-by_met, goes}
+use Rattle.css_definitions.proofs.Chains.{cases_option, is_met, unmet, unmet-falls, unmet-nil, by_turns, by_turns-by_met, goes}
 use Rattle.counter_style_table.specs.Extends.{led, OnCycle, leads, finished_within}
 
 pub none_some : {A : Type 0} {a : A} → None ≡ Some a → ⊥
@@ -102,7 +102,7 @@ module _ (base : ℕ → Option ℕ) where
     ]
 
     -- more steps than there are places change nothing
-    leads_enough : (m from to : ℕ) → from < count → count ≤ m → leads base m from to ≡ leads base count from to
+    pub leads_enough : (m from to : ℕ) → from < count → count ≤ m → leads base m from to ≡ leads base count from to
     leads_enough m from to h k =
         let chain = by_turns-by_met nat_eq (λ a b e. eqb-true a b e) (λ a. eq-eqb a a refl) (attempt to) base false (range_with_len 0 count) (λ p q e. numbered 0 count q (omega arith) (omega (arith, within p q e))) count in
         leads_by_turns m from to

@@ -11,7 +11,7 @@ use Rattle.plain_types.specs.declared.counter_style.StyleDef.{StyleDef}
 use Rattle.plain_types.specs.declared.style_ref.System.{System}
 use Rattle.plain_types.specs.StyleNames.{style_name}
 use Rattle.plain_types.specs.Table.{has_its_symbols, is_supplied}
-use Rattle.definitions.specs.CounterStyles.{described, extended_by, gives_right_symbols, gives_symbols, initial_style, own_style, system_of}
+use Rattle.css_definitions.specs.CounterStyles.{described, extended_by, gives_right_symbols, gives_symbols, initial_style, own_style, system_of}
 use Rattle.counter_style_table.specs.Counts.{symbol_count_after, tuple_count_after}
 
 described-system : (style : CounterStyle) (said : Descriptor) → (described style said).system ≡ style.system

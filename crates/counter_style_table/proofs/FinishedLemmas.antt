@@ -13,12 +13,12 @@ use Rattle.std.proofs.lemmas.Option.{slice_get-get_or, slice_get_past, slice_get
 use Rattle.plain_types.specs.declared.counter_style.CounterStyle.{CounterStyle}
 use Rattle.plain_types.specs.declared.counter_style.StyleDef.{StyleDef}
 use Rattle.plain_types.specs.Table.{decimal_style}
-use Rattle.definitions.specs.CounterStyles.{distinct, extended_by, extended_name, finished, finished_within, is_on_cycle, last_named, leads_to, over, own_style, system_of}
-use Rattle.definitions.proofs.Chains.{cases_option}
+use Rattle.css_definitions.specs.CounterStyles.{distinct, extended_by, extended_name, finished, finished_within, is_on_cycle, last_named, leads_to, over, own_style, system_of}
+use Rattle.css_definitions.proofs.Chains.{cases_option}
 use Rattle.counter_style_table.specs.Extends.{base, finished_at, leads, own, own_of, over_at}
 use Rattle.counter_style_table.specs.Extends.{finished_within as finished_place_within}
 use Rattle.counter_style_table.specs.Rules.{is_named, name_of, with_rule}
-use Rattle.counter_style_table.proofs.CycleLemmas.{none_some, finished-more}
+use Rattle.counter_style_table.proofs.CycleLemmas.{none_some, finished-enough, finished-more, leads_enough}
 use Rattle.counter_style_table.proofs.NameLemmas.{apart-put, bytes_eq-same, bytes_eq-refl, last_named-put, names-put, position-own}
 use Rattle.counter_style_table.proofs.SettledLemmas.{base_at, base_within}
 
@@ -175,3 +175,33 @@ module _ (rules : List StyleDef) where
             get_or-map (finished rules) (map name_of put) k [] decimal_style (omega (arith, h, length-map put name_of))
             ∙ ap (finished rules) (get_or-map name_of put k no_rule [] h)
             ∙ finished-put k rule (slice_get-get_or put k no_rule h)
+
+  -- more steps along `extends` than there are rules lead to no other names, and to no other styles
+  place_within : (p q : ℕ) → base put p ≡ Some q → q < length rules
+  place_within p q e = omega (arith, base_within put p q e, length-fold rules [])
+
+  pub cycle-enough : (name : List ℕ) (more : ℕ) → leads_to rules (length rules + more) name name ≡ is_on_cycle rules name
+  cycle-enough name more = elim (cases_option (position (is_named name) put)) [
+    | inl e ↦ undefined_leads (length rules + more) name name e ∙ sym (undefined_leads (length rules) name name e)
+    | inr (p, e) ↦
+        let found = found_at name p e in
+        let within = slice_get_within put p found.0 found.1 in
+        ap (λ n. leads_to rules (length rules + more) n n) found.2
+        ∙ leads_by_place (length rules + more) p p found.0 found.0 found.1 found.1
+        ∙ leads_enough (base put) (length rules) place_within (length rules + more) p p (omega (arith, within, length-fold rules [])) (omega arith)
+        ∙ sym (leads_by_place (length rules) p p found.0 found.0 found.1 found.1)
+        ∙ ap (λ n. leads_to rules (length rules) n n) (sym found.2)
+  ]
+
+  pub styles-enough : (name : List ℕ) (more : ℕ) → finished_within rules (length rules + more) name ≡ finished rules name
+  styles-enough name more = elim (cases_option (position (is_named name) put)) [
+    | inl e ↦ undefined_finished (length rules + more) name e ∙ sym (undefined_finished (length rules) name e)
+    | inr (p, e) ↦
+        let found = found_at name p e in
+        let within = slice_get_within put p found.0 found.1 in
+        ap (finished_within rules (length rules + more)) found.2
+        ∙ finished_by_place (length rules + more) p found.0 found.1
+        ∙ finished-enough (base put) (length rules) place_within (own put) (over_at put) (length rules + more) p (omega (arith, within, length-fold rules [])) (omega arith)
+        ∙ sym (finished_by_place (length rules) p found.0 found.1)
+        ∙ ap (finished rules) (sym found.2)
+  ]

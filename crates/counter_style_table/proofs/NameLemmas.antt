@@ -8,7 +8,7 @@ use Rattle.std.proofs.lemmas.Slice.Eq.{bytes_eq-Decides}
 use Rattle.std.proofs.lemmas.Option.{slice_get_within, get_or_from_slice_get}
 use Rattle.plain_types.specs.declared.counter_style.StyleDef.{StyleDef}
 use Rattle.plain_types.proofs.PlaceLemmas.{position_found}
-use Rattle.definitions.specs.CounterStyles.{distinct, last_named}
+use Rattle.css_definitions.specs.CounterStyles.{distinct, last_named}
 use Rattle.counter_style_table.proofs.CycleLemmas.{none_some}
 use Rattle.counter_style_table.specs.Rules.{is_named, name_of, with_rule}
 

@@ -13,8 +13,8 @@ use Rattle.plain_types.specs.declared.counter_style.CounterStyle.{CounterStyle}
 use Rattle.plain_types.specs.declared.counter_style.StyleDef.{StyleDef}
 use Rattle.plain_types.specs.StyleNames.{style_name}
 use Rattle.plain_types.specs.Table.{decimal_style}
-use Rattle.definitions.specs.CounterStyles.{extended_by, system_of}
-use Rattle.definitions.proofs.Chains.{cases_option}
+use Rattle.css_definitions.specs.CounterStyles.{extended_by, system_of}
+use Rattle.css_definitions.proofs.Chains.{cases_option}
 use Rattle.counter_style_table.specs.Extends.{AreSettled, OnCycle, base, base_of, finished_at, is_covered, is_done, is_in, own, over_at}
 use Rattle.counter_style_table.specs.Rules.{is_named}
 use Rattle.counter_style_table.proofs.CycleLemmas.{none_some, finished-plain, finished-cyclic, finished-extends}

@@ -13,9 +13,9 @@ use Rattle.plain_types.specs.declared.counter_style.Descriptor.TheVariants as de
 use Rattle.plain_types.specs.declared.counter_style.StyleDef.{StyleDef}
 use Rattle.plain_types.specs.StyleNames.{lower_case, predefined_names}
 use Rattle.plain_types.specs.Table.{IsTable, decimal_style, has_its_symbols}
-use Rattle.definitions.specs.CounterStyles.{defines, described, distinct, excluded_names, extended_by, finished, finished_styles, finished_within, gives_right_symbols, gives_symbols, is_on_cycle, kept_names, last_named, may_be_defined, over, own_style, rules_with, system_of}
-use Rattle.definitions.specs.PredefinedStyles.{predefined}
-use Rattle.definitions.proofs.Chains.{cases_option}
+use Rattle.css_definitions.specs.CounterStyles.{defines, described, distinct, excluded_names, extended_by, finished, finished_styles, finished_within, gives_right_symbols, gives_symbols, is_on_cycle, kept_names, last_named, may_be_defined, over, own_style, rules_with, system_of}
+use Rattle.css_definitions.specs.PredefinedStyles.{predefined}
+use Rattle.css_definitions.proofs.Chains.{cases_option}
 use Rattle.counter_style_table.specs.Rules.{is_named, name_of}
 use Rattle.counter_style_table.proofs.CycleLemmas.{none_some}
 use Rattle.counter_style_table.proofs.FinishedLemmas.{found_own, last_position, no_rule, put}

@@ -5,7 +5,7 @@ use Rattle.std.specs.Option.{option_and_then, option_map_or}
 use Rattle.plain_types.specs.declared.counter_style.CounterStyle.{CounterStyle}
 use Rattle.plain_types.specs.declared.counter_style.StyleDef.{StyleDef}
 use Rattle.plain_types.specs.Table.{decimal_style}
-use Rattle.definitions.specs.CounterStyles.{extended_by, over, own_style, system_of}
+use Rattle.css_definitions.specs.CounterStyles.{extended_by, over, own_style, system_of}
 use Rattle.counter_style_table.specs.Rules.{is_named}
 
 -- Places that extend one another. Each may extend another one, its base.

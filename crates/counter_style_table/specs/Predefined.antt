@@ -7,7 +7,7 @@ use Rattle.plain_types.specs.declared.counter_style.Descriptor.TheVariants as de
 use Rattle.plain_types.specs.declared.counter_style.StyleDef.{StyleDef}
 use Rattle.plain_types.specs.declared.counter_style.Weight.{Weight}
 use Rattle.plain_types.specs.declared.style_ref.System.TheVariants as system
-use Rattle.definitions.specs.PredefinedStyles.{symbols_of}
+use Rattle.css_definitions.specs.PredefinedStyles.{symbols_of}
 use Rattle.counter_style_table.specs.declared.predefined.Kind.{Kind}
 use Rattle.counter_style_table.specs.declared.predefined.Kind.TheVariants.{Numeric, LeadingZero, CjkDecimal, Alphabetic, Additive, Sign}
 use Rattle.counter_style_table.specs.declared.predefined.Predefined.{Predefined}

@@ -2,7 +2,7 @@
 
 ghost use Rattle.std.specs.Prelude.{◌≡◌, [], IfOk, OnOk, filter};
 ghost use Rattle.std.specs.List.{fold};
-ghost use Rattle.definitions.specs.CounterStyles.{defines, finished_styles, rules_with};
+ghost use Rattle.css_definitions.specs.CounterStyles.{defines, finished_styles, rules_with};
 ghost use Rattle.counter_style_table.specs.Rules.{with_rule};
 
 use crate::defines::defines;

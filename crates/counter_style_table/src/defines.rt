@@ -3,7 +3,7 @@
 ghost use Rattle.std.specs.Prelude.{◌≡◌};
 ghost use Rattle.std.specs.List.{fold, list_any};
 ghost use Rattle.std.specs.Str.{chars};
-ghost use Rattle.definitions.specs.CounterStyles.{defines, gives_right_symbols, gives_symbols, may_be_defined};
+ghost use Rattle.css_definitions.specs.CounterStyles.{defines, gives_right_symbols, gives_symbols, may_be_defined};
 ghost use Rattle.counter_style_table.specs.Counts.{symbol_count_after, tuple_count_after};
 
 use crate::describe::{extended_name, named_system};

@@ -5,7 +5,7 @@ ghost use Rattle.std.specs.List.{fold};
 ghost use Rattle.std.specs.Option.{option_map};
 ghost use Rattle.std.specs.Str.{chars};
 ghost use Rattle.plain_types.specs.StyleNames.{style_name};
-ghost use Rattle.definitions.specs.CounterStyles.{automatic_range, described, system_after, extended_by, initial_style, over, own_style, system_of};
+ghost use Rattle.css_definitions.specs.CounterStyles.{automatic_range, described, system_after, extended_by, initial_style, over, own_style, system_of};
 
 use plain_types::count::Count;
 use plain_types::counter_style::{Bounds, CounterStyle, Descriptor, StyleDef};

@@ -7,7 +7,7 @@
 //! extend `decimal` (3.1.7).
 //!
 //! The layer above knows this crate by `finished_styles` of the definitions, which [`build::build`] equals.
-//! Each chain of `extends` ends, and each rule is passed once: nothing recurses on the sheet.
+//! Each chain of `extends` ends, as [`laws`] says, and each rule is passed once: nothing recurses on the sheet.
 //!
 //! ```text
 //! // @counter-style z { system: extends decimal; pad: 4 "0" }
@@ -20,5 +20,6 @@ pub mod build;
 mod defines;
 mod describe;
 mod finish;
+pub mod laws;
 mod predefined;
 mod rules;

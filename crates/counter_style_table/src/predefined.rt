@@ -3,7 +3,7 @@
 ghost use Rattle.std.specs.Prelude.{◌≡◌, ◌∷◌, [], IfOk, Some, None, codes, map, pos};
 ghost use Rattle.std.specs.Str.{chars};
 ghost use Rattle.plain_types.specs.Table.{decimal_style};
-ghost use Rattle.definitions.specs.PredefinedStyles.{predefined, symbols_of};
+ghost use Rattle.css_definitions.specs.PredefinedStyles.{predefined, symbols_of};
 ghost use Rattle.counter_style_table.specs.Predefined.{descriptors_of, rule_of, tuple_of};
 
 use crate::describe::initial_style;

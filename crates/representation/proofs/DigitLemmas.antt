@@ -1,5 +1,5 @@
 -- Digits, and texts that are written from the last digit to the first.
-use Rattle.std.proofs.Common.{◌≡◌, ◌<◌, ◌≤◌, ◌+◌, ◌-◌, ◌*◌, ◌/◌, ◌%◌, ℕ, zero, suc, List, [], ◌∷◌, ◌++◌, Option, length, length-append, get_or, reverse, refl, sym, ap, ◌∙◌, arith, append_assoc, flat_map, cond, ◌==◌, All, inl, inr}
+use Rattle.std.proofs.Common.{◌≡◌, ◌<◌, ◌≤◌, ◌-◌, ◌/◌, ◌%◌, ℕ, zero, suc, List, [], ◌∷◌, ◌++◌, Option, length, length-append, get_or, reverse, refl, sym, ap, ◌∙◌, arith, append_assoc, flat_map, cond, All, inl, inr}
 use Rattle.std.specs.List.{repeat}
 use Rattle.std.proofs.lemmas.List.Elements.{All-append, All-cons}
 use Rattle.std.proofs.lemmas.List.{reverse-append, get_or_default}
@@ -7,7 +7,7 @@ use Rattle.std.proofs.lemmas.Grind.{common_steps}
 use Rattle.std.proofs.Math.Seq.{get_or-append_seam}
 use Rattle.std.proofs.lemmas.Bool.{cases_lt, ne_eqb, eq-eqb}
 use Rattle.std.proofs.lemmas.Nat.{div-add-mod', mul-le}
-use Rattle.definitions.specs.Representation.{symbol, bijective_digits, bijective_digits_within}
+use Rattle.css_definitions.specs.Representation.{symbol, bijective_digits, bijective_digits_within}
 use Rattle.representation.specs.Draft.{extended}
 use Rattle.representation.proofs.DraftLemmas.{extended-append, repeat-one}
 

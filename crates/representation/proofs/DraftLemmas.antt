@@ -3,7 +3,7 @@ use Rattle.std.proofs.Common.{◌≡◌, ◌<◌, ◌≤◌, ◌+◌, ◌-◌, �
 use Rattle.std.specs.List.{repeat}
 use Rattle.std.proofs.lemmas.Bool.{le-leb, lt-leb, cases_lt}
 use Rattle.std.proofs.lemmas.Nat.{div-add-mod', mul-le, le-div}
-use Rattle.definitions.specs.Representation.{limited}
+use Rattle.css_definitions.specs.Representation.{limited}
 use Rattle.representation.specs.Draft.{extended}
 
 pub extended-nil : (draft : Option (List ℕ)) → extended draft [] ≡ draft

@@ -2,3 +2,4 @@ pub mod DraftLemmas
 pub mod DigitLemmas
 pub mod WrittenLemmas
 pub mod RepresentLemmas
+pub mod TurnLemmas

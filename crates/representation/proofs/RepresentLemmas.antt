@@ -1,5 +1,5 @@
 -- Which style is meant.
-use Rattle.std.proofs.Common.{◌≡◌, ◌+◌, ◌<◌, ◌^◌, ℕ, ℤ, List, [], ◌∷◌, get_or, codes, unsigned_abs, pos, negsuc, arith, add-one, lit<, Option, Some, None, Bool, true, false, cond, length, unwrap_or, refl, sym, ap, ◌∙◌}
+use Rattle.std.proofs.Common.{◌≡◌, ◌+◌, ◌<◌, ◌^◌, ℕ, ℤ, List, [], ◌∷◌, get_or, codes, unsigned_abs, pos, negsuc, arith, add-one, lit<, Some, None, Bool, true, false, cond, length, unwrap_or, sym, ap, ◌∙◌}
 use Rattle.std.specs.Fmt.{signed_decimal}
 use Rattle.std.specs.Int.Signed.{mag}
 use Rattle.std.specs.List.{slice_get}
@@ -10,8 +10,8 @@ use Rattle.plain_types.specs.declared.style_ref.Anonymous.{Anonymous}
 use Rattle.plain_types.specs.declared.style_ref.StyleRef.{StyleRef}
 use Rattle.plain_types.specs.declared.style_ref.StyleRef.TheVariants.{Name, Symbols}
 use Rattle.plain_types.specs.Table.{IsTable, decimal_style, is_supplied, place_named, style_named}
-use Rattle.definitions.specs.Representation.{anonymous_style, chosen_style, next_style, represented, represented_within, written}
-use Rattle.definitions.proofs.FallbackLaws.{found_within, represented-decimal}
+use Rattle.css_definitions.specs.Representation.{anonymous_style, chosen_style, next_style, represented, represented_within, written}
+use Rattle.css_definitions.proofs.FallbackLaws.{found_within, represented-decimal}
 
 -- a count has an absolute value of 64 bits at most
 pub abs-small : (value : ℤ) → mag value < 2 ^ 63 → unsigned_abs value < 2 ^ 64

@@ -1,14 +1,13 @@
 -- What a style writes, from its initial text on.
-use Rattle.std.proofs.Common.{◌≡◌, ◌+◌, ◌-◌, ◌<◌, ◌≤◌, ℕ, ℤ, List, [], ◌∷◌, ◌++◌, Option, Some, None, Bool, true, false, ◌&&◌, cond, length, refl, sym, ap, ◌∙◌, arith, append-nil, length-append, inl, inr, codes}
+use Rattle.std.proofs.Common.{◌≡◌, ℕ, ℤ, List, [], ◌++◌, Option, Some, None, true, ◌&&◌, cond, length, refl, ap, ◌∙◌, arith, append-nil, length-append, inl, inr, codes}
 use Rattle.std.specs.Int.{is_negative}
 use Rattle.std.specs.List.{list_any, repeat}
 use Rattle.std.specs.Option.{option_map, option_and_then}
-use Rattle.std.specs.Str.{chars}
 use Rattle.std.proofs.lemmas.Bool.{cases_lt, cases_Bool}
 use Rattle.plain_types.specs.declared.counter_style.CounterStyle.{CounterStyle}
 use Rattle.plain_types.specs.declared.style_ref.Anonymous.{Anonymous}
-use Rattle.definitions.specs.CounterStyles.{automatic_range}
-use Rattle.definitions.specs.Representation.{written, limited, padded, signed, initial_text, is_in_range, is_in_bounds, has_sign, uses_sign, anonymous_style, missing_count, cluster_count}
+use Rattle.css_definitions.specs.CounterStyles.{automatic_range}
+use Rattle.css_definitions.specs.Representation.{written, limited, padded, signed, initial_text, is_in_range, is_in_bounds, uses_sign, anonymous_style, missing_count}
 use Rattle.representation.proofs.DraftLemmas.{limited-over, limited-within}
 
 -- a text with something in front of it is no shorter

@@ -6,7 +6,7 @@ ghost use Rattle.std.specs.Option.{option_map};
 ghost use Rattle.std.specs.Ordering.{int_eq};
 ghost use Rattle.plain_types.specs.declared.counter_style.Weight.{Weight};
 ghost use Rattle.plain_types.specs.Table.{is_supplied};
-ghost use Rattle.definitions.specs.Representation.{symbol, limited, initial_text, additive_text, numeric_text, alphabetic_text, symbolic_text};
+ghost use Rattle.css_definitions.specs.Representation.{symbol, limited, initial_text, additive_text, numeric_text, alphabetic_text, symbolic_text};
 
 use crate::draft::Draft;
 use crate::systems::{
@@ -31,7 +31,7 @@ pub fn initial_draft(
     requires supplied { IsTrue (is_supplied system.now (length symbols.now) (length tuples.now)) }
     ensures text { IfOk result (λ draft. draft ≡ option_map limited (initial_text system.now symbols.now tuples.now value)) }
 {
-    let number = value.unsigned_abs() as u64;
+    let number = value.unsigned_abs();
     match system {
         System::Cyclic => {
             let place = cyclic_place(value, symbols.len());

@@ -5,7 +5,7 @@ ghost use Rattle.std.specs.Fmt.{signed_decimal};
 ghost use Rattle.std.specs.List.{HoldsAt};
 ghost use Rattle.std.specs.Str.{chars};
 ghost use Rattle.plain_types.specs.Table.{IsTable, decimal_style, style_named};
-ghost use Rattle.definitions.specs.Representation.{represented, representation, marker_text, chosen_style};
+ghost use Rattle.css_definitions.specs.Representation.{represented, representation, marker_text, chosen_style};
 
 use crate::written::{write_anonymous, write_style};
 use plain_types::count::Count;
@@ -19,7 +19,7 @@ use std::alloc::Global;
 /// and so does `symbols()` with too few symbols.
 ///
 /// A style that does not write the value hands it to its fallback, and a chain of fallbacks ends at
-/// `decimal` at the latest. Each style that is tried costs at most 32 digits and 120 code points; finding
+/// `decimal` at the latest. Each style that is tried costs at most 64 digits and 120 code points; finding
 /// its fallback costs time linear in the table.
 pub fn represent(
     alloc: Global,
@@ -101,8 +101,8 @@ fn represent_named(alloc: Global, table: &Table, name: &str, value: Count) -> Re
     }
 }
 
-/// The text of the first style that writes the value, from the style at a place along the fallbacks. No
-/// style writes a value that it did not write before, so there are no more turns than styles.
+/// The text of the first style that writes the value, from the style at a place along the fallbacks, which
+/// end ([`crate::laws::fallbacks_end`]): there are no more turns than styles.
 fn follow_fallbacks(
     alloc: Global,
     table: &Table,

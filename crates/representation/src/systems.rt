@@ -1,7 +1,7 @@
 //! The algorithms of counter styles (CSS Counter Styles 3, 3.1).
 
 ghost use Rattle.std.specs.Prelude.{◌≡◌, ◌<◌, ◌≤◌, ◌==◌, ℕ, length, OnOk, IfOk, flat_map, reverse, All};
-ghost use Rattle.definitions.specs.Representation.{symbol, cyclic_place, fixed_place, numeric_text, alphabetic_text, symbolic_text, additive_parts, additive_rest};
+ghost use Rattle.css_definitions.specs.Representation.{symbol, cyclic_place, fixed_place, numeric_text, alphabetic_text, symbolic_text, additive_parts, additive_rest};
 ghost use Rattle.representation.specs.Draft.{extended};
 
 use crate::draft::Draft;
@@ -107,7 +107,7 @@ pub fn write_additive(tuples: &[Weight], number: u64, draft: &mut Draft) -> Resu
 {
     let mut rest = number;
     for tuple in tuples {
-        let weight = tuple.weight.unsigned_abs() as u64;
+        let weight = tuple.weight.unsigned_abs();
         if tuple.weight >= 1 && weight <= rest {
             draft.push(tuple.symbol.as_str(), rest / weight)?;
             rest = rest % weight;

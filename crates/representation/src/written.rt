@@ -5,8 +5,8 @@ ghost use Rattle.std.specs.Int.{is_negative};
 ghost use Rattle.std.specs.List.{list_any};
 ghost use Rattle.std.specs.Str.{chars};
 ghost use Rattle.plain_types.specs.Table.{has_its_symbols, is_supplied};
-ghost use Rattle.definitions.specs.CounterStyles.{automatic_range};
-ghost use Rattle.definitions.specs.Representation.{written, uses_sign, is_in_bounds, cluster_count, missing_count, padded, signed, limited, anonymous_style};
+ghost use Rattle.css_definitions.specs.CounterStyles.{automatic_range};
+ghost use Rattle.css_definitions.specs.Representation.{written, uses_sign, is_in_bounds, cluster_count, missing_count, padded, signed, limited, anonymous_style};
 
 use crate::draft::Draft;
 use crate::initial::initial_draft;

@@ -1,9 +1,6 @@
 //! What boxes do to counters.
 
 use plain_types::count::Count;
-use plain_types::duplicate::Duplicate;
-use plain_types::memory::Memory;
-use std::alloc::Global;
 
 /// What one box does to one counter (CSS Lists 3, 4.2): its whole increment, which is 0 where it has none,
 /// and then the value that it sets, if it sets one.
@@ -11,10 +8,4 @@ use std::alloc::Global;
 pub struct Event {
     pub by: Count,
     pub assigned: Option<Count>,
-}
-
-impl Duplicate for Event {
-    fn duplicate(&self, _alloc: Global) -> Result<Event, Memory> {
-        Ok(*self)
-    }
 }

@@ -6,8 +6,8 @@ use lib.Utf8.{encode}
 use Rattle.std.specs.Fmt.{signed_decimal}
 use Rattle.std.specs.List.{flat_map}
 use Rattle.std.specs.Str.{IsAscii}
-use Rattle.definitions.specs.Dump.{quoted}
-use Rattle.definitions.specs.Representation.{natural, representation}
+use Rattle.dump_definitions.specs.Dump.{quoted}
+use Rattle.css_definitions.specs.Representation.{natural, representation}
 use Rattle.plain_types.specs.declared.counter_style.CounterStyle.{CounterStyle}
 use Rattle.plain_types.specs.declared.style_ref.StyleRef.{StyleRef}
 use Rattle.table_text.specs.Rows.{row_text, rows, values_between, values_from}

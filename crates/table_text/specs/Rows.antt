@@ -4,8 +4,8 @@ use Rattle.std.specs.Fmt.{signed_decimal}
 use Rattle.std.specs.List.{flat_map}
 use Rattle.plain_types.specs.declared.counter_style.CounterStyle.{CounterStyle}
 use Rattle.plain_types.specs.declared.style_ref.StyleRef.{StyleRef}
-use Rattle.definitions.specs.Dump.{quoted}
-use Rattle.definitions.specs.Representation.{natural, representation}
+use Rattle.dump_definitions.specs.Dump.{quoted}
+use Rattle.css_definitions.specs.Representation.{natural, representation}
 
 -- so many values, from this one on
 abbrev pub values_from : ℤ → ℕ → List ℤ

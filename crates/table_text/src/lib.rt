@@ -13,3 +13,5 @@
 #![tactic(auto)]
 
 pub mod put_rows;
+#[cfg(test)]
+mod tests;

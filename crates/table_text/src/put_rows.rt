@@ -17,13 +17,16 @@ use ports::failed::Failed;
 use ports::sink::{Sink, put_all};
 use representation::represent::represent;
 use std::alloc::Global;
+use thiserror::Error;
 
 /// Why rows were not put, or not all of them.
-#[derive(Clone, Copy, Debug, PartialEq, Eq)]
+#[derive(Clone, Copy, Debug, PartialEq, Eq, Error)]
 pub enum RowFault {
     /// A write failed.
+    #[error("a write failed")]
     WriteFault,
     /// Memory was wanting.
+    #[error("out of memory")]
     Memory,
 }
 

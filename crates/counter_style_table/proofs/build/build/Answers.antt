@@ -3,7 +3,7 @@ use Rattle.std.specs.List.{fold, range_with_len}
 use Rattle.plain_types.specs.Table.{IsTable}
 use Rattle.plain_types.specs.declared.counter_style.CounterStyle.{CounterStyle}
 use Rattle.plain_types.specs.declared.counter_style.StyleDef.{StyleDef}
-use Rattle.definitions.specs.CounterStyles.{finished_styles, rules_with}
+use Rattle.css_definitions.specs.CounterStyles.{finished_styles, rules_with}
 use Rattle.counter_style_table.specs.Extends.{finished_at}
 use Rattle.counter_style_table.specs.Rules.{with_rule}
 use Rattle.counter_style_table.proofs.FinishedLemmas.{finished-all}

@@ -1,6 +1,6 @@
 use Rattle.std.proofs.Common.{◌≡◌, drop, filter}
 use Rattle.std.specs.List.{fold}
-use Rattle.definitions.specs.CounterStyles.{defines}
+use Rattle.css_definitions.specs.CounterStyles.{defines}
 use Rattle.counter_style_table.specs.Rules.{with_rule}
 use Rattle.counter_style_table.proofs.build.put_defining.Given as goal
 

@@ -1,7 +1,7 @@
 use Rattle.std.proofs.Common.{sym, ap, ◌∙◌}
 use Rattle.std.specs.List.{fold}
 use Rattle.plain_types.specs.declared.style_ref.System.TheVariants.{Symbolic}
-use Rattle.definitions.specs.CounterStyles.{system_after, extended_by, system_of}
+use Rattle.css_definitions.specs.CounterStyles.{system_after, extended_by, system_of}
 use Rattle.counter_style_table.specs.Counts.{symbol_count_after, tuple_count_after}
 use Rattle.counter_style_table.proofs.DescribeLemmas.{right_by_counts, extends_nothing}
 use Rattle.counter_style_table.proofs.defines.gives_right_symbols.Goals as goal

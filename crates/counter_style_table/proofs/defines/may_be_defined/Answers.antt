@@ -1,7 +1,7 @@
 use Rattle.std.proofs.Common.{◌≡◌, ℕ, List, Option, Some, None, Bool, true, false, not, ◌++◌, refl, sym, ap, ◌∙◌}
 use Rattle.std.specs.Borrow.{Bor}
 use Rattle.std.specs.Prelude.{is_some, option_copied}
-use Rattle.definitions.specs.CounterStyles.{excluded_names, kept_names}
+use Rattle.css_definitions.specs.CounterStyles.{excluded_names, kept_names}
 use Rattle.plain_types.proofs.StyleNameLemmas.{is_some-known}
 use Rattle.counter_style_table.proofs.defines.may_be_defined.Goals as goal
 

@@ -1,7 +1,7 @@
 use Rattle.std.proofs.Common.{◌≡◌, drop, option_copied, unwrap_or}
 use Rattle.std.specs.List.{fold}
 use Rattle.plain_types.specs.declared.style_ref.System.TheVariants.{Symbolic}
-use Rattle.definitions.specs.CounterStyles.{system_after}
+use Rattle.css_definitions.specs.CounterStyles.{system_after}
 use Rattle.counter_style_table.proofs.describe.named_system.Given as goal
 
 abbrev pub invariant-loop-descriptor : goal.invariant-loop-descriptor

@@ -1,6 +1,6 @@
 use Rattle.std.proofs.Common.{◌≡◌, drop}
 use Rattle.std.specs.List.{fold}
-use Rattle.definitions.specs.CounterStyles.{described}
+use Rattle.css_definitions.specs.CounterStyles.{described}
 use Rattle.counter_style_table.proofs.describe.over.Given as goal
 
 abbrev pub invariant-loop-descriptor : goal.invariant-loop-descriptor

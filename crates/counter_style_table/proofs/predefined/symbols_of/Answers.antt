@@ -2,7 +2,7 @@ use Rattle.std.proofs.Common.{sym, ap, ◌∙◌}
 use Rattle.std.specs.Str.{chars}
 use Rattle.std.specs.declared.str.Chars.{Chars}
 use Rattle.std.proofs.lemmas.Str.{Chars-Drains, encodes-chars}
-use Rattle.definitions.specs.PredefinedStyles.{symbols_of}
+use Rattle.css_definitions.specs.PredefinedStyles.{symbols_of}
 use Rattle.counter_style_table.proofs.predefined.symbols_of.Goals as goal
 
 pub returns : goal.returns

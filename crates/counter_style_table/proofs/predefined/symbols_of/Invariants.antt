@@ -1,5 +1,5 @@
 use Rattle.std.proofs.Common.{◌≡◌}
-use Rattle.definitions.specs.PredefinedStyles.{symbols_of}
+use Rattle.css_definitions.specs.PredefinedStyles.{symbols_of}
 use Rattle.counter_style_table.proofs.predefined.symbols_of.Given as goal
 
 abbrev pub invariant-loop-character : goal.invariant-loop-character

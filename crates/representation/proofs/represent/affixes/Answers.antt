@@ -1,8 +1,7 @@
-use Rattle.std.proofs.Common.{◌≡◌, ℕ, List, refl, sym, ap, ◌∙◌}
+use Rattle.std.proofs.Common.{sym, ap, ◌∙◌}
 use Rattle.std.specs.Str.{chars}
 use Rattle.plain_types.specs.declared.counter_style.CounterStyle.{CounterStyle}
-use Rattle.plain_types.specs.Table.{decimal_style}
-use Rattle.definitions.specs.Representation.{anonymous_style, chosen_style}
+use Rattle.css_definitions.specs.Representation.{chosen_style}
 use Rattle.representation.proofs.RepresentLemmas.{chosen-unknown, chosen-supplied, chosen-unsupplied}
 use Rattle.representation.proofs.represent.affixes.Goals as goal
 

@@ -1,4 +1,4 @@
-use Rattle.std.proofs.Common.{◌≡◌, ◌<◌, ◌^◌, ℕ, ℤ, List, arith, ap, sym, ◌∙◌, lit<}
+use Rattle.std.proofs.Common.{arith, ap, ◌∙◌}
 use Rattle.std.specs.Fmt.{signed_decimal}
 use Rattle.std.specs.Str.{chars}
 use Rattle.std.proofs.lemmas.Fmt.{IsAscii-signed}
@@ -11,10 +11,9 @@ pub returns : goal.returns
 returns c =
     let fits = c.ranges.value in
     let digits = simp to_z-of_z at c.in_ok-digits.ensures.ok in
-    let small : 2 ^ 31 < 2 ^ 63 = lit< tt in
     record {
       text =
           IfOk-weaker c.from_str.result _ _
-          (λ text e. e ∙ ap chars (c.as_str.ensures.value ∙ digits) ∙ chars-IsAscii (signed_decimal c.args.value) (IsAscii-signed c.args.value (omega (arith, small, c.ranges.value.sfits))))
+          (λ text e. e ∙ ap chars (c.as_str.ensures.value ∙ digits) ∙ chars-IsAscii (signed_decimal c.args.value) (IsAscii-signed c.args.value (omega (arith, c.ranges.value.sfits))))
           c.from_str.ensures.characters;
     }

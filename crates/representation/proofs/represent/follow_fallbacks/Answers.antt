@@ -1,14 +1,11 @@
-use Rattle.std.proofs.Common.{◌≡◌, ◌<◌, ◌-◌, ◌+◌, ℕ, ℤ, List, Option, Some, None, length, get_or, arith, ap, sym, ◌∙◌, refl}
-use Rattle.std.specs.Fmt.{signed_decimal}
-use Rattle.std.specs.List.{slice_get}
-use Rattle.std.specs.Str.{chars}
+use Rattle.std.proofs.Common.{◌≡◌, ◌<◌, ◌-◌, ℕ, ℤ, List, Some, length, get_or, arith, ap, sym, ◌∙◌}
 use Rattle.std.proofs.lemmas.Int.{to_z-of_z}
 use Rattle.std.proofs.lemmas.Option.{slice_get-get_or}
 use Rattle.std.proofs.lemmas.Result.{IfOk-weaker}
 use Rattle.plain_types.specs.declared.counter_style.CounterStyle.{CounterStyle}
 use Rattle.plain_types.specs.Table.{IsTable, place_named}
-use Rattle.definitions.specs.Representation.{represented}
-use Rattle.definitions.proofs.FallbackLaws.{walked, walked-writes, walked-follows, walked-ends, walked-none, walked-represented, found_within}
+use Rattle.css_definitions.specs.Representation.{represented}
+use Rattle.css_definitions.proofs.FallbackLaws.{walked, walked-writes, walked-follows, walked-ends, walked-none, walked-represented, found_within}
 use Rattle.representation.proofs.represent.follow_fallbacks.Goals as goal
 
 -- the walk from the start is what is represented

@@ -1,5 +1,5 @@
 use Rattle.std.proofs.Common.{◌≡◌, ◌<◌, ◌-◌, length}
-use Rattle.definitions.proofs.FallbackLaws.{walked}
+use Rattle.css_definitions.proofs.FallbackLaws.{walked}
 use Rattle.representation.proofs.represent.follow_fallbacks.Given as goal
 
 abbrev pub invariant-loop-turn : goal.invariant-loop-turn

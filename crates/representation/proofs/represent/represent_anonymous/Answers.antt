@@ -1,11 +1,11 @@
-use Rattle.std.proofs.Common.{◌≡◌, ◌<◌, ◌+◌, ◌^◌, [], length, unwrap_or, unsigned_abs, refl, sym, ap, ◌∙◌, arith, lit<}
+use Rattle.std.proofs.Common.{◌≡◌, ◌<◌, ◌+◌, ◌^◌, [], length, unwrap_or, unsigned_abs, refl, sym, ap, ◌∙◌, arith}
 use Rattle.std.specs.Fmt.{signed_decimal}
 use Rattle.std.specs.Str.{chars}
 use Rattle.std.proofs.lemmas.Int.{to_z-of_z}
 use Rattle.std.proofs.lemmas.Result.{IfOk-weaker}
 use Rattle.plain_types.specs.declared.style_ref.StyleRef.TheVariants.{Symbols}
-use Rattle.definitions.specs.Representation.{anonymous_style, represented, representation}
-use Rattle.definitions.proofs.FallbackLaws.{represented-anonymous, represented-decimal}
+use Rattle.css_definitions.specs.Representation.{anonymous_style, represented, representation}
+use Rattle.css_definitions.proofs.FallbackLaws.{represented-anonymous, represented-decimal}
 use Rattle.representation.proofs.RepresentLemmas.{abs-small, represented-writes, represented-decimal_name, chosen-supplied, chosen-unsupplied}
 use Rattle.representation.proofs.represent.represent_anonymous.Goals.{then-is_supplied+in_ok-text+in_default, else-is_supplied}
 use Rattle.representation.proofs.represent.represent_anonymous.Goals as goal
@@ -25,8 +25,7 @@ unfolding chars
 returns c =
     let fits = c.ranges.value in
     let named = simp to_z-of_z at c.represent_named.ensures.text in
-    let room : 2 ^ 31 < 2 ^ 63 = lit< tt in
-    let small : unsigned_abs c.args.value < 2 ^ 64 = abs-small c.args.value (omega (arith, room, c.ranges.value.sfits)) in
+    let small : unsigned_abs c.args.value < 2 ^ 64 = abs-small c.args.value (omega (arith, c.ranges.value.sfits)) in
     let meant : representation c.args.table.now (Symbols c.args.anonymous.now) c.args.value ≡ signed_decimal c.args.value =
     elim c.if-is_supplied.branch [
       | then-is_supplied+in_ok-text+in_default w ↦

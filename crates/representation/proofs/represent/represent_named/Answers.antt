@@ -1,4 +1,4 @@
-use Rattle.std.proofs.Common.{◌<◌, ◌^◌, sym, ◌∙◌, arith, lit<}
+use Rattle.std.proofs.Common.{sym, ◌∙◌, arith}
 use Rattle.std.specs.Str.{chars}
 use Rattle.std.proofs.lemmas.Int.{to_z-of_z}
 use Rattle.std.proofs.lemmas.Result.{IfOk-weaker}
@@ -15,5 +15,4 @@ pub returns-in-None-clause-text : goal.returns-in-None-clause-text
 returns-in-None-clause-text c =
     let fits = c.ranges.value in
     let last = simp to_z-of_z at c.decimal.ensures.text in
-    let room : 2 ^ 31 < 2 ^ 63 = lit< tt in
-    IfOk-weaker c.decimal.result _ _ (λ text e. e ∙ sym (represented-unknown c.args.table.now c.args.value (chars c.args.name.now) (sym c.find.ensures.place ∙ c.in-None.is) (abs-small c.args.value (omega (arith, room, c.ranges.value.sfits))))) last
+    IfOk-weaker c.decimal.result _ _ (λ text e. e ∙ sym (represented-unknown c.args.table.now c.args.value (chars c.args.name.now) (sym c.find.ensures.place ∙ c.in-None.is) (abs-small c.args.value (omega (arith, c.ranges.value.sfits))))) last

@@ -1,5 +1,5 @@
 use Rattle.std.proofs.Common.{◌≡◌, drop}
-use Rattle.definitions.specs.Representation.{additive_parts, additive_rest}
+use Rattle.css_definitions.specs.Representation.{additive_parts, additive_rest}
 use Rattle.representation.specs.Draft.{extended}
 use Rattle.representation.proofs.systems.write_additive.Given as goal
 

@@ -1,6 +1,5 @@
 use Rattle.std.proofs.Common.{◌≡◌, ◌<◌, ◌++◌, reverse, All}
-use Rattle.std.specs.Int.Digits.{digits_of}
-use Rattle.definitions.specs.Representation.{bijective_digits}
+use Rattle.css_definitions.specs.Representation.{bijective_digits}
 use Rattle.representation.proofs.systems.write_alphabetic.Given as goal
 
 abbrev pub invariant-digit : goal.invariant-digit

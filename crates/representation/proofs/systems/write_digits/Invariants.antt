@@ -1,5 +1,5 @@
 use Rattle.std.proofs.Common.{◌≡◌, ◌<◌, length, flat_map, reverse, All}
-use Rattle.definitions.specs.Representation.{symbol}
+use Rattle.css_definitions.specs.Representation.{symbol}
 use Rattle.representation.specs.Draft.{extended}
 use Rattle.representation.proofs.systems.write_digits.Given as goal
 

@@ -1,7 +1,7 @@
 use Rattle.std.proofs.Common.{arith}
 use Rattle.std.proofs.lemmas.Nat.{mod_below}
 use Rattle.std.proofs.lemmas.Int.Digits.{digits_of_step}
-use Rattle.representation.proofs.DigitLemmas.{collects_digit, below-push, bijective_digits-step}
+use Rattle.representation.proofs.DigitLemmas.{collects_digit, below-push}
 use Rattle.representation.proofs.systems.write_numeric.Goals as goal
 
 pub digit-preserved : goal.digit-preserved

@@ -1,6 +1,5 @@
 use Rattle.std.proofs.Common.{◌≡◌, ◌<◌, ◌++◌, reverse, All}
 use Rattle.std.specs.Int.Digits.{digits_of}
-use Rattle.definitions.specs.Representation.{bijective_digits}
 use Rattle.representation.proofs.systems.write_numeric.Given as goal
 
 abbrev pub invariant-digit : goal.invariant-digit

@@ -1,6 +1,5 @@
 use Rattle.std.proofs.Common.{Some, sym, ap, ◌∙◌, ◌++◌, codes}
 use Rattle.std.specs.Str.{chars}
-use Rattle.std.proofs.lemmas.Bool.{not-false}
 use Rattle.std.proofs.lemmas.Int.{to_z-of_z}
 use Rattle.representation.proofs.WrittenLemmas.{written-anonymous, signed-anonymous}
 use Rattle.representation.proofs.written.write_anonymous.Goals as goal

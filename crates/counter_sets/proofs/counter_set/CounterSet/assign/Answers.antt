@@ -1,4 +1,4 @@
-use Rattle.std.proofs.Common.{◌≡◌, ◌∙◌, ◌++◌, ◌∷◌, [], ℤ, List, false, ap, subst, rules, IfOk, to_z, of_z, w32}
+use Rattle.std.proofs.Common.{◌≡◌, ◌∙◌, ◌++◌, ◌∷◌, [], ℤ, List, false, ap, subst, rules, IfOk, to_z, of_z, w64}
 use Rattle.plain_types.specs.declared.counter.Counter.{Counter}
 use Rattle.counter_sets.specs.Sets.{change_at, innermost_place, is_missing_in, with_value}
 use Rattle.counter_sets.proofs.SetLemmas.{changed_there, changed_anew}
@@ -6,7 +6,7 @@ use Rattle.counter_sets.proofs.counter_set.CounterSet.assign.Goals as goal
 
 pub returns-in-Some : goal.returns-in-Some
 returns-in-Some c =
-    let same : to_z w32 (of_z w32 c.args.value) ≡ c.args.value = search rules in
+    let same : to_z w64 (of_z w64 c.args.value) ≡ c.args.value = search rules in
     let there = changed_there (is_missing_in c.args.parent.now) c.args.creator (λ _. c.args.value) c.args.self.now c.args.name.now c.in-Some.place
     (c.in-Some.ensures.place ∙ ap (innermost_place c.args.self.now) c.as_str.ensures.characters) c.in-Some.ensures.within in
     record {
@@ -15,7 +15,7 @@ returns-in-Some c =
 
 pub returns-in-None : goal.returns-in-None
 returns-in-None c =
-    let same : to_z w32 (of_z w32 c.args.value) ≡ c.args.value = search rules in
+    let same : to_z w64 (of_z w64 c.args.value) ≡ c.args.value = search rules in
     let anew = changed_anew (is_missing_in c.args.parent.now) c.args.creator (λ _. c.args.value) c.args.self.now c.args.name.now
     (c.in-None.ensures.place ∙ ap (innermost_place c.args.self.now) c.as_str.ensures.characters) in
     let new : ℤ → Counter = λ v. record { name = c.args.name.now; creator = c.args.creator; reversed = false; value = v } in

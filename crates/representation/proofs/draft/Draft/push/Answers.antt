@@ -1,4 +1,4 @@
-use Rattle.std.proofs.Common.{rules, arith, ap, sym, ◌∙◌, ◌++◌, length, ◌≡◌}
+use Rattle.std.proofs.Common.{arith, ap, ◌∙◌, ◌++◌, length}
 use Rattle.std.specs.List.{repeat}
 use Rattle.std.specs.Str.{chars}
 use Rattle.representation.proofs.DraftLemmas.{extended-by_nothing, repeat-nil, goes_over, stays_within, grows, room_left, room_falls, was_over}
