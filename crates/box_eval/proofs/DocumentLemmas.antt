@@ -22,7 +22,7 @@ use Rattle.box_eval.specs.Boxes.{box_of, has_marker, has_pseudo_box}
 use Rattle.box_eval.specs.Elements.{Handed, Styled, after_of, at_root, before_of, behind_marker, by_parent, by_peers, children_handed, closing_of, content_of, entry_of, formed_box, inherited_by, inside, marker_content, marker_of, no_box, own_counted, past, past_formed, pseudo_counted}
 use Rattle.box_eval.specs.Laws.{AreBoxesScoped, AreScoped, IsMadeScoped, IsNodeScoped, IsScoped}
 use Rattle.box_eval.specs.declared.element_record.ElementRecord.{ElementRecord}
-use Rattle.box_eval.specs.Evaluation.{Element, StyledNode, Text, changes, changes_in, first_changes, inputs, inputs_of, is_boxed, last_changes, past_node, past_trees, record_of, records, records_of, within}
+use Rattle.box_eval.specs.Evaluation.{Element, StyledNode, Text, box_changes, changes, changes_in, first_box_changes, first_changes, inputs, inputs_of, is_boxed, last_box_changes, last_changes, made_box_changes, past_node, past_trees, record_of, records, records_of, within}
 use Rattle.box_eval.specs.Scopes.{AreEarlier, AreNew, HasNoneOf, first_boxes, last_boxes}
 use Rattle.box_eval.proofs.Agreement.{AllAgree}
 use Rattle.box_eval.proofs.ElementLemmas.{Holds, IsReady, holds_if, marker_agrees, marker_good, new_after, new_element, own_agrees, own_good, pseudo_agrees, pseudo_good, pseudo_same}
@@ -217,13 +217,6 @@ module _ (table : List CounterStyle) (node : Keyed StyledNode) (children after :
     not_after_inside : AreGood (NotAfter node.key) (children_handed table by_parent node.key element handed)
     not_after_inside = children_good table node.key element handed (NotAfter node.key) (λ counter value h. h) not_after mine_not_after
 
-    parent_inside : (children_handed table by_parent node.key element handed).parent ≡ own_here.set
-    parent_inside =
-        let marker = marker_of table by_parent node.key element handed in
-        let before = before_of table by_parent node.key element handed in
-        past_parent (box_of node.key kind.Before) before.made before.depth (behind_marker table by_parent node.key element handed)
-        ∙ past_parent (box_of node.key kind.Marker) marker.made marker.depth (inside own_here.set handed.depth)
-
     -- behind its children
     module _ (behind : Handed) (in_it : behind.parent ≡ (children_handed table by_parent node.key element handed).parent) (fits : Fits behind) (none : AllByRecursion (NotAfter node.key) (unwrap_or behind.sibling [])) where
       abbrev pub input_behind : Inputs
@@ -303,6 +296,7 @@ module _ (table : List CounterStyle) (node : Keyed StyledNode) (children after :
     pub onward : Level after (past_node table by_parent has node.key label handed behind)
     pub records : records_of table by_peers has node.key label handed behind ≡ records_of table by_parent has node.key label handed behind
     pub last : last_changes table by_peers has node.key label behind ≡ last_changes table by_parent has node.key label behind
+    pub last_box : last_box_changes table by_peers has node.key label behind ≡ last_box_changes table by_parent has node.key label behind
     pub scoped : IsNodeScoped table by_peers has node.key label handed behind
 
   pub record NodeTold (has : Bool) (label : StyledNode) : Type 0 where
@@ -310,6 +304,7 @@ module _ (table : List CounterStyle) (node : Keyed StyledNode) (children after :
     pub inner : Level children (within table by_parent has node.key label handed)
     pub not_after : AreGood (NotAfter node.key) (within table by_parent has node.key label handed)
     pub changes : first_changes table by_peers has node.key label handed ≡ first_changes table by_parent has node.key label handed
+    pub box_changes : first_box_changes table by_peers has node.key label handed ≡ first_box_changes table by_parent has node.key label handed
     pub behind : (behind : Handed) → behind.parent ≡ (within table by_parent has node.key label handed).parent → Fits behind → AllByRecursion (NotAfter node.key) (unwrap_or behind.sibling []) → BehindTold has label behind
 
   pub node_told : (has : Bool) (label : StyledNode) → NodeTold has label
@@ -318,11 +313,14 @@ module _ (table : List CounterStyle) (node : Keyed StyledNode) (children after :
     inner = level_inside element;
     not_after = not_after_inside element;
     changes = ap (λ (entry : Entry). entry.changes ++ changes_in entry.before) (entry_same table element (input element) handed.earlier (fits_here element) (new_here element));
+    box_changes = ap (λ (entry : Entry). (box_of node.key kind.Element, entry.changes) ∷ (made_box_changes (box_of node.key kind.Marker) entry.marker ++ made_box_changes (box_of node.key kind.Before) entry.before))
+        (entry_same table element (input element) handed.earlier (fits_here element) (new_here element));
     behind = λ behind in_it fits none. record {
       next = next_is element behind in_it fits none;
       onward = level_next element behind in_it fits none;
       records = ap (λ told. (node.key, told) ∷ []) (record_is element behind in_it fits none);
       last = ap (λ (closing : Closing). changes_in closing.after) (closing_is element behind in_it fits none);
+      last_box = ap (λ (closing : Closing). made_box_changes (box_of node.key kind.After) closing.after) (closing_is element behind in_it fits none);
       scoped = boxes_scoped element behind in_it fits none;
     };
   }
@@ -331,21 +329,24 @@ module _ (table : List CounterStyle) (node : Keyed StyledNode) (children after :
     inner = record { out = out_children; fits = level.fits };
     not_after = not_after;
     changes = refl;
-    behind = λ behind in_it fits none. record { next = refl; onward = record { out = out_after; fits = level.fits }; records = refl; last = refl; scoped = tt };
+    box_changes = refl;
+    behind = λ behind in_it fits none. record { next = refl; onward = record { out = out_after; fits = level.fits }; records = refl; last = refl; last_box = refl; scoped = tt };
   }
   node_told false (Element element) = record {
     first = refl;
     inner = record { out = out_children; fits = level.fits };
     not_after = not_after;
     changes = refl;
-    behind = λ behind in_it fits none. record { next = refl; onward = record { out = out_after; fits = level.fits }; records = refl; last = refl; scoped = tt };
+    box_changes = refl;
+    behind = λ behind in_it fits none. record { next = refl; onward = record { out = out_after; fits = level.fits }; records = refl; last = refl; last_box = refl; scoped = tt };
   }
   node_told false Text = record {
     first = refl;
     inner = record { out = out_children; fits = level.fits };
     not_after = not_after;
     changes = refl;
-    behind = λ behind in_it fits none. record { next = refl; onward = record { out = out_after; fits = level.fits }; records = refl; last = refl; scoped = tt };
+    box_changes = refl;
+    behind = λ behind in_it fits none. record { next = refl; onward = record { out = out_after; fits = level.fits }; records = refl; last = refl; last_box = refl; scoped = tt };
   }
 
 -- What holds of a level still holds behind trees.
@@ -386,6 +387,7 @@ pub record Told (table : List CounterStyle) (boxed : Bool) (handed : Handed) (tr
   pub past : past_trees table by_peers boxed handed trees ≡ past_trees table by_parent boxed handed trees
   pub records : records table by_peers boxed handed trees ≡ records table by_parent boxed handed trees
   pub changes : changes table by_peers boxed handed trees ≡ changes table by_parent boxed handed trees
+  pub box_changes : box_changes table by_peers boxed handed trees ≡ box_changes table by_parent boxed handed trees
   pub inputs : inputs table by_peers boxed handed trees ≡ inputs table by_parent boxed handed trees
   pub scoped : AreScoped table by_peers boxed handed trees
   pub fits : Fits (past_trees table by_parent boxed handed trees)
@@ -397,7 +399,7 @@ other_key key children zero counter there = elim (cases_Bool (counter.creator.ke
 ]
 
 pub told : (table : List CounterStyle) (trees : Forest (Keyed StyledNode)) (boxed : Bool) (handed : Handed) → HasDistinctKeys trees → Level trees handed → Told table boxed handed trees
-told table Empty boxed handed distinct level = record { past = refl; records = refl; changes = refl; inputs = refl; scoped = tt; fits = level.fits }
+told table Empty boxed handed distinct level = record { past = refl; records = refl; changes = refl; box_changes = refl; inputs = refl; scoped = tt; fits = level.fits }
 told table (Tree node children after) boxed handed distinct level =
     let has = is_boxed boxed node.label in
     let key = node.key in
@@ -429,6 +431,13 @@ told table (Tree node children after) boxed handed distinct level =
           (join_two (last_changes table by_peers has key node.label behind_by_peers) (last_changes table by_parent has key node.label behind) _ _
           (ap (last_changes table by_peers has key node.label) behind_is ∙ back.last)
           (ap (λ onward. changes table by_peers boxed onward after) next_is ∙ rest.changes)));
+      box_changes =
+          join_two (first_box_changes table by_peers has key node.label handed) (first_box_changes table by_parent has key node.label handed) _ _ here.box_changes
+          (join_two (box_changes table by_peers has first_by_peers children) (box_changes table by_parent has first children) _ _
+          (ap (λ inner. box_changes table by_peers has inner children) here.first ∙ below.box_changes)
+          (join_two (last_box_changes table by_peers has key node.label behind_by_peers) (last_box_changes table by_parent has key node.label behind) _ _
+          (ap (last_box_changes table by_peers has key node.label) behind_is ∙ back.last_box)
+          (ap (λ onward. box_changes table by_peers boxed onward after) next_is ∙ rest.box_changes)));
       inputs =
           join_two (inputs_of table by_peers boxed key node.label handed) (inputs_of table by_parent boxed key node.label handed) _ _ refl
           (join_two (inputs table by_peers has first_by_peers children) (inputs table by_parent has first children) _ _
@@ -494,6 +503,18 @@ module _ (table : List CounterStyle) where
   last_any false key (Element element) behind beside = refl
   last_any false key Text behind beside = refl
 
+  first_box_any : (has : Bool) (key : ℕ) (label : StyledNode) (handed : Handed) (earlier : List BoxId) → first_box_changes table by_parent has key label handed ≡ first_box_changes table by_parent has key label (with_earlier handed earlier)
+  first_box_any true key (Element element) handed earlier = refl
+  first_box_any true key Text handed earlier = refl
+  first_box_any false key (Element element) handed earlier = refl
+  first_box_any false key Text handed earlier = refl
+
+  last_box_any : (has : Bool) (key : ℕ) (label : StyledNode) (behind : Handed) (beside : List BoxId) → last_box_changes table by_parent has key label behind ≡ last_box_changes table by_parent has key label (with_earlier behind beside)
+  last_box_any true key (Element element) behind beside = ap (λ (closing : Closing). made_box_changes (box_of key kind.After) closing.after) (closing_any table key element behind beside)
+  last_box_any true key Text behind beside = refl
+  last_box_any false key (Element element) behind beside = refl
+  last_box_any false key Text behind beside = refl
+
   inputs_any : (boxed : Bool) (key : ℕ) (label : StyledNode) (handed : Handed) (earlier : List BoxId) → inputs_of table by_parent boxed key label handed ≡ inputs_of table by_parent boxed key label (with_earlier handed earlier)
   inputs_any true key (Element element) handed earlier = refl
   inputs_any true key Text handed earlier = refl
@@ -504,10 +525,11 @@ module _ (table : List CounterStyle) where
     pub past : DiffersInEarlier (past_trees table by_parent boxed first trees) (past_trees table by_parent boxed second trees)
     pub records : records table by_parent boxed first trees ≡ records table by_parent boxed second trees
     pub changes : changes table by_parent boxed first trees ≡ changes table by_parent boxed second trees
+    pub box_changes : box_changes table by_parent boxed first trees ≡ box_changes table by_parent boxed second trees
     pub inputs : inputs table by_parent boxed first trees ≡ inputs table by_parent boxed second trees
 
   pub same_for : (trees : Forest (Keyed StyledNode)) (boxed : Bool) (first second : Handed) → DiffersInEarlier first second → SameFor boxed trees first second
-  same_for Empty boxed first second differs = record { past = differs; records = refl; changes = refl; inputs = refl }
+  same_for Empty boxed first second differs = record { past = differs; records = refl; changes = refl; box_changes = refl; inputs = refl }
   same_for (Tree node children after) boxed first second differs =
       let has = is_boxed boxed node.label in
       let key = node.key in
@@ -537,6 +559,11 @@ module _ (table : List CounterStyle) where
             (join_two (changes table by_parent has inner children) (changes table by_parent has inner_too children) _ _ below.changes
             (join_two (last_changes table by_parent has key node.label behind) (last_changes table by_parent has key node.label behind_too) _ _
             (last_any has key node.label behind below.past.0 ∙ sym (ap (last_changes table by_parent has key node.label) below.past.1)) rest.changes));
+        box_changes = join_two (first_box_changes table by_parent has key node.label first) (first_box_changes table by_parent has key node.label second) _ _
+            (first_box_any has key node.label first differs.0 ∙ sym (ap (first_box_changes table by_parent has key node.label) differs.1))
+            (join_two (box_changes table by_parent has inner children) (box_changes table by_parent has inner_too children) _ _ below.box_changes
+            (join_two (last_box_changes table by_parent has key node.label behind) (last_box_changes table by_parent has key node.label behind_too) _ _
+            (last_box_any has key node.label behind below.past.0 ∙ sym (ap (last_box_changes table by_parent has key node.label) below.past.1)) rest.box_changes));
         inputs = join_two (inputs_of table by_parent boxed key node.label first) (inputs_of table by_parent boxed key node.label second) _ _
             (inputs_any boxed key node.label first differs.0 ∙ sym (ap (inputs_of table by_parent boxed key node.label) differs.1))
             (join_two (inputs table by_parent has inner children) (inputs table by_parent has inner_too children) _ _ below.inputs rest.inputs);

@@ -11,5 +11,7 @@ pub mod EntryLemmas
 pub mod DocumentLemmas
 pub mod GroupLemmas
 pub mod ValueLemmas
+mod NeededStarts
+mod BoxChangeLemmas
 pub mod StartLemmas
 mod AskingLemmas

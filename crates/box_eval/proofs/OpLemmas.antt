@@ -7,7 +7,7 @@ use Rattle.std.specs.Prelude.{filter}
 use Rattle.std.specs.List.{list_any}
 use Rattle.std.specs.Option.{option_map_or}
 use Rattle.std.specs.Str.{bytes_eq}
-use Rattle.definitions.specs.CounterStyles.{distinct}
+use Rattle.css_definitions.specs.CounterStyles.{distinct}
 use Rattle.plain_types.specs.declared.counter.Counter.{Counter}
 use Rattle.plain_types.specs.declared.style.CounterOp.{CounterOp}
 use Rattle.box_eval.specs.Properties.{is_for, last_of_each, names}

@@ -1,6 +1,6 @@
 -- Whole documents with different starts: the counters of their boxes differ in values alone.
-use Rattle.std.proofs.Common.{◌≡◌, ◌++◌, ◌∷◌, ℕ, ℤ, List, [], Bool, true, false, cond, Option, Some, None, refl, ap, subst}
-use Rattle.std.specs.Prelude.{unwrap_or}
+use Rattle.std.proofs.Common.{◌≡◌, ◌++◌, ◌∷◌, ℕ, ℤ, List, [], Bool, true, false, cond, Option, Some, None, refl, sym, ap, subst, ◌∙◌}
+use Rattle.std.specs.Prelude.{flat_map, unwrap_or}
 use Rattle.forest.specs.Forest.{Forest, Empty, Tree}
 use Rattle.forest.specs.Keys.{Keyed}
 use Rattle.plain_types.specs.declared.attr.Attr.{Attr}
@@ -21,8 +21,9 @@ use Rattle.box_eval.specs.declared.inputs.Start.{Start}
 use Rattle.box_eval.specs.declared.made.Made.{Made}
 use Rattle.box_eval.specs.Boxes.{box_of, has_items, has_marker, has_pseudo_box, is_list_item}
 use Rattle.box_eval.specs.Properties.{counted}
-use Rattle.box_eval.specs.Elements.{Handed, Styled, after_of, at_root, behind_marker, before_of, by_peers, children_handed, closing_of, content_of, default_content, entry_of, formed_box, inherited_by, inside, items_of, marker_content, marker_formed, no_box, own_counted, past_formed, pseudo_counted, pseudo_formed}
-use Rattle.box_eval.specs.Evaluation.{StyledNode, all_changes, changes, changes_in, first_changes, element_starts, is_boxed, last_changes, past_node, past_trees, style_within, styled, styled_node, styled_trees, within}
+use Rattle.box_eval.specs.Elements.{Handed, Styled, after_of, at_root, behind_marker, before_of, by_peers, children_handed, content_of, default_content, formed_box, inherited_by, inside, items_of, marker_content, marker_formed, marker_of, no_box, own_counted, past_formed, pseudo_counted, pseudo_formed}
+use Rattle.box_eval.specs.Evaluation.{Element, StyledNode, all_box_changes, all_changes, box_changes, element_starts, first_box_changes, is_boxed, last_box_changes, made_box_changes, past_node, past_trees, style_within, styled, styled_node, styled_trees, within}
+use Rattle.box_eval.proofs.BoxChangeLemmas.{changes_of_boxes}
 use Rattle.box_eval.proofs.DocumentLemmas.{join_two}
 use Rattle.box_eval.proofs.ValueLemmas.{Alike, AreCountedAlike, counted_alike, generated_alike, inherited_alike}
 
@@ -39,11 +40,11 @@ AreMadeAlike None None = Unit {0}
 AreMadeAlike (Some made) (Some other) = Alike made.set other.set × (made.changes ≡ other.changes)
 AreMadeAlike _ _ = ⊥
 
-same_changes : (made other : Option Made) → AreMadeAlike made other → changes_in made ≡ changes_in other
-same_changes None None alike = refl
-same_changes None (Some other) alike = absurd alike
-same_changes (Some made) None alike = absurd alike
-same_changes (Some made) (Some other) alike = alike.1
+same_made : (box : BoxId) (made other : Option Made) → AreMadeAlike made other → made_box_changes box made ≡ made_box_changes box other
+same_made box None None alike = refl
+same_made box None (Some other) alike = absurd alike
+same_made box (Some made) None alike = absurd alike
+same_made box (Some made) (Some other) alike = ap (λ changes. (box, changes) ∷ []) alike.1
 
 made_if : (b : Bool) (formed other none none_too : Formed) → AreMadeAlike formed.made other.made → AreMadeAlike none.made none_too.made → AreMadeAlike (cond b formed none).made (cond b other none_too).made
 made_if true formed other none none_too alike nothing = alike
@@ -108,15 +109,21 @@ module _ (table : List CounterStyle) (key : ℕ) (attrs : List Attr) (style : El
     own_alike : AreCountedAlike (own_counted table by_peers key first handed) (own_counted table by_peers key second other)
     own_alike = box_alike kind.Element (is_list_item style.own.display) style.own handed other alike
 
+    -- its marker, in its own box
+    marker_of_alike : AreMadeAlike (marker_of table by_peers key first handed).made (marker_of table by_peers key second other).made
+    marker_of_alike =
+        let own = (own_counted table by_peers key first handed).set in
+        let own_too = (own_counted table by_peers key second other).set in
+        marker_alike (inside own handed.depth) (inside own_too other.depth) (record { parent = own_alike.set; earlier = refl; sibling = refl })
+
     behind_marker_alike : AreHandedAlike (behind_marker table by_peers key first handed) (behind_marker table by_peers key second other)
     behind_marker_alike =
         let own = (own_counted table by_peers key first handed).set in
         let own_too = (own_counted table by_peers key second other).set in
         let inner : AreHandedAlike (inside own handed.depth) (inside own_too other.depth) = record { parent = own_alike.set; earlier = refl; sibling = refl } in
-        let marker = marker_formed table by_peers key first (inside own handed.depth) in
-        let marker_too = marker_formed table by_peers key second (inside own_too other.depth) in
-        past_formed_alike (box_of key kind.Marker) marker.made marker_too.made marker.depth marker_too.depth (inside own handed.depth) (inside own_too other.depth)
-        (marker_alike (inside own handed.depth) (inside own_too other.depth) inner) inner
+        let marker = marker_of table by_peers key first handed in
+        let marker_too = marker_of table by_peers key second other in
+        past_formed_alike (box_of key kind.Marker) marker.made marker_too.made marker.depth marker_too.depth (inside own handed.depth) (inside own_too other.depth) marker_of_alike inner
 
     before_alike : AreMadeAlike (before_of table by_peers key first handed).made (before_of table by_peers key second other).made
     before_alike = pseudo_alike kind.Before style.before (behind_marker table by_peers key first handed) (behind_marker table by_peers key second other) behind_marker_alike
@@ -128,17 +135,23 @@ module _ (table : List CounterStyle) (key : ℕ) (attrs : List Attr) (style : El
         past_formed_alike (box_of key kind.Before) before.made before_too.made before.depth before_too.depth (behind_marker table by_peers key first handed) (behind_marker table by_peers key second other)
         before_alike behind_marker_alike
 
-    pub first_same : (entry_of table by_peers key first handed).changes ++ changes_in (entry_of table by_peers key first handed).before ≡ (entry_of table by_peers key second other).changes ++ changes_in (entry_of table by_peers key second other).before
+    pub first_same : first_box_changes table by_peers true key (Element first) handed ≡ first_box_changes table by_peers true key (Element second) other
     first_same =
+        let marker_box = box_of key kind.Marker in
+        let before_box = box_of key kind.Before in
+        let marker = (marker_of table by_peers key first handed).made in
+        let marker_too = (marker_of table by_peers key second other).made in
         let before = (before_of table by_peers key first handed).made in
         let before_too = (before_of table by_peers key second other).made in
-        join_two (own_counted table by_peers key first handed).changes (own_counted table by_peers key second other).changes (changes_in before) (changes_in before_too)
-        own_alike.changes (same_changes before before_too before_alike)
+        ap (λ changes. (box_of key kind.Element, changes) ∷ (made_box_changes marker_box marker ++ made_box_changes before_box before)) own_alike.changes
+        ∙ ap (λ rest. (box_of key kind.Element, (own_counted table by_peers key second other).changes) ∷ rest)
+        (join_two (made_box_changes marker_box marker) (made_box_changes marker_box marker_too) (made_box_changes before_box before) (made_box_changes before_box before_too)
+        (same_made marker_box marker marker_too marker_of_alike) (same_made before_box before before_too before_alike))
 
     -- where it is handed this behind the element's children
-    pub last_same : changes_in (closing_of table by_peers key first handed).after ≡ changes_in (closing_of table by_peers key second other).after
+    pub last_same : last_box_changes table by_peers true key (Element first) handed ≡ last_box_changes table by_peers true key (Element second) other
     last_same =
-        same_changes (after_of table by_peers key first handed).made (after_of table by_peers key second other).made (pseudo_alike kind.After style.after handed other alike)
+        same_made (box_of key kind.After) (after_of table by_peers key first handed).made (after_of table by_peers key second other).made (pseudo_alike kind.After style.after handed other alike)
 
 -- A document with two kinds of starts.
 module _ (table : List CounterStyle) (style : ℕ → Option Style → ElementStyle) (start other_start : BoxId → List ℕ → ℤ) where
@@ -172,14 +185,14 @@ module _ (table : List CounterStyle) (style : ℕ → Option Style → ElementSt
     within_alike false (node.Element name attrs) = alike
     within_alike false (node.Text characters) = alike
 
-    first_changes_same : (has : Bool) (label : Node) → first_changes table by_peers has key (one parent key label) handed ≡ first_changes table by_peers has key (other parent key label) handed_too
+    first_changes_same : (has : Bool) (label : Node) → first_box_changes table by_peers has key (one parent key label) handed ≡ first_box_changes table by_peers has key (other parent key label) handed_too
     first_changes_same true (node.Element name attrs) =
         first_same table key attrs (style key parent) (element_starts start key (style key parent)) (element_starts other_start key (style key parent)) handed handed_too alike
     first_changes_same true (node.Text characters) = refl
     first_changes_same false (node.Element name attrs) = refl
     first_changes_same false (node.Text characters) = refl
 
-    last_changes_same : (has : Bool) (label : Node) → last_changes table by_peers has key (one parent key label) handed ≡ last_changes table by_peers has key (other parent key label) handed_too
+    last_changes_same : (has : Bool) (label : Node) → last_box_changes table by_peers has key (one parent key label) handed ≡ last_box_changes table by_peers has key (other parent key label) handed_too
     last_changes_same true (node.Element name attrs) =
         last_same table key attrs (style key parent) (element_starts start key (style key parent)) (element_starts other_start key (style key parent)) handed handed_too alike
     last_changes_same true (node.Text characters) = refl
@@ -198,7 +211,7 @@ module _ (table : List CounterStyle) (style : ℕ → Option Style → ElementSt
 
   pub record AreTreesAlike (boxed boxed_too : Bool) (handed handed_too : Handed) (nodes nodes_too : Forest (Keyed StyledNode)) : Type 0 where
     pub past : AreHandedAlike (past_trees table by_peers boxed handed nodes) (past_trees table by_peers boxed_too handed_too nodes_too)
-    pub changes : changes table by_peers boxed handed nodes ≡ changes table by_peers boxed_too handed_too nodes_too
+    pub changes : box_changes table by_peers boxed handed nodes ≡ box_changes table by_peers boxed_too handed_too nodes_too
 
   pub trees_alike : (nodes : Forest (Keyed Node)) (parent : Option Style) (boxed : Bool) (handed handed_too : Handed) → AreHandedAlike handed handed_too
       → AreTreesAlike boxed boxed handed handed_too (trees parent nodes) (other_trees parent nodes)
@@ -219,24 +232,31 @@ module _ (table : List CounterStyle) (style : ℕ → Option Style → ElementSt
       let rest = trees_alike after parent boxed next next_too (past_node_alike parent key handed handed_too alike has node.label behind behind_too) in
       let behind_with : Bool → Option Style → Handed = λ b own. past_trees table by_peers b (within table by_peers b key label_too handed_too) (other_trees own children) in
       let next_with : Bool → Option Style → Handed = λ b own. past_node table by_peers b key label_too handed_too (behind_with b own) in
-      let changes_with : Bool → Option Style → List Change = λ b own.
-      first_changes table by_peers b key label_too handed_too
-      ++ (changes table by_peers b (within table by_peers b key label_too handed_too) (other_trees own children)
-      ++ (last_changes table by_peers b key label_too (behind_with b own)
-      ++ changes table by_peers boxed (next_with b own) (other_trees parent after))) in
+      let changes_with : Bool → Option Style → List (BoxId × List Change) = λ b own.
+      first_box_changes table by_peers b key label_too handed_too
+      ++ (box_changes table by_peers b (within table by_peers b key label_too handed_too) (other_trees own children)
+      ++ (last_box_changes table by_peers b key label_too (behind_with b own)
+      ++ box_changes table by_peers boxed (next_with b own) (other_trees parent after))) in
       let Both : Bool → Option Style → Type 0 = λ b own.
       AreHandedAlike (past_trees table by_peers boxed next (trees parent after)) (past_trees table by_peers boxed (next_with b own) (other_trees parent after))
-      × (changes table by_peers boxed handed (trees parent (Tree node children after)) ≡ changes_with b own) in
+      × (box_changes table by_peers boxed handed (trees parent (Tree node children after)) ≡ changes_with b own) in
       let here : Both has inner = (
         rest.past,
-        join_two (first_changes table by_peers has key label handed) (first_changes table by_peers has key label_too handed_too) _ _ (first_changes_same parent key handed handed_too alike has node.label)
-            (join_two (changes table by_peers has first (trees inner children)) (changes table by_peers has first_too (other_trees inner children)) _ _ below.changes
-            (join_two (last_changes table by_peers has key label behind) (last_changes table by_peers has key label_too behind_too) _ _ (last_changes_same parent key behind behind_too below.past has node.label)
+        join_two (first_box_changes table by_peers has key label handed) (first_box_changes table by_peers has key label_too handed_too) _ _ (first_changes_same parent key handed handed_too alike has node.label)
+            (join_two (box_changes table by_peers has first (trees inner children)) (box_changes table by_peers has first_too (other_trees inner children)) _ _ below.changes
+            (join_two (last_box_changes table by_peers has key label behind) (last_box_changes table by_peers has key label_too behind_too) _ _ (last_changes_same parent key behind behind_too below.past has node.label)
             rest.changes)),
       ) in
       let both = subst (λ b. Both b (style_within style other_start parent key node.label)) (boxed_same boxed parent key node.label) (subst (Both has) (style_same parent key node.label) here) in
       record { past = both.0; changes = both.1 }
 
--- what a document's boxes do to counters does not depend on its starts
+-- what each box of a document does to counters does not depend on its starts
+pub same_box_changes_with : (table : List CounterStyle) (style : ℕ → Option Style → ElementStyle) (start other_start : BoxId → List ℕ → ℤ) (document : Forest (Keyed Node)) → all_box_changes table (styled style start document) ≡ all_box_changes table (styled style other_start document)
+same_box_changes_with table style start other_start document = (trees_alike table style start other_start document None true at_root at_root (record { parent = refl; earlier = refl; sibling = refl })).changes
+
+-- and so what they do all together
 pub same_changes_with : (table : List CounterStyle) (style : ℕ → Option Style → ElementStyle) (start other_start : BoxId → List ℕ → ℤ) (document : Forest (Keyed Node)) → all_changes table (styled style start document) ≡ all_changes table (styled style other_start document)
-same_changes_with table style start other_start document = (trees_alike table style start other_start document None true at_root at_root (record { parent = refl; earlier = refl; sibling = refl })).changes
+same_changes_with table style start other_start document =
+    changes_of_boxes table by_peers (styled style start document) true at_root
+    ∙ ap (flat_map (λ (box : BoxId × List Change). box.1)) (same_box_changes_with table style start other_start document)
+    ∙ sym (changes_of_boxes table by_peers (styled style other_start document) true at_root)

@@ -14,7 +14,7 @@ use Rattle.plain_types.specs.declared.style.ElementStyle.{ElementStyle}
 use Rattle.plain_types.specs.declared.style.ListType.{ListType}
 use Rattle.plain_types.specs.declared.style.ListType.TheVariants as list_type
 use Rattle.plain_types.specs.declared.style.Style.{Style}
-use Rattle.definitions.specs.Representation.{marker_text}
+use Rattle.css_definitions.specs.Representation.{marker_text}
 use Rattle.counter_sets.specs.Sets.{inherited, innermost, is_by_peer, is_missing_in}
 use Rattle.content_eval.specs.Contents.{generated}
 use Rattle.content_eval.specs.declared.generated.Generated.{Generated}

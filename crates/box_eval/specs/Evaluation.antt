@@ -76,8 +76,12 @@ abbrev pub is_boxed : Bool → StyledNode → Bool
 is_boxed parent_has_box (Element element) = parent_has_box && generates_box element.style
 is_boxed parent_has_box Text = false
 
+-- what the box of a pseudo-element does to counters, where there is one, and that under the box
 abbrev pub changes_in : Option Made → List Change
 changes_in made = option_map_or (λ (box : Made). box.changes) made []
+
+abbrev pub made_box_changes : BoxId → Option Made → List (BoxId × List Change)
+made_box_changes box made = option_map_or (λ (made : Made). (box, made.changes) ∷ []) made []
 
 module _ (table : List CounterStyle) (replacing : Replacing) where
   -- One node, which has a box or not. `handed` is what it is handed, and `behind` what is handed on behind
@@ -122,6 +126,18 @@ module _ (table : List CounterStyle) (replacing : Replacing) where
   abbrev pub last_changes : Bool → ℕ → StyledNode → Handed → List Change
   last_changes true key (Element element) behind = changes_in (closing_of table replacing key element behind).after
   last_changes _ key label behind = []
+
+  -- the same, under each of these boxes: its own box, its marker and its before box, and its after box
+  abbrev pub first_box_changes : Bool → ℕ → StyledNode → Handed → List (BoxId × List Change)
+  first_box_changes true key (Element element) handed =
+      (box_of key kind.Element, (entry_of table replacing key element handed).changes)
+      ∷ (made_box_changes (box_of key kind.Marker) (entry_of table replacing key element handed).marker
+      ++ made_box_changes (box_of key kind.Before) (entry_of table replacing key element handed).before)
+  first_box_changes _ key label handed = []
+
+  abbrev pub last_box_changes : Bool → ℕ → StyledNode → Handed → List (BoxId × List Change)
+  last_box_changes true key (Element element) behind = made_box_changes (box_of key kind.After) (closing_of table replacing key element behind).after
+  last_box_changes _ key label behind = []
 
   -- its inputs, where its parent has a box or it is the root
   abbrev pub inputs_of : Bool → ℕ → StyledNode → Handed → List Inputs
@@ -168,6 +184,18 @@ module _ (table : List CounterStyle) (replacing : Replacing) where
       ++ (last_changes has node.key node.label behind
       ++ changes boxed (past_node has node.key node.label handed behind) after))
 
+  -- what each of their boxes does to counters, under the box, in tree order
+  abbrev pub box_changes : Bool → Handed → Forest (Keyed StyledNode) → List (BoxId × List Change)
+  box_changes boxed handed Empty = []
+  box_changes boxed handed (Tree node children after) =
+      let has = is_boxed boxed node.label in
+      let first = within has node.key node.label handed in
+      let behind = past_trees has first children in
+      first_box_changes has node.key node.label handed
+      ++ (box_changes has first children
+      ++ (last_box_changes has node.key node.label behind
+      ++ box_changes boxed (past_node has node.key node.label handed behind) after))
+
   -- the inputs of their elements, in tree order
   abbrev pub inputs : Bool → Handed → Forest (Keyed StyledNode) → List Inputs
   inputs boxed handed Empty = []
@@ -179,13 +207,17 @@ module _ (table : List CounterStyle) (replacing : Replacing) where
       ++ (inputs has first children
       ++ inputs boxed (past_node has node.key node.label handed behind) after)
 
--- A whole document: what is said of its elements, what its boxes do to counters, and its elements' inputs.
+-- A whole document: what is said of its elements, what its boxes do to counters, all together and each of them, and
+-- its elements' inputs.
 
 abbrev pub evaluation : List CounterStyle → Forest (Keyed StyledNode) → List (ℕ × ElementRecord)
 evaluation table document = records table by_peers true at_root document
 
 abbrev pub all_changes : List CounterStyle → Forest (Keyed StyledNode) → List Change
 all_changes table document = changes table by_peers true at_root document
+
+abbrev pub all_box_changes : List CounterStyle → Forest (Keyed StyledNode) → List (BoxId × List Change)
+all_box_changes table document = box_changes table by_peers true at_root document
 
 abbrev pub all_inputs : List CounterStyle → Forest (Keyed StyledNode) → List Inputs
 all_inputs table document = inputs table by_peers true at_root document

@@ -1,5 +1,5 @@
 -- Laws of the evaluation of whole documents.
-use Rattle.std.specs.Prelude.{◌≡◌, ℕ, ℤ, Bool, true, false, List, ◌∷◌, Option, Some, None}
+use Rattle.std.specs.Prelude.{◌≡◌, ℕ, ℤ, Bool, true, false, List, ◌∷◌, Option, Some, None, flat_map}
 use Rattle.std.specs.List.{AllByRecursion}
 use Rattle.forest.specs.Forest.{Forest, Empty, Tree}
 use Rattle.forest.specs.Keys.{Keyed, HasDistinctKeys}
@@ -11,11 +11,12 @@ use Rattle.plain_types.specs.declared.node.Node.{Node}
 use Rattle.plain_types.specs.declared.style.ElementStyle.{ElementStyle}
 use Rattle.plain_types.specs.declared.style.Style.{Style}
 use Rattle.counter_sets.specs.Sets.{is_by_peer, is_missing_in}
+use Rattle.box_eval.specs.declared.change.Change.{Change}
 use Rattle.box_eval.specs.declared.made.Made.{Made}
 use Rattle.box_eval.specs.Boxes.{box_of}
 use Rattle.box_eval.specs.Elements.{Handed, Replacing, Styled, after_of, at_root, before_of, behind_marker, by_parent, by_peers, inside, marker_of, own_counted}
-use Rattle.box_eval.specs.Evaluation.{Element, StyledNode, all_changes, changes, evaluation, inputs, is_boxed, past_node, past_trees, records, styled, within}
-use Rattle.box_eval.specs.Starts.{ask, document_records, document_starts, no_starts, started, starts_by}
+use Rattle.box_eval.specs.Evaluation.{Element, StyledNode, all_box_changes, all_changes, box_changes, changes, evaluation, inputs, is_boxed, past_node, past_trees, records, styled, within}
+use Rattle.box_eval.specs.Starts.{any_asks_for_start, document_records, document_starts, no_starts, started, starts_by}
 
 -- Of a box's counters, those that the parent's set lacks were created by the box itself or by a sibling box
 -- before it, and no others were: what its peers created is what the parent's set lacks.
@@ -61,6 +62,7 @@ EachSetIsScoped table document = AreScoped table by_peers true at_root document
 pub record DoesParentTell (table : List CounterStyle) (document : Forest (Keyed StyledNode)) : Type 0 where
   pub records : records table by_peers true at_root document ≡ records table by_parent true at_root document
   pub changes : changes table by_peers true at_root document ≡ changes table by_parent true at_root document
+  pub box_changes : box_changes table by_peers true at_root document ≡ box_changes table by_parent true at_root document
   pub inputs : inputs table by_peers true at_root document ≡ inputs table by_parent true at_root document
 
 -- And where the parent's set tells it, nothing depends on the sibling boxes before: it is the same with these as
@@ -68,13 +70,25 @@ pub record DoesParentTell (table : List CounterStyle) (document : Forest (Keyed 
 pub record ForgetsEarlier (table : List CounterStyle) (boxed : Bool) (handed : Handed) (earlier : List BoxId) (trees : Forest (Keyed StyledNode)) : Type 0 where
   pub records : records table by_parent boxed handed trees ≡ records table by_parent boxed (record handed { earlier = earlier }) trees
   pub changes : changes table by_parent boxed handed trees ≡ changes table by_parent boxed (record handed { earlier = earlier }) trees
+  pub box_changes : box_changes table by_parent boxed handed trees ≡ box_changes table by_parent boxed (record handed { earlier = earlier }) trees
   pub inputs : inputs table by_parent boxed handed trees ≡ inputs table by_parent boxed (record handed { earlier = earlier }) trees
 
 abbrev pub ParentsNeedNoPeers : Type 0
 ParentsNeedNoPeers =
     (table : List CounterStyle) (trees : Forest (Keyed StyledNode)) (boxed : Bool) (handed : Handed) (earlier : List BoxId) → ForgetsEarlier table boxed handed earlier trees
 
--- What boxes do to counters does not depend on the starts of reversed counters, which change values alone.
+-- What the boxes of a document do to counters is what each of them does, in tree order.
+abbrev pub ChangesAreThoseOfBoxes : Type 0
+ChangesAreThoseOfBoxes =
+    (table : List CounterStyle) (document : Forest (Keyed StyledNode)) → all_changes table document ≡ flat_map (λ (box : BoxId × List Change). box.1) (all_box_changes table document)
+
+-- What each box does to counters does not depend on the starts of reversed counters, which change values alone: with
+-- all starts the same boxes stand in the document, and each of them does the same.
+abbrev pub StartsKeepBoxChanges : Type 0
+StartsKeepBoxChanges =
+    (table : List CounterStyle) (style : ℕ → Option Style → ElementStyle) (start : BoxId → List ℕ → ℤ) (document : Forest (Keyed Node)) → all_box_changes table (styled style start document) ≡ all_box_changes table (styled style no_starts document)
+
+-- And so what they do all together does not.
 abbrev pub StartsKeepChanges : Type 0
 StartsKeepChanges =
     (table : List CounterStyle) (style : ℕ → Option Style → ElementStyle) (start : BoxId → List ℕ → ℤ) (document : Forest (Keyed Node)) → all_changes table (styled style start document) ≡ all_changes table (styled style no_starts document)
@@ -85,7 +99,7 @@ StartsAreOwn =
     (table : List CounterStyle) (style : ℕ → Option Style → ElementStyle) (document : Forest (Keyed Node)) → document_starts table style document ≡ starts_by (all_changes table (started table style document))
 
 -- And where no box asks for a start, the evaluation with all of them 0 is that with the document's.
-abbrev pub StartsMatterWhereAsked : Type 0
-StartsMatterWhereAsked =
+abbrev pub NoStartMattersWhereNoneIsAsked : Type 0
+NoStartMattersWhereNoneIsAsked =
     (table : List CounterStyle) (style : ℕ → Option Style → ElementStyle) (document : Forest (Keyed Node))
-    → ask true (styled style no_starts document) ≡ false → document_records table style document ≡ evaluation table (styled style no_starts document)
+    → any_asks_for_start true (styled style no_starts document) ≡ false → document_records table style document ≡ evaluation table (styled style no_starts document)

@@ -10,7 +10,7 @@ use Rattle.plain_types.specs.declared.counter.Counter.{Counter}
 use Rattle.plain_types.specs.declared.style.CounterOp.{CounterOp}
 use Rattle.plain_types.specs.declared.style.ResetOp.{ResetOp}
 use Rattle.plain_types.specs.declared.style.Style.{Style}
-use Rattle.definitions.specs.CounterStyles.{distinct}
+use Rattle.css_definitions.specs.CounterStyles.{distinct}
 use Rattle.counter_sets.specs.Sets.{assigned, incremented, innermost, instantiated, is_same_box}
 use Rattle.box_eval.specs.declared.change.Change.{Change}
 use Rattle.box_eval.specs.declared.counting.Counted.{Counted}

@@ -43,18 +43,19 @@ module _ (table : List CounterStyle) (style : ℕ → Option Style → ElementSt
 
 -- Whether starts are asked for: a box asks for one where it creates a reversed counter without a number.
 
-abbrev pub asks : List Start → Bool
-asks [] = false
-asks (start ∷ starts) = true
+-- an element has such boxes, where these are the starts of their counters
+abbrev pub has_starts : List Start → Bool
+has_starts [] = false
+has_starts (start ∷ starts) = true
 
--- by a node, which has a box or not
-abbrev pub asks_in : Bool → StyledNode → Bool
-asks_in true (Element element) = asks element.starts
-asks_in _ label = false
+-- a node does, which has a box or not
+abbrev pub node_asks_for_start : Bool → StyledNode → Bool
+node_asks_for_start true (Element element) = has_starts element.starts
+node_asks_for_start _ label = false
 
--- by trees side by side, whose parent has a box or not
-abbrev pub ask : Bool → Forest (Keyed StyledNode) → Bool
-ask boxed Empty = false
-ask boxed (Tree node children after) =
+-- some node of trees side by side does, whose parent has a box or not
+abbrev pub any_asks_for_start : Bool → Forest (Keyed StyledNode) → Bool
+any_asks_for_start boxed Empty = false
+any_asks_for_start boxed (Tree node children after) =
     let has = is_boxed boxed node.label in
-    asks_in has node.label || (ask has children || ask boxed after)
+    node_asks_for_start has node.label || (any_asks_for_start has children || any_asks_for_start boxed after)

@@ -1,6 +1,6 @@
 //! Laws of the evaluation. The functions do nothing: each contract is a law, proved of every document.
 
-ghost use Rattle.box_eval.specs.Laws.{DoesParentTell, EachSetIsScoped, OfEachDocument, ParentsNeedNoPeers, StartsAreOwn, StartsKeepChanges, StartsMatterWhereAsked};
+ghost use Rattle.box_eval.specs.Laws.{ChangesAreThoseOfBoxes, DoesParentTell, EachSetIsScoped, NoStartMattersWhereNoneIsAsked, OfEachDocument, ParentsNeedNoPeers, StartsAreOwn, StartsKeepBoxChanges, StartsKeepChanges};
 
 /// Of the counters of a box, those that the set of its parent lacks are those that the box itself or a sibling
 /// box before it created. So the parent's set tells which counter a new one of its name replaces, and then
@@ -11,14 +11,16 @@ pub fn parents_tell_scopes()
     ensures no_peers { ParentsNeedNoPeers }
 {}
 
-/// What boxes do to counters is the same whatever the starts of reversed counters are. So a document's starts can
-/// be read off an evaluation in which all are 0.
+/// What each box does to counters is the same whatever the starts of reversed counters are, and so is what all boxes
+/// of a document do. So a document's starts can be read off an evaluation in which all are 0.
 pub fn starts_keep_changes()
+    ensures boxes { StartsKeepBoxChanges }
+    ensures together { ChangesAreThoseOfBoxes }
     ensures changes { StartsKeepChanges }
     ensures own { StartsAreOwn }
 {}
 
 /// Where no box creates a reversed counter without a number, no start matters. So one evaluation is enough there.
-pub fn starts_matter_where_asked()
-    ensures unasked { StartsMatterWhereAsked }
+pub fn no_start_matters_where_none_is_asked()
+    ensures unasked { NoStartMattersWhereNoneIsAsked }
 {}

@@ -11,15 +11,16 @@
 //!
 //! A box of a pseudo-element is a [`made::Made`]: its counters and the pieces of its text. What a box does to
 //! counters it increments or sets is told as well, as [`change::Change`]s: the starts of reversed counters rest
-//! on them. Who evaluates a document asks a [`starts::Starts`] for these: [`starts::NoStarts`] first, to learn the
-//! document's changes, and then, where a box asks for a start, the [`changed_starts::ChangedStarts`] of these changes.
+//! on them. Who evaluates a document asks a [`starts::Starts`] for these, by [`starts::element_starts`]:
+//! [`starts::NoStarts`] first, to learn the document's changes, and then, where a box asks for a start, the
+//! [`changed_starts::ChangedStarts`] of these changes.
 //!
 //! The layers above know this crate by `entry_of` and `closing_of` of `specs/Elements.antt`, and by `records`,
-//! `changes` and `inputs` of `specs/Evaluation.antt`, which are the evaluation of a whole document. A box
+//! `changes`, `box_changes` and `inputs` of `specs/Evaluation.antt`, which are the evaluation of a whole document. A box
 //! replaces counters that it or a sibling box before it created. No call is handed a list of these boxes, since
 //! the parent's set tells the same. That is a law of [`laws`]; another is that the starts of reversed counters
-//! change nothing of what boxes do to counters, so that they can be read off it; a third, that where no box creates a
-//! reversed counter without a number they change nothing at all.
+//! change nothing of what each box does to counters, so that they can be read off it; a third, that where no box
+//! creates a reversed counter without a number they change nothing at all.
 //!
 //! ```text
 //! let entry = eval_element(alloc, &table, &style, attrs, &inputs, steps)?;
@@ -28,7 +29,7 @@
 //! ```
 #![tactic(auto)]
 
-mod boxes;
+pub mod boxes;
 pub mod change;
 pub mod changed_starts;
 mod counter_id;

@@ -1,12 +1,25 @@
 //! The starts of a document's reversed counters (our own after CSS Lists 3, 4.4).
 
-ghost use Rattle.std.specs.Prelude.{◌≡◌, ℕ, ℤ, List};
-ghost use Rattle.std.specs.Str.{chars};
+ghost use Rattle.std.specs.Prelude.{◌≡◌, ◌++◌, ◌&&◌, ℕ, ℤ, List, [], IfOk, OnOk, true, not, is_some, cond};
+ghost use Rattle.std.specs.List.{list_any};
+ghost use Rattle.std.specs.Str.{bytes_eq, chars};
 ghost use Rattle.plain_types.specs.declared.box_id.BoxId.{BoxId};
+ghost use Rattle.plain_types.specs.declared.style.ResetOp.{ResetOp};
+ghost use Rattle.box_eval.specs.Boxes.{generates_box, has_pseudo_box};
+ghost use Rattle.box_eval.specs.Evaluation.{box_starts, element_starts};
 ghost use Rattle.box_eval.specs.Starts.{no_starts};
 
+use crate::boxes::has_pseudo_box;
+use crate::inputs::Start;
+use crate::ops::is_reset_in;
 use plain_types::box_id::BoxId;
+use plain_types::box_kind::BoxKind;
 use plain_types::count::Count;
+use plain_types::duplicate::Duplicate;
+use plain_types::list::List;
+use plain_types::memory::Memory;
+use plain_types::style::{ElementStyle, ResetOp, Style};
+use std::alloc::Global;
 
 /// Tells the values with which reversed counters start that are given no number.
 pub trait Starts {
@@ -27,4 +40,81 @@ impl Starts for NoStarts {
     fn start(&self, _creator: BoxId, _name: &str) -> Count {
         0
     }
+}
+
+/// Whether an entry of `counter-reset`, behind which these come, creates a reversed counter without a number.
+fn needs_start(reset: &ResetOp, later: &[ResetOp]) -> bool
+    ensures test { result ≡ (not (list_any (λ (other : ResetOp). bytes_eq other.name reset.now.name) later.now) && (reset.now.reversed && not (is_some reset.now.value))) }
+{
+    !is_reset_in(later, reset.name.as_str()) && reset.reversed && reset.value.is_none()
+}
+
+/// Appends the starts of the reversed counters that a box of this style creates without a number.
+fn add_box_starts<T: Starts>(
+    alloc: Global,
+    starts: &T,
+    creator: BoxId,
+    style: &Style,
+    all: &mut List<Start>,
+) -> Result<(), Memory>
+    ensures ok { OnOk result (all.new ≡ all.old ++ box_starts (T.starts starts.now) creator style.now) }
+{
+    let mut rest = style.resets.as_slice();
+    while let Some((reset, later)) = rest.split_first() {
+        if needs_start(reset, later) {
+            all.push(Start {
+                creator,
+                name: reset.name.duplicate(alloc)?,
+                value: starts.start(creator, reset.name.as_str()),
+            })?;
+        }
+        rest = later;
+    }
+    Ok(())
+}
+
+/// Appends those of the box of `::before` or `::after`, where it has one.
+fn add_pseudo_starts<T: Starts>(
+    alloc: Global,
+    starts: &T,
+    creator: BoxId,
+    style: &Style,
+    all: &mut List<Start>,
+) -> Result<(), Memory>
+    ensures ok { OnOk result (all.new ≡ all.old ++ cond (has_pseudo_box style.now) (box_starts (T.starts starts.now) creator style.now) []) }
+{
+    if has_pseudo_box(style) {
+        add_box_starts(alloc, starts, creator, style, all)?;
+    }
+    Ok(())
+}
+
+/// The starts of the reversed counters that the boxes of an element with a box create without a number. It
+/// takes time in the square of the number of resets.
+pub fn element_starts<T: Starts>(
+    alloc: Global,
+    starts: &T,
+    key: usize,
+    style: &ElementStyle,
+) -> Result<List<Start>, Memory>
+    requires boxed { generates_box style.now ≡ true }
+    ensures starts { IfOk result (λ all. all ≡ element_starts (T.starts starts.now) key style.now) }
+{
+    let mut all = List::new(alloc);
+    let own = BoxId {
+        key,
+        kind: BoxKind::Element,
+    };
+    let before = BoxId {
+        key,
+        kind: BoxKind::Before,
+    };
+    let after = BoxId {
+        key,
+        kind: BoxKind::After,
+    };
+    add_box_starts(alloc, starts, own, &style.own, &mut all)?;
+    add_pseudo_starts(alloc, starts, before, &style.before, &mut all)?;
+    add_pseudo_starts(alloc, starts, after, &style.after, &mut all)?;
+    Ok(all)
 }

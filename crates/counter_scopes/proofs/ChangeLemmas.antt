@@ -1,12 +1,11 @@
 -- The changes of a document's evaluation are those of its boxes.
 use Rattle.std.proofs.Common.{◌≡◌, ◌++◌, ◌∷◌, ℕ, ℤ, pos, List, [], Bool, true, false, cond, Option, Some, None, map, refl, sym, ap, ◌∙◌, append-nil, append_assoc}
-use Rattle.std.proofs.lemmas.Grind.{flat_map-append}
 use Rattle.std.proofs.lemmas.List.{map-append}
-use Rattle.std.specs.Prelude.{filter, flat_map, not, unwrap_or}
+use Rattle.std.specs.Prelude.{filter, not, unwrap_or}
 use Rattle.std.specs.List.{last_or, list_any}
 use Rattle.std.specs.Option.{option_map, option_map_or}
 use Rattle.std.specs.Str.{bytes_eq}
-use Rattle.definitions.specs.CounterStyles.{distinct}
+use Rattle.css_definitions.specs.CounterStyles.{distinct}
 use Rattle.forest.specs.Forest.{Forest, Empty, Tree}
 use Rattle.forest.specs.Keys.{Keyed}
 use Rattle.plain_types.specs.declared.box_id.BoxId.{BoxId}
@@ -19,9 +18,9 @@ use Rattle.plain_types.specs.declared.style.Style.{Style}
 use Rattle.counter_sets.specs.Sets.{innermost, is_missing_in}
 use Rattle.content_eval.specs.declared.generated.Generated.{Generated}
 use Rattle.box_eval.specs.declared.change.Change.{Change}
-use Rattle.box_eval.specs.Boxes.{has_marker, has_pseudo_box}
-use Rattle.box_eval.specs.Elements.{Handed, Styled, after_of, before_of, behind_marker, by_parent, children_handed, content_of, formed_box, inherited_by, no_box, own_counted, pseudo_counted, pseudo_formed}
-use Rattle.box_eval.specs.Evaluation.{Element, StyledNode, Text, changes, changes_in, first_changes, is_boxed, last_changes, past_node, past_trees, within}
+use Rattle.box_eval.specs.Boxes.{box_of, has_marker, has_pseudo_box}
+use Rattle.box_eval.specs.Elements.{Handed, Styled, after_of, before_of, behind_marker, by_parent, children_handed, content_of, formed_box, inherited_by, marker_content, marker_of, no_box, own_counted, pseudo_counted, pseudo_formed}
+use Rattle.box_eval.specs.Evaluation.{Element, StyledNode, Text, box_changes, first_box_changes, is_boxed, last_box_changes, made_box_changes, past_node, past_trees, within}
 use Rattle.box_eval.specs.Properties as properties
 use Rattle.box_eval.specs.Properties.{change_of, changes_of, has_implicit_step, implicit_op, increments_of, is_for, last_assigns, merged, names, number_for, sum_for}
 use Rattle.counter_scopes.specs.Boxes.{DocumentBox, beside, boxes_in, child_boxes, leaf, marker_box, node_boxes, own_box, pseudo_box}
@@ -140,9 +139,9 @@ map_same f g same [] = refl
 map_same f g same (x ∷ xs) = ap (λ y. y ∷ map f xs) (same x) ∙ ap (λ all. g x ∷ all) (map_same f g same xs)
 
 -- what a box is told to change by its evaluation is told by its counters
-box_changes : (parent inherited : List Counter) (box : DocumentBox)
+counted_acts : (parent inherited : List Counter) (box : DocumentBox)
     → changes_of box.id (increments_of box.is_item box.increments (reset_set parent box inherited)) (last_assigns box.assigns) (counted_set parent box inherited) ≡ changes_from (box, box_set parent box inherited)
-box_changes parent inherited box =
+counted_acts parent inherited box =
     let before = increments_of box.is_item box.increments (reset_set parent box inherited) in
     let change = change_of box.id before (last_assigns box.assigns) (counted_set parent box inherited) in
     ap (map change) (names_are box (reset_set parent box inherited))
@@ -150,39 +149,46 @@ box_changes parent inherited box =
 
 -- Trees side by side.
 
-abbrev pub acts : Handed → Forest DocumentBox → List Change
-acts handed g = flat_map changes_from (sets_from handed g)
+-- a box with its counters, and what it does to counters
+abbrev pub box_acts : DocumentBox × List Counter → BoxId × List Change
+box_acts pair = (pair.0.id, changes_from pair)
+
+abbrev pub acts : Handed → Forest DocumentBox → List (BoxId × List Change)
+acts handed g = map box_acts (sets_from handed g)
 
 acts_both : (handed next : Handed) (f : Forest DocumentBox) → Leaves handed next f → (g : Forest DocumentBox) → acts handed (beside f g) ≡ acts handed f ++ acts next g
-acts_both handed next f leaves g = ap (flat_map changes_from) (after_leaves handed next f leaves g) ∙ flat_map-append changes_from (sets_from handed f) (sets_from next g)
+acts_both handed next f leaves g = ap (map box_acts) (after_leaves handed next f leaves g) ∙ map-append box_acts (sets_from handed f) (sets_from next g)
 
 abbrev NoLaw : BoxId → List Counter → Type 0
 NoLaw box set = Unit {0}
 
 -- the box of a pseudo-element, where there is one
-leaf_acts : (handed : Handed) (there : Bool) (box : DocumentBox) (those : List Change) (content : Generated) → those ≡ changes_from (box, own_set handed.parent handed.sibling handed.preceding box) → acts handed (leaf there box) ≡ changes_in (cond there (formed_box those content) (no_box handed.depth)).made
-leaf_acts handed true box those content e = append-nil (changes_from (box, own_set handed.parent handed.sibling handed.preceding box)) ∙ sym e
+leaf_acts : (handed : Handed) (there : Bool) (box : DocumentBox) (those : List Change) (content : Generated) → those ≡ changes_from (box, own_set handed.parent handed.sibling handed.preceding box) → acts handed (leaf there box) ≡ made_box_changes box.id (cond there (formed_box those content) (no_box handed.depth)).made
+leaf_acts handed true box those content e = ap (λ changes. (box.id, changes) ∷ []) (sym e)
 leaf_acts handed false box those content e = refl
 
 module _ (table : List CounterStyle) where
   module _ (key : ℕ) (element : Styled) (handed : Handed) where
-    marker_acts : (place : Handed) (there : Bool) → acts place (leaf there (marker_box key element)) ≡ []
-    marker_acts place true = refl
-    marker_acts place false = refl
+    marker_acts : acts (around NoLaw table key element handed) (leaf (has_marker element.style) (marker_box key element)) ≡ made_box_changes (box_of key kind.Marker) (marker_of table by_parent key element handed).made
+    marker_acts =
+        let place = around NoLaw table key element handed in
+        leaf_acts place (has_marker element.style) (marker_box key element) [] (marker_content table by_parent key element place) refl
 
-    pseudo_acts : (which : BoxKind) (style : Style) (place : Handed) → acts place (leaf (has_pseudo_box style) (pseudo_box key element which style)) ≡ changes_in (pseudo_formed table by_parent key element which style place).made
+    pseudo_acts : (which : BoxKind) (style : Style) (place : Handed) → acts place (leaf (has_pseudo_box style) (pseudo_box key element which style)) ≡ made_box_changes (box_of key which) (pseudo_formed table by_parent key element which style place).made
     pseudo_acts which style place =
         let box = pseudo_box key element which style in
         let counted = pseudo_counted table by_parent key element which style place in
-        leaf_acts place (has_pseudo_box style) box counted.changes (content_of table by_parent key element which style counted.set place) (box_changes place.parent (inherited_by place) box)
+        leaf_acts place (has_pseudo_box style) box counted.changes (content_of table by_parent key element which style counted.set place) (counted_acts place.parent (inherited_by place) box)
 
     own_acts : (own_counted table by_parent key element handed).changes ≡ changes_from (own_box key element, own_set handed.parent handed.sibling handed.preceding (own_box key element))
-    own_acts = box_changes handed.parent (inherited_by handed) (own_box key element)
+    own_acts = counted_acts handed.parent (inherited_by handed) (own_box key element)
 
     module _ (behind : Handed) (children : Forest DocumentBox) (leaves : Leaves (children_handed table by_parent key element handed) behind children) where
       -- the boxes in an element's box
       inside_acts : acts (around NoLaw table key element handed) (child_boxes key element children)
-          ≡ changes_in (before_of table by_parent key element handed).made ++ (acts (children_handed table by_parent key element handed) children ++ changes_in (after_of table by_parent key element behind).made)
+          ≡ made_box_changes (box_of key kind.Marker) (marker_of table by_parent key element handed).made
+          ++ (made_box_changes (box_of key kind.Before) (before_of table by_parent key element handed).made
+          ++ (acts (children_handed table by_parent key element handed) children ++ made_box_changes (box_of key kind.After) (after_of table by_parent key element behind).made))
       inside_acts =
           let place = around NoLaw table key element handed in
           let next = behind_marker table by_parent key element handed in
@@ -191,44 +197,46 @@ module _ (table : List CounterStyle) where
           let before = before_leaf NoLaw table key element handed in
           let after = after_leaf NoLaw table key element handed in
           acts_both place next marker (marker_done NoLaw table key element handed).leaves (beside before (beside children after))
-          ∙ ap (λ all. all ++ acts next (beside before (beside children after))) (marker_acts place (has_marker element.style))
-          ∙ acts_both next first before (before_done NoLaw table key element handed).leaves (beside children after)
+          ∙ ap (λ all. all ++ acts next (beside before (beside children after))) marker_acts
+          ∙ ap (λ all. made_box_changes (box_of key kind.Marker) (marker_of table by_parent key element handed).made ++ all)
+          (acts_both next first before (before_done NoLaw table key element handed).leaves (beside children after)
           ∙ ap (λ all. all ++ acts first (beside children after)) (pseudo_acts kind.Before element.style.before next)
-          ∙ ap (λ all. changes_in (before_of table by_parent key element handed).made ++ all)
-          (acts_both first behind children leaves after ∙ ap (λ all. acts first children ++ all) (pseudo_acts kind.After element.style.after behind))
+          ∙ ap (λ all. made_box_changes (box_of key kind.Before) (before_of table by_parent key element handed).made ++ all)
+          (acts_both first behind children leaves after ∙ ap (λ all. acts first children ++ all) (pseudo_acts kind.After element.style.after behind)))
 
       element_acts : acts handed (Tree (own_box key element) (child_boxes key element children) Empty)
-          ≡ first_changes table by_parent true key (Element element) handed ++ (acts (children_handed table by_parent key element handed) children ++ last_changes table by_parent true key (Element element) behind)
+          ≡ first_box_changes table by_parent true key (Element element) handed ++ (acts (children_handed table by_parent key element handed) children ++ last_box_changes table by_parent true key (Element element) behind)
       element_acts =
           let own = own_here NoLaw table key element handed in
           let kids = child_boxes key element children in
-          let before = changes_in (before_of table by_parent key element handed).made in
-          let rest = acts (children_handed table by_parent key element handed) children ++ last_changes table by_parent true key (Element element) behind in
-          ap (λ pairs. changes_from (own_box key element, own) ++ flat_map changes_from pairs) (append-nil (sets own None (Some own) kids))
-          ∙ ap (λ all. all ++ acts (around NoLaw table key element handed) kids) (sym own_acts)
-          ∙ ap (λ all. (own_counted table by_parent key element handed).changes ++ all) inside_acts
-          ∙ sym (append_assoc (own_counted table by_parent key element handed).changes before rest)
+          let here : List Change → BoxId × List Change = λ changes. (box_of key kind.Element, changes) in
+          let marker = made_box_changes (box_of key kind.Marker) (marker_of table by_parent key element handed).made in
+          let before = made_box_changes (box_of key kind.Before) (before_of table by_parent key element handed).made in
+          let rest = acts (children_handed table by_parent key element handed) children ++ last_box_changes table by_parent true key (Element element) behind in
+          ap (λ pairs. box_acts (own_box key element, own) ∷ map box_acts pairs) (append-nil (sets own None (Some own) kids))
+          ∙ ap (λ changes. here changes ∷ acts (around NoLaw table key element handed) kids) (sym own_acts)
+          ∙ ap (λ all. here (own_counted table by_parent key element handed).changes ∷ all) (inside_acts ∙ sym (append_assoc marker before rest))
 
   -- Trees of a document.
 
-  node_unchanged : (has : Bool) (key : ℕ) (label : StyledNode) (children after : Forest (Keyed StyledNode)) (handed : Handed) → has ≡ false → changes table by_parent false handed children ≡ [] → changes table by_parent false handed after ≡ []
+  node_unchanged : (has : Bool) (key : ℕ) (label : StyledNode) (children after : Forest (Keyed StyledNode)) (handed : Handed) → has ≡ false → box_changes table by_parent false handed children ≡ [] → box_changes table by_parent false handed after ≡ []
       → (let first = within table by_parent has key label handed in
       let behind = past_trees table by_parent has first children in
-      first_changes table by_parent has key label handed ++ (changes table by_parent has first children ++ (last_changes table by_parent has key label behind ++ changes table by_parent false (past_node table by_parent has key label handed behind) after)) ≡ [])
+      first_box_changes table by_parent has key label handed ++ (box_changes table by_parent has first children ++ (last_box_changes table by_parent has key label behind ++ box_changes table by_parent false (past_node table by_parent has key label handed behind) after)) ≡ [])
   node_unchanged true key label children after handed e below rest = absurd (cc)
   node_unchanged false key (Element element) children after handed e below rest = rw (below, rest) refl
   node_unchanged false key Text children after handed e below rest = rw (below, rest) refl
 
   -- nothing without a box changes a counter
-  unchanged : (trees : Forest (Keyed StyledNode)) (handed : Handed) → changes table by_parent false handed trees ≡ []
+  unchanged : (trees : Forest (Keyed StyledNode)) (handed : Handed) → box_changes table by_parent false handed trees ≡ []
   unchanged Empty handed = refl
   unchanged (Tree node children after) handed = node_unchanged (is_boxed false node.label) node.key node.label children after handed (not_boxed NoLaw table node.label) (unchanged children handed) (unchanged after handed)
 
   node_acts : (boxed has : Bool) (key : ℕ) (label : StyledNode) (children after : Forest (Keyed StyledNode)) (handed : Handed) → is_boxed boxed label ≡ has
-      → ((place : Handed) → changes table by_parent has place children ≡ acts place (boxes_in has children)) → ((place : Handed) → changes table by_parent boxed place after ≡ acts place (boxes_in boxed after))
+      → ((place : Handed) → box_changes table by_parent has place children ≡ acts place (boxes_in has children)) → ((place : Handed) → box_changes table by_parent boxed place after ≡ acts place (boxes_in boxed after))
       → (let first = within table by_parent has key label handed in
       let behind = past_trees table by_parent has first children in
-      first_changes table by_parent has key label handed ++ (changes table by_parent has first children ++ (last_changes table by_parent has key label behind ++ changes table by_parent boxed (past_node table by_parent has key label handed behind) after))
+      first_box_changes table by_parent has key label handed ++ (box_changes table by_parent has first children ++ (last_box_changes table by_parent has key label behind ++ box_changes table by_parent boxed (past_node table by_parent has key label handed behind) after))
       ≡ acts handed (beside (node_boxes has key label (boxes_in has children)) (boxes_in boxed after)))
   node_acts boxed true key (Element element) children after handed e below rest =
       let first = children_handed table by_parent key element handed in
@@ -239,21 +247,21 @@ module _ (table : List CounterStyle) where
       let own = own_here NoLaw table key element handed in
       let whole = Tree (own_box key element) (child_boxes key element boxes) Empty in
       let here : Leaves handed next whole = record { parent = refl; sibling = refl; preceding = exit_is NoLaw table key element handed behind boxes leaves } in
-      let one = first_changes table by_parent true key (Element element) handed in
+      let one = first_box_changes table by_parent true key (Element element) handed in
       let two = acts first boxes in
-      let three = last_changes table by_parent true key (Element element) behind in
+      let three = last_box_changes table by_parent true key (Element element) behind in
       let four = acts next (boxes_in boxed after) in
-      ap (λ all. one ++ (all ++ (three ++ changes table by_parent boxed next after))) (below first)
+      ap (λ all. one ++ (all ++ (three ++ box_changes table by_parent boxed next after))) (below first)
       ∙ ap (λ all. one ++ (two ++ (three ++ all))) (rest next)
       ∙ sym (acts_both handed next whole here (boxes_in boxed after)
       ∙ ap (λ all. all ++ four) (element_acts key element handed behind boxes leaves)
       ∙ append_assoc one (two ++ three) four
       ∙ ap (λ all. one ++ all) (append_assoc two three four))
   node_acts boxed true key Text children after handed e below rest = absurd (cc)
-  node_acts boxed false key (Element element) children after handed e below rest = ap (λ all. all ++ changes table by_parent boxed handed after) (unchanged children handed) ∙ rest handed
-  node_acts boxed false key Text children after handed e below rest = ap (λ all. all ++ changes table by_parent boxed handed after) (unchanged children handed) ∙ rest handed
+  node_acts boxed false key (Element element) children after handed e below rest = ap (λ all. all ++ box_changes table by_parent boxed handed after) (unchanged children handed) ∙ rest handed
+  node_acts boxed false key Text children after handed e below rest = ap (λ all. all ++ box_changes table by_parent boxed handed after) (unchanged children handed) ∙ rest handed
 
-  pub changes_are : (trees : Forest (Keyed StyledNode)) (boxed : Bool) (handed : Handed) → changes table by_parent boxed handed trees ≡ acts handed (boxes_in boxed trees)
+  pub changes_are : (trees : Forest (Keyed StyledNode)) (boxed : Bool) (handed : Handed) → box_changes table by_parent boxed handed trees ≡ acts handed (boxes_in boxed trees)
   changes_are Empty boxed handed = refl
   changes_are (Tree node children after) boxed handed =
       let has = is_boxed boxed node.label in

@@ -7,7 +7,7 @@ use Rattle.std.specs.Prelude.{filter, find, is_some, pos, unwrap_or}
 use Rattle.std.specs.List.{AllByRecursion, fold, last_or, list_any}
 use Rattle.std.specs.Option.{option_map_or}
 use Rattle.std.specs.Str.{bytes_eq}
-use Rattle.definitions.specs.CounterStyles.{distinct}
+use Rattle.css_definitions.specs.CounterStyles.{distinct}
 use Rattle.forest.specs.Forest.{Forest, labels}
 use Rattle.plain_types.specs.Counts.{count_sum}
 use Rattle.plain_types.specs.declared.box_id.BoxId.{BoxId}

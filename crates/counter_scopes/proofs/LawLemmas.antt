@@ -2,7 +2,7 @@
 use Rattle.std.proofs.Common.{◌≡◌, ◌++◌, ◌∷◌, ◌||◌, ◌&&◌, ℕ, pos, List, [], true, false, not, Option, Some, None, map, refl, sym, ap, subst, ◌∙◌, inl, inr}
 use Rattle.std.proofs.lemmas.Bool.{cases_Bool}
 use Rattle.std.proofs.lemmas.List.{map-append}
-use Rattle.std.specs.Prelude.{filter, find, flat_map}
+use Rattle.std.specs.Prelude.{filter, find}
 use Rattle.std.specs.List.{AllByRecursion, last_or, list_any}
 use Rattle.std.specs.Option.{option_map, option_map_or}
 use Rattle.forest.specs.Forest.{Forest, Empty, Tree, labels}
@@ -20,10 +20,10 @@ use Rattle.box_eval.proofs.ListLemmas.{each_append, each_both, each_imp}
 use Rattle.counter_scopes.specs.Boxes.{DocumentBox, box_with, document_boxes}
 use Rattle.counter_scopes.specs.Counting.{changed_names, created, event_for, mentions, reset_for, resets}
 use Rattle.counter_scopes.specs.Scopes.{creators_around, innermost_creator}
-use Rattle.counter_scopes.specs.Values.{change_at, changes_at, changes_by, counter_at}
+use Rattle.counter_scopes.specs.Values.{change_at, changes_at, counter_at}
 use Rattle.counter_scopes.specs.Laws.{AreChangesOfBoxes, CreatesWhereAlone, HasTheirValues, HasThoseInScope, HoldsOfElement, OfEachBox, has_its_own, is_in_anothers_scope}
 use Rattle.counter_scopes.proofs.BoxesLemmas.{HoldsOf, bridged}
-use Rattle.counter_scopes.proofs.ChangeLemmas.{change_from, change_with, changes_are, changes_from, map_same}
+use Rattle.counter_scopes.proofs.ChangeLemmas.{box_acts, change_from, change_with, changes_are, map_same}
 use Rattle.counter_scopes.proofs.KeyLemmas.{distinct_boxes}
 use Rattle.counter_scopes.proofs.OrderLemmas.{IsItem, each_self, item_in, labels_apart}
 use Rattle.counter_scopes.proofs.ToldLemmas.{AreApart, HasDistinctBoxes, Worths, by_name, each_back, each_front, exit_of, is_in, own_set, sets, told_root}
@@ -168,14 +168,18 @@ module _ (boxes : Forest DocumentBox) where
       by_innermost None = refl
       by_innermost (Some creator) = ap (λ id. record { creator = id; name = name; event = event_for name pair.0 (created name creator).reversed }) (created_by name creator)
 
-  changes_told : (pairs : List (DocumentBox × List Counter)) → AllByRecursion (HoldsOf (HasTheirValues boxes)) pairs → flat_map changes_from pairs ≡ changes_by boxes (map (λ (pair : DocumentBox × List Counter). pair.0) pairs)
+  -- a box, and what it does
+  abbrev with_changes : DocumentBox → BoxId × List Change
+  with_changes box = (box.id, changes_at boxes box)
+
+  changes_told : (pairs : List (DocumentBox × List Counter)) → AllByRecursion (HoldsOf (HasTheirValues boxes)) pairs → map box_acts pairs ≡ map with_changes (map (λ (pair : DocumentBox × List Counter). pair.0) pairs)
   changes_told [] h = refl
   changes_told (pair ∷ pairs) h =
-      ap (λ all. all ++ flat_map changes_from pairs) (map_same (change_from pair.0 pair.1) (change_at boxes pair.0) (change_told pair h.0) (changed_names pair.0))
-      ∙ ap (λ all. changes_at boxes pair.0 ++ all) (changes_told pairs h.1)
+      ap (λ changes. (pair.0.id, changes) ∷ map box_acts pairs) (map_same (change_from pair.0 pair.1) (change_at boxes pair.0) (change_told pair h.0) (changed_names pair.0))
+      ∙ ap (λ all. with_changes pair.0 ∷ all) (changes_told pairs h.1)
 
-  pub sets_changes : HasDistinctBoxes boxes → flat_map changes_from (sets [] None None boxes) ≡ changes_by boxes (labels boxes)
-  sets_changes distinct = changes_told (sets [] None None boxes) (sets_told distinct) ∙ ap (changes_by boxes) (set_labels boxes [] None None)
+  pub sets_changes : HasDistinctBoxes boxes → map box_acts (sets [] None None boxes) ≡ map with_changes (labels boxes)
+  sets_changes distinct = changes_told (sets [] None None boxes) (sets_told distinct) ∙ ap (map with_changes) (set_labels boxes [] None None)
 
 -- the evaluation by peers is that by the parent's set
 each_record : (Law : Forest DocumentBox → BoxId → List Counter → Type 0) → ((boxes : Forest DocumentBox) → HasDistinctBoxes boxes → AllByRecursion (HoldsOf (Law boxes)) (sets [] None None boxes)) → OfEachBox Law
@@ -197,6 +201,6 @@ creations_hold = each_record CreatesWhereAlone sets_alone
 
 pub changes_hold : OfEachDocument AreChangesOfBoxes
 changes_hold table document distinct =
-    (documents.told table document true at_root distinct (documents.root_level document)).changes
+    (documents.told table document true at_root distinct (documents.root_level document)).box_changes
     ∙ changes_are table document true at_root
     ∙ sets_changes (document_boxes document) (distinct_boxes document distinct)

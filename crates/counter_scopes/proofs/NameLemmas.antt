@@ -66,10 +66,6 @@ module _ (name : List ℕ) where
   last_step true c (Some place) rest h f deep e = ap (λ all. f (c ∷ all)) h.2 ∙ deep c h.0 h.1 ∙ ap (λ all. c ∷ f all) (sym h.2)
   last_step false c (Some place) rest h f deep e = refl
 
-  cond_same : {A : Type 0} (b : Bool) (x : A) → cond b x x ≡ x
-  cond_same true x = refl
-  cond_same false x = refl
-
   -- the innermost one
   found_here : (named : Bool) (c : Counter) (place : Option ℕ) (set rest : List Counter) → Placed place rest → option_and_then (slice_get set) place ≡ last_or None rest
       → option_and_then (slice_get (c ∷ set)) (option_map_or (λ place. Some (suc place)) place (cond named (Some 0) None)) ≡ last_or None (cond named (c ∷ rest) rest)

@@ -7,7 +7,7 @@ use Rattle.std.specs.Prelude.{filter, find, is_some}
 use Rattle.std.specs.List.{fold, last_or, list_any}
 use Rattle.std.specs.Option.{option_map, option_map_or, option_or}
 use Rattle.std.specs.Str.{bytes_eq}
-use Rattle.definitions.specs.CounterStyles.{distinct}
+use Rattle.css_definitions.specs.CounterStyles.{distinct}
 use Rattle.plain_types.specs.declared.counter.Counter.{Counter}
 use Rattle.plain_types.specs.declared.style.CounterOp.{CounterOp}
 use Rattle.counter_sets.specs.Sets.{innermost}

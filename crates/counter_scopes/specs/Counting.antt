@@ -3,7 +3,7 @@ use Rattle.std.specs.Prelude.{ℕ, ℤ, pos, negsuc, Bool, false, not, ◌&&◌,
 use Rattle.std.specs.List.{list_any}
 use Rattle.std.specs.Option.{option_map_or}
 use Rattle.std.specs.Str.{bytes_eq}
-use Rattle.definitions.specs.CounterStyles.{distinct}
+use Rattle.css_definitions.specs.CounterStyles.{distinct}
 use Rattle.plain_types.specs.declared.content.Item.{Item}
 use Rattle.plain_types.specs.declared.content.Item.TheVariants as item
 use Rattle.plain_types.specs.declared.counter.Counter.{Counter}

@@ -13,11 +13,11 @@ use Rattle.counter_sets.specs.Sets.{is_named, is_same_box}
 use Rattle.box_eval.specs.declared.element_record.ElementRecord.{ElementRecord}
 use Rattle.box_eval.specs.declared.made.Made.{Made}
 use Rattle.box_eval.specs.Boxes.{box_of}
-use Rattle.box_eval.specs.Evaluation.{StyledNode, all_changes, evaluation}
+use Rattle.box_eval.specs.Evaluation.{StyledNode, all_box_changes, evaluation}
 use Rattle.counter_scopes.specs.Boxes.{DocumentBox, box_with, document_boxes}
 use Rattle.counter_scopes.specs.Counting.{mentions, resets}
 use Rattle.counter_scopes.specs.Scopes.{creators_around}
-use Rattle.counter_scopes.specs.Values.{changes_by, counter_at}
+use Rattle.counter_scopes.specs.Values.{changes_at, counter_at}
 
 module _ (boxes : Forest DocumentBox) (box : BoxId) where
   -- the box is in the scope of a counter of the name that another box created
@@ -66,7 +66,9 @@ OfEachBox Law =
     (table : List CounterStyle) (document : Forest (Keyed StyledNode)) → HasDistinctKeys document
     → AllByRecursion (HoldsOfElement (Law (document_boxes document))) (evaluation table document)
 
--- 4.2: What the evaluation of a document tells of changes is what its boxes do in tree order, each to its innermost
--- counters of the names that it increments or sets.
+-- 4.2: What the evaluation of a document tells of each box is what that box does to its innermost counters of the names
+-- that it increments or sets; the boxes stand in tree order. By these changes the values are told.
 abbrev pub AreChangesOfBoxes : List CounterStyle → Forest (Keyed StyledNode) → Type 0
-AreChangesOfBoxes table document = all_changes table document ≡ changes_by (document_boxes document) (labels (document_boxes document))
+AreChangesOfBoxes table document =
+    let boxes = document_boxes document in
+    all_box_changes table document ≡ map (λ (box : DocumentBox). (box.id, changes_at boxes box)) (labels boxes)

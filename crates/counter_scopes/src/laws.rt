@@ -5,9 +5,9 @@ ghost use Rattle.counter_scopes.specs.Laws.{AreChangesOfBoxes, CreatesWhereAlone
 
 /// A box creates a counter of a name exactly where it resets the name, or increments, sets or uses it and is in the
 /// scope of no other counter of the name. The counters of a name in the set of a box are those in whose scope it
-/// is, in the tree order of their creators. What the evaluation of a document tells of changes is what its boxes do
-/// in tree order, each to its innermost counters of the names that it increments or sets. Each counter in the set of
-/// a box has the value with which it was created, changed by its events up to and including that box.
+/// is, in the tree order of their creators. What the evaluation of a document tells of each box is what that box does
+/// to its innermost counters of the names that it increments or sets, box by box in tree order. Each counter in the
+/// set of a box has the value with which it was created, changed by its events up to and including that box.
 pub fn scopes_and_values()
     ensures created { OfEachBox CreatesWhereAlone }
     ensures scopes { OfEachBox HasThoseInScope }

@@ -15,7 +15,7 @@ use Rattle.plain_types.specs.declared.style.ListType.TheVariants as list_type
 use Rattle.plain_types.specs.declared.style.Quotes.{Quotes}
 use Rattle.plain_types.specs.declared.style.Style.{Style}
 use Rattle.plain_types.specs.declared.style_ref.StyleRef.{StyleRef}
-use Rattle.definitions.specs.Representation.{marker_text}
+use Rattle.css_definitions.specs.Representation.{marker_text}
 use Rattle.counter_sets.specs.Sets.{is_named}
 use Rattle.content_eval.specs.Contents.{counter_text, depth_behind, generated, innermost_text, joined_text, piece_of, pieces, set_behind}
 use Rattle.content_eval.specs.declared.generated.Generated.{Generated}
@@ -29,10 +29,10 @@ use Rattle.box_eval.specs.declared.entry.Closing.{Closing}
 use Rattle.box_eval.specs.declared.entry.Entry.{Entry}
 use Rattle.box_eval.specs.declared.formed.Formed.{Formed}
 use Rattle.box_eval.specs.declared.made.Made.{Made}
-use Rattle.generated_texts.specs.Keyings.{rekeyed_box, rekeyed_counter, rekeyed_set}
+use Rattle.generated_texts.specs.Keyings.{rekeyed_box, rekeyed_change, rekeyed_counter, rekeyed_made, rekeyed_set}
 use Rattle.generated_texts.proofs.ListLemmas.{filter_map, fold_map, join_map}
 use Rattle.generated_texts.proofs.Rekeyed.{AreApart}
-use Rattle.generated_texts.proofs.RekeyedSets.{cond_map, counted_rekeyed, inherited_rekeyed, or_none, rekeyed_change, rekeyed_counted, rekeyed_start, same_innermost, same_peers, with_counter_rekeyed}
+use Rattle.generated_texts.proofs.RekeyedSets.{cond_map, counted_rekeyed, inherited_rekeyed, or_none, rekeyed_counted, rekeyed_start, same_innermost, same_peers, with_counter_rekeyed}
 
 -- Content.
 module _ (rekey : ℕ → ℕ) where
@@ -93,11 +93,8 @@ module _ (rekey : ℕ → ℕ) where
 
 -- What boxes are made of, and hand on.
 module _ (rekey : ℕ → ℕ) where
-  abbrev pub rekeyed_made : Made → Made
-  rekeyed_made made = record { set = rekeyed_set rekey made.set; pieces = made.pieces; changes = map (rekeyed_change rekey) made.changes }
-
   abbrev pub rekeyed_formed : Formed → Formed
-  rekeyed_formed formed = record { made = option_map rekeyed_made formed.made; depth = formed.depth }
+  rekeyed_formed formed = record { made = option_map (rekeyed_made rekey) formed.made; depth = formed.depth }
 
   abbrev pub rekeyed_handed : Handed → Handed
   rekeyed_handed handed = record {
@@ -115,15 +112,15 @@ module _ (rekey : ℕ → ℕ) where
   rekeyed_opening entry = record {
     own = rekeyed_set rekey entry.own;
     changes = map (rekeyed_change rekey) entry.changes;
-    marker = option_map rekeyed_made entry.marker;
-    before = option_map rekeyed_made entry.before;
+    marker = option_map (rekeyed_made rekey) entry.marker;
+    before = option_map (rekeyed_made rekey) entry.before;
     depth = entry.depth;
   }
 
   abbrev pub rekeyed_closing : Closing → Closing
-  rekeyed_closing closing = record { after = option_map rekeyed_made closing.after; exit = rekeyed_set rekey closing.exit; depth = closing.depth }
+  rekeyed_closing closing = record { after = option_map (rekeyed_made rekey) closing.after; exit = rekeyed_set rekey closing.exit; depth = closing.depth }
 
-  past_made : (box : BoxId) (made : Option Made) (depth : ℕ) (handed : Handed) → past_formed (rekeyed_box rekey box) (record { made = option_map rekeyed_made made; depth = depth }) (rekeyed_handed handed) ≡ rekeyed_handed (past_formed box (record { made = made; depth = depth }) handed)
+  past_made : (box : BoxId) (made : Option Made) (depth : ℕ) (handed : Handed) → past_formed (rekeyed_box rekey box) (record { made = option_map (rekeyed_made rekey) made; depth = depth }) (rekeyed_handed handed) ≡ rekeyed_handed (past_formed box (record { made = made; depth = depth }) handed)
   past_made box None depth handed = refl
   past_made box (Some made) depth handed = refl
 

@@ -15,7 +15,7 @@ use Rattle.box_eval.specs.declared.change.Change.{Change}
 use Rattle.box_eval.specs.declared.counting.Counted.{Counted}
 use Rattle.box_eval.specs.declared.inputs.Start.{Start}
 use Rattle.box_eval.specs.Properties.{after_resets, assigned_all, change_of, changed_names, changes_of, counted, counted_from, creator_of, first_value, has_implicit_step, implicit_step, increments_of, incremented_all, last_assigns, last_resets, list_item, merged, reset_by, start_in}
-use Rattle.generated_texts.specs.Keyings.{rekeyed_box, rekeyed_counter, rekeyed_set}
+use Rattle.generated_texts.specs.Keyings.{rekeyed_box, rekeyed_change, rekeyed_counter, rekeyed_set}
 use Rattle.generated_texts.proofs.ListLemmas.{any_map, change_at_map, filter_map, find_map, fold_map, get_map, last_place_map, map_map, map_or_map, map_same, remove_map}
 use Rattle.generated_texts.proofs.Rekeyed.{AreApart}
 
@@ -31,11 +31,8 @@ module _ (rekey : ℕ → ℕ) where
   abbrev pub rekeyed_start : Start → Start
   rekeyed_start start = record start { creator = rekeyed_box rekey start.creator }
 
-  abbrev pub rekeyed_change : Change → Change
-  rekeyed_change change = record change { creator = rekeyed_box rekey change.creator }
-
   abbrev pub rekeyed_counted : Counted → Counted
-  rekeyed_counted counted = record { set = rekeyed_set rekey counted.set; changes = map rekeyed_change counted.changes }
+  rekeyed_counted counted = record { set = rekeyed_set rekey counted.set; changes = map (rekeyed_change rekey) counted.changes }
 
   -- What does not read keys.
 
@@ -78,13 +75,13 @@ module _ (rekey : ℕ → ℕ) where
   creator_rekeyed set name otherwise =
       ap (λ counter. option_map_or (λ (c : Counter). c.creator) counter (rekeyed_box rekey otherwise)) (innermost_rekeyed set name) ∙ creator_in (innermost set name) otherwise
 
-  changes_rekeyed : (box : BoxId) (increments assigns : List CounterOp) (set : List Counter) → changes_of (rekeyed_box rekey box) increments assigns (rekeyed_set rekey set) ≡ map rekeyed_change (changes_of box increments assigns set)
+  changes_rekeyed : (box : BoxId) (increments assigns : List CounterOp) (set : List Counter) → changes_of (rekeyed_box rekey box) increments assigns (rekeyed_set rekey set) ≡ map (rekeyed_change rekey) (changes_of box increments assigns set)
   changes_rekeyed box increments assigns set =
       let change = change_of box increments assigns set in
       let change_too = change_of (rekeyed_box rekey box) increments assigns (rekeyed_set rekey set) in
-      map_same change_too (λ name. rekeyed_change (change name))
+      map_same change_too (λ name. rekeyed_change rekey (change name))
       (λ name. ap (λ (creator : BoxId). record { creator = creator; name = name; event = (change name).event }) (creator_rekeyed set name box)) (changed_names increments assigns)
-      ∙ sym (map_map change rekeyed_change (changed_names increments assigns))
+      ∙ sym (map_map change (rekeyed_change rekey) (changed_names increments assigns))
 
   -- What tells keys apart.
   module _ (apart : AreApart rekey) where

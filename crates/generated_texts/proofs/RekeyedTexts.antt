@@ -14,8 +14,8 @@ use Rattle.plain_types.specs.declared.counter_style.CounterStyle.{CounterStyle}
 use Rattle.plain_types.specs.declared.node.Node.{Node}
 use Rattle.plain_types.specs.declared.sheet.Sheet.{Sheet}
 use Rattle.plain_types.specs.declared.style_ref.StyleRef.{StyleRef}
-use Rattle.definitions.specs.Dump.{Line}
-use Rattle.definitions.specs.Representation.{representation}
+use Rattle.dump_definitions.specs.Dump.{Line}
+use Rattle.css_definitions.specs.Representation.{representation}
 use Rattle.counter_sets.specs.Sets.{innermost}
 use Rattle.css_reader.specs.Sheets.{sheet}
 use Rattle.node_arena.specs.Nodes.{node_characters}
@@ -27,17 +27,17 @@ use Rattle.box_eval.specs.declared.element_record.ElementRecord.{ElementRecord}
 use Rattle.box_eval.specs.declared.made.Made.{Made}
 use Rattle.generated_texts.specs.Documents.{agent_sheet, counter_styles, document_evaluation, document_style}
 use Rattle.generated_texts.specs.Entries.{box_text, document_entries, node_entries, node_entry}
-use Rattle.generated_texts.specs.Keyings.{rekeyed, rekeyed_entries, rekeyed_entry, rekeyed_node, rekeyed_set}
+use Rattle.generated_texts.specs.Keyings.{rekeyed, rekeyed_entries, rekeyed_entry, rekeyed_made, rekeyed_node, rekeyed_record, rekeyed_records, rekeyed_set}
 use Rattle.generated_texts.specs.Lines.{first_lines, keyed_lines, last_lines, lines_of, tree_lines}
 use Rattle.generated_texts.specs.References.{asked_box, characters_in, first_holder, has_id, known_characters, known_counters, known_flat, known_targets, kept_at, known_to_flat_texts, target_record}
 use Rattle.generated_texts.specs.declared.entry.BoxText.{BoxText}
 use Rattle.generated_texts.specs.declared.entry.NodeEntry.{NodeEntry}
 use Rattle.generated_texts.proofs.ListLemmas.{and_then_same, find_map, flat_map_map, flat_map_same, map_map, map_or_map, map_or_same, map_same, option_map_map, option_map_past, then_past, then_same}
 use Rattle.generated_texts.proofs.Rekeyed.{AreApart, children_of_rekeyed, labels_rekeyed, same_path}
-use Rattle.generated_texts.proofs.RekeyedBoxes.{rekeyed_made, same_joined, same_text}
+use Rattle.generated_texts.proofs.RekeyedBoxes.{same_joined, same_text}
 use Rattle.generated_texts.proofs.RekeyedSets.{same_has}
 use Rattle.generated_texts.proofs.RekeyedStyles.{same_style}
-use Rattle.generated_texts.proofs.RekeyedTrees.{document_rekeyed, rekeyed_record, rekeyed_records, with_rekeyed_record}
+use Rattle.generated_texts.proofs.RekeyedTrees.{document_rekeyed, with_rekeyed_record}
 
 module _ (rekey : ℕ → ℕ) where
   -- what is known of targets under other keys
@@ -204,7 +204,7 @@ module _ (rekey : ℕ → ℕ) where
 
     -- Documents.
 
-    evaluation_rekeyed : (author : Sheet) (document : Forest (Keyed Node)) → document_evaluation author (rekeyed rekey document) ≡ rekeyed_records rekey (document_evaluation author document)
+    pub evaluation_rekeyed : (author : Sheet) (document : Forest (Keyed Node)) → document_evaluation author (rekeyed rekey document) ≡ rekeyed_records rekey (document_evaluation author document)
     evaluation_rekeyed author document =
         document_rekeyed rekey apart (counter_styles author) (document_style author document) (document_style author (rekeyed rekey document))
         (λ key parent. same_style rekey apart document agent_sheet author key parent) document

@@ -26,11 +26,11 @@ use Rattle.box_eval.specs.declared.entry.Closing.{Closing}
 use Rattle.box_eval.specs.declared.entry.Entry.{Entry}
 use Rattle.box_eval.specs.declared.inputs.Start.{Start}
 use Rattle.box_eval.specs.declared.made.Made.{Made}
-use Rattle.generated_texts.specs.Keyings.{rekeyed, rekeyed_box, rekeyed_set}
+use Rattle.generated_texts.specs.Keyings.{rekeyed, rekeyed_box, rekeyed_change, rekeyed_made, rekeyed_record, rekeyed_records}
 use Rattle.generated_texts.proofs.ListLemmas.{filter_map, map_map, map_same}
 use Rattle.generated_texts.proofs.Rekeyed.{AreApart}
-use Rattle.generated_texts.proofs.RekeyedBoxes.{children_rekeyed, closing_rekeyed, opening_rekeyed, rekeyed_handed, rekeyed_made, rekeyed_opening, rekeyed_styled}
-use Rattle.generated_texts.proofs.RekeyedSets.{cond_map, rekeyed_change, rekeyed_start, same_box}
+use Rattle.generated_texts.proofs.RekeyedBoxes.{children_rekeyed, closing_rekeyed, opening_rekeyed, rekeyed_handed, rekeyed_opening, rekeyed_styled}
+use Rattle.generated_texts.proofs.RekeyedSets.{cond_map, rekeyed_start, same_box}
 
 join_two : {X Y : Type 0} (f : X → Y) (one other : List Y) (one_old other_old : List X) → one ≡ map f one_old → other ≡ map f other_old → one ++ other ≡ map f (one_old ++ other_old)
 join_two f one other one_old other_old e g = ap (λ xs. xs ++ other) e ∙ ap (λ ys. map f one_old ++ ys) g ∙ sym (map-append f one_old other_old)
@@ -43,23 +43,8 @@ module _ (rekey : ℕ → ℕ) where
   abbrev pub rekeyed_trees : Forest (Keyed StyledNode) → Forest (Keyed StyledNode)
   rekeyed_trees trees = map_labels (λ (node : Keyed StyledNode). record { key = rekey node.key; label = rekeyed_label node.label }) trees
 
-  abbrev pub rekeyed_record : ElementRecord → ElementRecord
-  rekeyed_record element = record {
-    has_box = element.has_box;
-    own = rekeyed_set rekey element.own;
-    exit = rekeyed_set rekey element.exit;
-    depth_before = element.depth_before;
-    depth_after = element.depth_after;
-    marker = option_map (rekeyed_made rekey) element.marker;
-    before = option_map (rekeyed_made rekey) element.before;
-    after = option_map (rekeyed_made rekey) element.after;
-  }
-
   abbrev pub with_rekeyed_record : ℕ × ElementRecord → ℕ × ElementRecord
-  with_rekeyed_record entry = (rekey entry.0, rekeyed_record entry.1)
-
-  abbrev pub rekeyed_records : List (ℕ × ElementRecord) → List (ℕ × ElementRecord)
-  rekeyed_records records = map with_rekeyed_record records
+  with_rekeyed_record entry = (rekey entry.0, rekeyed_record rekey entry.1)
 
   same_boxed : (boxed : Bool) (label : StyledNode) → is_boxed boxed (rekeyed_label label) ≡ is_boxed boxed label
   same_boxed boxed (Element element) = refl
@@ -87,14 +72,14 @@ module _ (rekey : ℕ → ℕ) where
     past_node_rekeyed false key (Element element) handed behind = refl
     past_node_rekeyed false key Text handed behind = refl
 
-    record_rekeyed : (has : Bool) (key : ℕ) (element : Styled) (handed behind : Handed) → record_of table by_peers has (rekey key) (rekeyed_styled rekey element) (rekeyed_handed rekey handed) (rekeyed_handed rekey behind) ≡ rekeyed_record (record_of table by_peers has key element handed behind)
+    record_rekeyed : (has : Bool) (key : ℕ) (element : Styled) (handed behind : Handed) → record_of table by_peers has (rekey key) (rekeyed_styled rekey element) (rekeyed_handed rekey handed) (rekeyed_handed rekey behind) ≡ rekeyed_record rekey (record_of table by_peers has key element handed behind)
     record_rekeyed true key element handed behind =
         let make : Entry → Closing → ElementRecord = λ entry closing. record { has_box = true; own = entry.own; exit = closing.exit; depth_before = handed.depth; depth_after = closing.depth; marker = entry.marker; before = entry.before; after = closing.after } in
         ap (λ entry. make entry (closing_of table by_peers (rekey key) (rekeyed_styled rekey element) (rekeyed_handed rekey behind))) (opening_rekeyed rekey apart table key element handed)
         ∙ ap (make (rekeyed_opening rekey (entry_of table by_peers key element handed))) (closing_rekeyed rekey apart table key element behind)
     record_rekeyed false key element handed behind = refl
 
-    records_of_rekeyed : (has : Bool) (key : ℕ) (label : StyledNode) (handed behind : Handed) → records_of table by_peers has (rekey key) (rekeyed_label label) (rekeyed_handed rekey handed) (rekeyed_handed rekey behind) ≡ rekeyed_records (records_of table by_peers has key label handed behind)
+    records_of_rekeyed : (has : Bool) (key : ℕ) (label : StyledNode) (handed behind : Handed) → records_of table by_peers has (rekey key) (rekeyed_label label) (rekeyed_handed rekey handed) (rekeyed_handed rekey behind) ≡ rekeyed_records rekey (records_of table by_peers has key label handed behind)
     records_of_rekeyed has key (Element element) handed behind = ap (λ element. (rekey key, element) ∷ []) (record_rekeyed has key element handed behind)
     records_of_rekeyed has key Text handed behind = refl
 
@@ -119,7 +104,7 @@ module _ (rekey : ℕ → ℕ) where
 
     pub record FollowKeys (boxed : Bool) (handed : Handed) (trees : Forest (Keyed StyledNode)) : Type 0 where
       pub past : past_trees table by_peers boxed (rekeyed_handed rekey handed) (rekeyed_trees trees) ≡ rekeyed_handed rekey (past_trees table by_peers boxed handed trees)
-      pub records : records table by_peers boxed (rekeyed_handed rekey handed) (rekeyed_trees trees) ≡ rekeyed_records (records table by_peers boxed handed trees)
+      pub records : records table by_peers boxed (rekeyed_handed rekey handed) (rekeyed_trees trees) ≡ rekeyed_records rekey (records table by_peers boxed handed trees)
       pub changes : changes table by_peers boxed (rekeyed_handed rekey handed) (rekeyed_trees trees) ≡ map (rekeyed_change rekey) (changes table by_peers boxed handed trees)
 
     pub follow_keys : (trees : Forest (Keyed StyledNode)) (boxed : Bool) (handed : Handed) → FollowKeys boxed handed trees
@@ -173,7 +158,7 @@ module _ (rekey : ℕ → ℕ) where
     pub changes_rekeyed : (document : Forest (Keyed StyledNode)) → all_changes table (rekeyed_trees document) ≡ map (rekeyed_change rekey) (all_changes table document)
     changes_rekeyed document = (follow_keys document true at_root).changes
 
-    pub evaluation_rekeyed : (document : Forest (Keyed StyledNode)) → evaluation table (rekeyed_trees document) ≡ rekeyed_records (evaluation table document)
+    pub evaluation_rekeyed : (document : Forest (Keyed StyledNode)) → evaluation table (rekeyed_trees document) ≡ rekeyed_records rekey (evaluation table document)
     evaluation_rekeyed document = (follow_keys document true at_root).records
 
   -- Styles and starts.
@@ -249,7 +234,7 @@ module _ (rekey : ℕ → ℕ) where
           ∙ ap (λ changes. starts_by changes (rekeyed_box rekey box) name) (changes_rekeyed apart table plain)
           ∙ ap start (same_events (all_changes table plain) box name)
 
-      pub document_rekeyed : document_records table style_too (rekeyed rekey document) ≡ rekeyed_records (document_records table style document)
+      pub document_rekeyed : document_records table style_too (rekeyed rekey document) ≡ rekeyed_records rekey (document_records table style document)
       document_rekeyed =
           ap (evaluation table) (styled_rekeyed (document_starts table style document) (document_starts table style_too (rekeyed rekey document)) starts_follow style style_too same document None)
           ∙ evaluation_rekeyed apart table (started table style document)

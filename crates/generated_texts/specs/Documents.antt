@@ -8,7 +8,7 @@ use Rattle.plain_types.specs.declared.node.Node.{Node}
 use Rattle.plain_types.specs.declared.sheet.Sheet.{Sheet}
 use Rattle.plain_types.specs.declared.style.ElementStyle.{ElementStyle}
 use Rattle.plain_types.specs.declared.style.Style.{Style}
-use Rattle.definitions.specs.CounterStyles.{finished_styles}
+use Rattle.css_definitions.specs.CounterStyles.{finished_styles}
 use Rattle.css_reader.specs.Sheets.{sheet}
 use Rattle.mini_cascade.specs.declared.agent_sheet.TheConstants.{AGENT_SHEET}
 use Rattle.mini_cascade.specs.Styles.{element_style}

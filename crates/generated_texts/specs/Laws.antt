@@ -5,8 +5,9 @@ use Rattle.forest.specs.Keys.{Keyed, HasDistinctKeys, numbered, without_keys}
 use Rattle.plain_types.specs.declared.node.Node.{Node}
 use Rattle.plain_types.specs.declared.sheet.Sheet.{Sheet}
 use Rattle.node_arena.specs.Nodes.{name_of}
+use Rattle.generated_texts.specs.Documents.{document_evaluation}
 use Rattle.generated_texts.specs.Entries.{document_entries}
-use Rattle.generated_texts.specs.Keyings.{KeepsApart, rekeyed, rekeyed_entries}
+use Rattle.generated_texts.specs.Keyings.{KeepsApart, rekeyed, rekeyed_entries, rekeyed_records}
 use Rattle.generated_texts.specs.Lines.{document_lines, keyed_lines}
 use Rattle.generated_texts.specs.References.{kept_at}
 
@@ -23,7 +24,14 @@ EachKeyingIsAnother =
     (document : Forest (Keyed Node)) → HasDistinctKeys document
     → (rekey : ℕ → ℕ) × KeepsApart rekey × (document ≡ rekeyed rekey (numbered 0 (without_keys document)))
 
--- Under other keys what is kept of a document's elements is the same, but for the keys.
+-- Under other keys what the evaluation says of a document's elements is the same, but for the names of the keys: their
+-- counters and depths, and the counters, pieces and changes of their markers, before and after boxes.
+abbrev pub RecordsFollowKeys : Type 0
+RecordsFollowKeys =
+    (author : Sheet) (document : Forest (Keyed Node)) (rekey : ℕ → ℕ) → KeepsApart rekey
+    → document_evaluation author (rekeyed rekey document) ≡ rekeyed_records rekey (document_evaluation author document)
+
+-- And so is what is kept of them.
 abbrev pub EntriesFollowKeys : Type 0
 EntriesFollowKeys =
     (author : Sheet) (document : Forest (Keyed Node)) (rekey : ℕ → ℕ) → KeepsApart rekey

@@ -7,7 +7,7 @@ use Rattle.forest.specs.Paths.{path_of}
 use Rattle.plain_types.specs.declared.box_kind.BoxKind.{BoxKind}
 use Rattle.plain_types.specs.declared.box_kind.BoxKind.TheVariants.{Marker, Before, After}
 use Rattle.plain_types.specs.declared.node.Node.{Node}
-use Rattle.definitions.specs.Dump.{Line, dump}
+use Rattle.dump_definitions.specs.Dump.{Line, dump}
 use Rattle.css_reader.specs.Sheets.{sheet}
 use Rattle.generated_texts.specs.declared.entry.BoxText.{BoxText}
 use Rattle.generated_texts.specs.declared.entry.NodeEntry.{NodeEntry}

@@ -10,7 +10,8 @@ use Rattle.plain_types.specs.declared.content.Part.TheVariants.{Content, Before,
 use Rattle.plain_types.specs.declared.counter.Counter.{Counter}
 use Rattle.plain_types.specs.declared.counter_style.CounterStyle.{CounterStyle}
 use Rattle.plain_types.specs.declared.node.Node.{Node}
-use Rattle.node_arena.specs.Nodes.{node_attrs, node_characters, value_of}
+use Rattle.plain_types.specs.Attributes.{value_of}
+use Rattle.node_arena.specs.Nodes.{node_attrs, node_characters}
 use Rattle.content_eval.specs.Targets.{Known, flat_text}
 use Rattle.box_eval.specs.declared.element_record.ElementRecord.{ElementRecord}
 use Rattle.box_eval.specs.declared.made.Made.{Made}

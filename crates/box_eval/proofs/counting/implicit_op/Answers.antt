@@ -1,4 +1,4 @@
-use Rattle.std.proofs.Common.{◌≡◌, ◌∙◌, ℕ, ℤ, List, ap, rules, to_z, of_z, w32}
+use Rattle.std.proofs.Common.{◌≡◌, ◌∙◌, ℕ, ℤ, List, ap, rules, to_z, of_z, w64}
 use Rattle.std.specs.Str.{chars}
 use Rattle.plain_types.specs.declared.style.CounterOp.{CounterOp}
 use Rattle.box_eval.specs.Properties.{list_item}
@@ -9,5 +9,5 @@ unfolding chars
 returns c =
     let make : List ℕ → ℤ → CounterOp = λ name value. record { name = name; value = value } in
     let step = c.implicit_step.result in
-    let same : to_z w32 (of_z w32 step) ≡ step = search rules in
-    record { op = ap (λ name. make name (to_z w32 (of_z w32 step))) c.in_ok-from_str.ensures.characters ∙ ap (make list_item) (same ∙ c.implicit_step.ensures.step) }
+    let same : to_z w64 (of_z w64 step) ≡ step = search rules in
+    record { op = ap (λ name. make name (to_z w64 (of_z w64 step))) c.in_ok-from_str.ensures.characters ∙ ap (make list_item) (same ∙ c.implicit_step.ensures.step) }

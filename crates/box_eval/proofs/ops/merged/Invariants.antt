@@ -1,5 +1,5 @@
 use Rattle.std.proofs.Common.{◌≡◌, take, map}
-use Rattle.definitions.specs.CounterStyles.{distinct}
+use Rattle.css_definitions.specs.CounterStyles.{distinct}
 use Rattle.box_eval.specs.Properties.{names, sum_for}
 use Rattle.box_eval.proofs.ops.merged.Given as goal
 

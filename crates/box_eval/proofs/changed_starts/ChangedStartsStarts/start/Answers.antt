@@ -1,4 +1,4 @@
-use Rattle.std.proofs.Common.{rules, ◌≡◌, ap, sym, ◌∙◌, [], to_z, of_z, w32, unwrap_or}
+use Rattle.std.proofs.Common.{rules, ◌≡◌, ap, sym, ◌∙◌, [], to_z, of_z, w64, unwrap_or}
 use Rattle.std.specs.Str.{chars}
 use Rattle.reversed_start.specs.Starts.{start}
 use Rattle.box_eval.specs.Starts.{starts_by}
@@ -8,7 +8,7 @@ use Rattle.box_eval.proofs.changed_starts.ChangedStartsStarts.start.Goals as goa
 pub returns-in-Some : goal.returns-in-Some
 returns-in-Some c =
     let inside = c.self.inside in
-    let number : to_z w32 (of_z w32 c.start_of.result) ≡ c.start_of.result = search rules in
+    let number : to_z w64 (of_z w64 c.start_of.result) ≡ c.start_of.result = search rules in
     record {
       start =
           number ∙ c.start_of.ensures.start ∙ ap start c.as_slice.ensures.items

@@ -2,7 +2,7 @@ use Rattle.std.proofs.Common.{None, true}
 use Rattle.box_eval.specs.Elements.{at_root}
 use Rattle.box_eval.specs.Starts.{document_starts}
 use Rattle.box_eval.proofs.AskingLemmas.{same_trees}
-use Rattle.box_eval.proofs.laws.starts_matter_where_asked.Goals as goal
+use Rattle.box_eval.proofs.laws.no_start_matters_where_none_is_asked.Goals as goal
 
 pub returns : goal.returns
 returns c = record {
