@@ -1,7 +1,7 @@
 -- Laws of the greatest of a list.
-use Rattle.std.proofs.Common.{◌≡◌, Bool, true, false, List, [], ◌∷◌, Option, Some, None, cond, refl, sym, ap, ◌∙◌, inl, inr}
+use Rattle.std.proofs.Common.{◌≡◌, Bool, true, false, Option, Some, None, refl, inl, inr}
 use Rattle.std.proofs.lemmas.Bool.{cases_Bool}
-use Rattle.mini_cascade.specs.Greatest.{greater, greatest}
+use Rattle.mini_cascade.specs.Greatest.{greater}
 
 -- less is a strict order in which those that are equal make classes
 pub record IsOrder {X : Type 0} (is_less : X → X → Bool) : Type 0 where

@@ -1,7 +1,6 @@
 -- The orders of specificities and of declarations are orders.
 use Rattle.std.proofs.Common.{◌≡◌, ℕ, Bool, true, false, ◌&&◌, ◌||◌, ◌==◌, nat_lt, arith}
 use Rattle.std.proofs.lemmas.Bool.Decides.{nat_tests}
-use Rattle.mini_cascade.specs.Declarations.{Applied}
 use Rattle.mini_cascade.specs.Ranks.{strength, is_outranked}
 use Rattle.selectors.specs.Specificity.{is_less}
 use Rattle.mini_cascade.specs.Styles.{gives_way}

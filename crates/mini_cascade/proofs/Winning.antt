@@ -1,5 +1,5 @@
 -- The greatest of what is chosen from a list, as a walk from its front finds it.
-use Rattle.std.proofs.Common.{◌≡◌, ℕ, ◌+◌, ◌<◌, Bool, true, false, if◌then◌else◌, List, [], ◌∷◌, Option, Some, None, cond, length, get_or, drop, refl, sym, ap, ◌∙◌}
+use Rattle.std.proofs.Common.{◌≡◌, ℕ, ◌+◌, ◌<◌, Bool, true, false, if◌then◌else◌, List, ◌∷◌, Option, Some, cond, length, get_or, drop, refl, sym, ap, ◌∙◌}
 use Rattle.std.proofs.lemmas.List.{at_drop_more}
 use Rattle.mini_cascade.specs.Greatest.{greater, greatest}
 use Rattle.mini_cascade.proofs.GreatestLaws.{IsOrder, greater_assoc}

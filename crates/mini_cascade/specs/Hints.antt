@@ -3,7 +3,6 @@ use Rattle.std.specs.Prelude.{ℕ, Bool, true, false, if◌then◌else◌, ℤ, 
 use Rattle.std.specs.Char.{is_ascii_whitespace}
 use Rattle.std.specs.Option.{option_to_list}
 use Rattle.std.specs.Str.{bytes_eq}
-use Rattle.std.specs.Str.Parse.{digits_value}
 use Rattle.forest.specs.Forest.{Forest}
 use Rattle.forest.specs.Keys.{Keyed}
 use Rattle.plain_types.specs.Counts.{count_sum}
@@ -17,21 +16,21 @@ use Rattle.plain_types.specs.declared.style.ListType.TheVariants as list_type
 use Rattle.plain_types.specs.declared.style.ResetOp.{ResetOp}
 use Rattle.plain_types.specs.declared.style_ref.StyleRef.{StyleRef}
 use Rattle.plain_types.specs.declared.style_ref.StyleRef.TheVariants as style_ref
-use Rattle.definitions.specs.Reading.{◌then◌, ◌otherwise◌, span}
-use Rattle.definitions.specs.Words.{is_word}
-use Rattle.css_tokens.specs.Numbers.{sign_at, digits_at, saturated}
-use Rattle.node_arena.specs.Nodes.{value_of, name_of, attrs_of}
+use Rattle.reading.specs.Reading.{◌then◌, ◌otherwise◌, span}
+use Rattle.css_definitions.specs.Words.{is_word}
+use Rattle.css_tokens.specs.Numbers.{integer_at}
+use Rattle.plain_types.specs.Attributes.{value_of}
+use Rattle.node_arena.specs.Nodes.{name_of, attrs_of}
+use Rattle.mini_cascade.specs.declared.hints.MarkerTypes.{MarkerTypes}
+use Rattle.mini_cascade.specs.declared.hints.MarkerTypes.TheVariants.{Numbered, Bulleted, Either}
 
 -- HTML, 2.3.4.1, the rules for parsing integers: ASCII whitespace is passed over, then stand an optional sign
 -- and one digit or more; what follows does not count. Our own: the integer is the nearest count.
 abbrev pub past_whitespace : List ℕ → List ℕ
 past_whitespace text = (span is_ascii_whitespace text).1
 
-abbrev pub digits_after : Bool × List ℕ → Option ℤ
-digits_after sign = digits_at sign.1 then λ digits. Some (saturated sign.0 (digits_value 10 digits.0))
-
 abbrev pub integer_in : List ℕ → Option ℤ
-integer_in text = digits_after (sign_at (past_whitespace text))
+integer_in text = integer_at (past_whitespace text) then λ read. Some read.0
 
 -- the integer that an attribute has
 abbrev pub integer_attr : List ℕ → List Attr → Option ℤ
@@ -75,20 +74,22 @@ bullet type =
     else (if is_word type (codes "circle") then Some (style_ref.Name (codes "circle"))
     else (if is_word type (codes "square") then Some (style_ref.Name (codes "square")) else None)))
 
--- the style of a type, where those of numbered lists count, or those of others
-abbrev pub type_style : Bool → Bool → List ℕ → Option StyleRef
-type_style numbered bulleted type = (if numbered then numbering type else None) otherwise (if bulleted then bullet type else None)
+-- HTML, 15.3.7: of which lists the types count
+abbrev pub type_style : MarkerTypes → List ℕ → Option StyleRef
+type_style Numbered type = numbering type
+type_style Bulleted type = bullet type
+type_style Either type = numbering type otherwise bullet type
 
-abbrev pub type_hint : Bool → Bool → List Attr → Option Declaration
-type_hint numbered bulleted attrs =
-    value_of (codes "type") attrs then λ type. type_style numbered bulleted type then λ style. Some (declaration.ListStyle (Value (list_type.Style style)))
+abbrev pub type_hint : MarkerTypes → List Attr → Option Declaration
+type_hint types attrs =
+    value_of (codes "type") attrs then λ type. type_style types type then λ style. Some (declaration.ListStyle (Value (list_type.Style style)))
 
 -- the hints of an element of this name with these attributes; there is at most one for a property
 abbrev pub hints : List ℕ → List Attr → List Declaration
 hints name attrs =
-    if bytes_eq name (codes "ol") then option_to_list (start_hint attrs) ++ option_to_list (type_hint true false attrs)
-    else (if bytes_eq name (codes "ul") then option_to_list (type_hint false true attrs)
-    else (if bytes_eq name (codes "li") then option_to_list (value_hint attrs) ++ option_to_list (type_hint true true attrs)
+    if bytes_eq name (codes "ol") then option_to_list (start_hint attrs) ++ option_to_list (type_hint Numbered attrs)
+    else (if bytes_eq name (codes "ul") then option_to_list (type_hint Bulleted attrs)
+    else (if bytes_eq name (codes "li") then option_to_list (value_hint attrs) ++ option_to_list (type_hint Either attrs)
     else []))
 
 -- the hints of a node; a text has none

@@ -1,7 +1,7 @@
+pub mod AgentSheet
 pub mod Greatest
 pub mod Ranks
 pub mod Properties
 pub mod Hints
 pub mod Declarations
 pub mod Styles
-pub mod Candidates

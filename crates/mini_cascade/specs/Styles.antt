@@ -9,7 +9,7 @@ use Rattle.plain_types.specs.declared.selector_parts.PseudoElement.TheVariants.{
 use Rattle.plain_types.specs.declared.sheet.Sheet.{Sheet}
 use Rattle.plain_types.specs.declared.style.ElementStyle.{ElementStyle}
 use Rattle.plain_types.specs.declared.style.Style.{Style}
-use Rattle.definitions.specs.Reading.{◌then◌}
+use Rattle.reading.specs.Reading.{◌then◌}
 use Rattle.mini_cascade.specs.Declarations.{Applied, applied}
 use Rattle.mini_cascade.specs.Greatest.{greatest}
 use Rattle.mini_cascade.specs.Properties.{Definition, display, content, counter_reset, counter_increment, counter_set, list_style_type, quotes, initial_values, specified_value}
@@ -38,15 +38,19 @@ module _ (all : List Applied) where
     quotes = specified parent quotes;
   }
 
+-- the styles of an element and of its pseudo-elements, to each of which these declarations apply; the parent of a
+-- pseudo-element is its element, and 7.2: the root has no parent and inherits initial values
+module _ (own marker before after : List Applied) where
+  abbrev pub with_pseudo_styles : Style → ElementStyle
+  with_pseudo_styles style = record { own = style; marker = style_under marker style; before = style_under before style; after = style_under after style }
+
+  abbrev pub styles_under : Option Style → ElementStyle
+  styles_under parent = with_pseudo_styles (style_under own (unwrap_or parent initial_values))
+
 module _ (tree : Forest (Keyed Node)) (agent author : Sheet) (key : ℕ) where
-  -- the style of the element or of one of its pseudo-elements, where its parent has this style
-  abbrev pub box_style : PseudoElement → Style → Style
-  box_style pseudo parent = style_under (applied tree key pseudo agent author) parent
+  abbrev pub applied_to : PseudoElement → List Applied
+  applied_to pseudo = applied tree key pseudo agent author
 
-  -- the parent of a pseudo-element is its element
-  abbrev pub with_pseudo_elements : Style → ElementStyle
-  with_pseudo_elements own = record { own = own; marker = box_style Marker own; before = box_style Before own; after = box_style After own }
-
-  -- CSS Cascade 5, 7.2: the root has no parent and inherits initial values
+  -- the styles of the element, where its parent has this style
   abbrev pub element_style : Option Style → ElementStyle
-  element_style parent = with_pseudo_elements (box_style Own (unwrap_or parent initial_values))
+  element_style parent = styles_under (applied_to Own) (applied_to Marker) (applied_to Before) (applied_to After) parent

@@ -1,5 +1,8 @@
 //! The user agent's style sheet.
 
+ghost use Rattle.std.specs.Prelude.{◌≡◌};
+ghost use Rattle.mini_cascade.specs.AgentSheet.{agent_sheet};
+
 /// The style sheet of the user agent: what of HTML, 15.3 "Non-replaced elements" and of CSS Lists 3,
 /// Appendix A, counters, markers and quotation marks need. It has nine rules.
 pub const AGENT_SHEET: &str = "\
@@ -13,3 +16,9 @@ ul,menu,dir{list-style-type:disc}
 q::before{content:open-quote}
 q::after{content:close-quote}
 ";
+
+/// The sheet is the one that the definitions spell. The function here has nothing to do: its contract is the
+/// law.
+pub fn one_agent_sheet()
+    ensures law { AGENT_SHEET.now ≡ agent_sheet }
+{}

@@ -1,15 +1,14 @@
 //! Which declarations apply to an element and to its pseudo-elements.
 
-ghost use Rattle.std.specs.Prelude.{◌≡◌, ◌++◌, ◌∷◌, [], IfOk, OnOk, Some, flat_map};
+ghost use Rattle.std.specs.Prelude.{◌≡◌, ◌++◌, IfOk, OnOk, Some, flat_map};
 ghost use Rattle.forest.specs.Spots.{IsLive};
 ghost use Rattle.plain_types.specs.declared.selector_parts.PseudoElement.TheVariants as pseudo;
-ghost use Rattle.mini_cascade.specs.Candidates.{applied_in};
-ghost use Rattle.mini_cascade.specs.Declarations.{is_same, counts_for, declared_with, hinted, ranked, selects, specificity_in, declared_in, applied};
+ghost use Rattle.mini_cascade.specs.Declarations.{is_same, counts_for, declared_with, hinted, selects, specificity_in, declared_in, applied};
 ghost use Rattle.mini_cascade.specs.Greatest.{greater};
 ghost use Rattle.mini_cascade.specs.Hints.{hints_of};
 ghost use Rattle.selectors.specs.Specificity.{is_less};
 
-use crate::candidate::Candidate;
+use crate::candidate::Candidates;
 use crate::rank::{Level, Origin, Rank, cascade_level};
 use node_arena::arena::Arena;
 use plain_types::declaration::{Declaration, Declared};
@@ -25,10 +24,10 @@ use std::alloc::Global;
 /// The declarations that apply to an element and to its pseudo-elements, in the order in which they appear.
 #[derive(Drop)]
 pub(crate) struct Applicable<'a> {
-    pub(crate) own: Vec<Candidate<'a>>,
-    pub(crate) marker: Vec<Candidate<'a>>,
-    pub(crate) before: Vec<Candidate<'a>>,
-    pub(crate) after: Vec<Candidate<'a>>,
+    pub(crate) own: Candidates<'a>,
+    pub(crate) marker: Candidates<'a>,
+    pub(crate) before: Candidates<'a>,
+    pub(crate) after: Candidates<'a>,
 }
 
 fn is_same(first: PseudoElement, second: PseudoElement) -> bool
@@ -84,28 +83,20 @@ fn specificity_in(
     best
 }
 
-/// Appends a declaration.
-fn push<'a>(list: &mut Vec<Candidate<'a>>, rank: Rank, what: &'a Declaration) -> Result<(), Memory>
-    ensures ok { OnOk result (applied_in list.new.items ≡ applied_in list.old.items ++ ranked rank what.now ∷ []) }
-{
-    list.push(Candidate { rank, what })?;
-    Ok(())
-}
-
 /// Appends the declarations of a rule that matches with this specificity.
 fn add_declared<'a>(
-    list: &mut Vec<Candidate<'a>>,
+    list: &mut Candidates<'a>,
     pseudo: PseudoElement,
     origin: Origin,
     block: &'a [Declared],
     specificity: Specificity,
 ) -> Result<(), Memory>
-    ensures ok { OnOk result (applied_in list.new.items ≡ applied_in list.old.items ++ declared_with pseudo origin block.now specificity) }
+    ensures ok { OnOk result (list.new ≡ list.old ++ declared_with pseudo origin block.now specificity) }
 {
     for declared in block {
         if counts_for(pseudo, &declared.what) {
             let level = cascade_level(origin, declared.important);
-            push(list, Rank { level, specificity }, &declared.what)?;
+            list.push(Rank { level, specificity }, &declared.what)?;
         }
     }
     Ok(())
@@ -113,7 +104,7 @@ fn add_declared<'a>(
 
 /// Appends what a rule declares for the element or for this pseudo-element of it.
 fn add_rule<'a>(
-    list: &mut Vec<Candidate<'a>>,
+    list: &mut Candidates<'a>,
     arena: &Arena,
     key: usize,
     pseudo: PseudoElement,
@@ -121,7 +112,7 @@ fn add_rule<'a>(
     rule: &'a StyleRule,
 ) -> Result<(), Memory>
     requires { IsLive arena.now.tree key }
-    ensures ok { OnOk result (applied_in list.new.items ≡ applied_in list.old.items ++ declared_in arena.now.tree key pseudo origin rule.now) }
+    ensures ok { OnOk result (list.new ≡ list.old ++ declared_in arena.now.tree key pseudo origin rule.now) }
 {
     match specificity_in(arena, key, pseudo, rule) {
         Some(specificity) => add_declared(
@@ -136,8 +127,8 @@ fn add_rule<'a>(
 }
 
 /// Appends hints.
-fn add_hints<'a>(list: &mut Vec<Candidate<'a>>, hints: &'a [Declaration]) -> Result<(), Memory>
-    ensures ok { OnOk result (applied_in list.new.items ≡ applied_in list.old.items ++ hinted pseudo.Own hints.now) }
+fn add_hints<'a>(list: &mut Candidates<'a>, hints: &'a [Declaration]) -> Result<(), Memory>
+    ensures ok { OnOk result (list.new ≡ list.old ++ hinted pseudo.Own hints.now) }
 {
     let specificity = Specificity {
         ids: 0,
@@ -146,7 +137,7 @@ fn add_hints<'a>(list: &mut Vec<Candidate<'a>>, hints: &'a [Declaration]) -> Res
     };
     let level = Level::Author;
     for hint in hints {
-        push(list, Rank { level, specificity }, hint)?;
+        list.push(Rank { level, specificity }, hint)?;
     }
     Ok(())
 }
@@ -160,10 +151,10 @@ fn add_rules<'a>(
     rules: &'a [StyleRule],
 ) -> Result<(), Memory>
     requires { IsLive arena.now.tree key }
-    ensures own { OnOk result (applied_in lists.new.own.items ≡ applied_in lists.old.own.items ++ flat_map (declared_in arena.now.tree key pseudo.Own origin) rules.now) }
-    ensures marker { OnOk result (applied_in lists.new.marker.items ≡ applied_in lists.old.marker.items ++ flat_map (declared_in arena.now.tree key pseudo.Marker origin) rules.now) }
-    ensures before { OnOk result (applied_in lists.new.before.items ≡ applied_in lists.old.before.items ++ flat_map (declared_in arena.now.tree key pseudo.Before origin) rules.now) }
-    ensures after { OnOk result (applied_in lists.new.after.items ≡ applied_in lists.old.after.items ++ flat_map (declared_in arena.now.tree key pseudo.After origin) rules.now) }
+    ensures own { OnOk result (lists.new.own ≡ lists.old.own ++ flat_map (declared_in arena.now.tree key pseudo.Own origin) rules.now) }
+    ensures marker { OnOk result (lists.new.marker ≡ lists.old.marker ++ flat_map (declared_in arena.now.tree key pseudo.Marker origin) rules.now) }
+    ensures before { OnOk result (lists.new.before ≡ lists.old.before ++ flat_map (declared_in arena.now.tree key pseudo.Before origin) rules.now) }
+    ensures after { OnOk result (lists.new.after ≡ lists.old.after ++ flat_map (declared_in arena.now.tree key pseudo.After origin) rules.now) }
 {
     for rule in rules {
         add_rule(&mut lists.own, arena, key, PseudoElement::Own, origin, rule)?;
@@ -206,16 +197,16 @@ pub(crate) fn collect<'a>(
 ) -> Result<Applicable<'a>, Memory>
     requires live { IsLive arena.now.tree key }
     requires hints { hints.now ≡ hints_of arena.now.tree key }
-    ensures own { IfOk result (λ lists. applied_in lists.own.items ≡ applied arena.now.tree key pseudo.Own agent.now author.now) }
-    ensures marker { IfOk result (λ lists. applied_in lists.marker.items ≡ applied arena.now.tree key pseudo.Marker agent.now author.now) }
-    ensures before { IfOk result (λ lists. applied_in lists.before.items ≡ applied arena.now.tree key pseudo.Before agent.now author.now) }
-    ensures after { IfOk result (λ lists. applied_in lists.after.items ≡ applied arena.now.tree key pseudo.After agent.now author.now) }
+    ensures own { IfOk result (λ lists. lists.own ≡ applied arena.now.tree key pseudo.Own agent.now author.now) }
+    ensures marker { IfOk result (λ lists. lists.marker ≡ applied arena.now.tree key pseudo.Marker agent.now author.now) }
+    ensures before { IfOk result (λ lists. lists.before ≡ applied arena.now.tree key pseudo.Before agent.now author.now) }
+    ensures after { IfOk result (λ lists. lists.after ≡ applied arena.now.tree key pseudo.After agent.now author.now) }
 {
     let mut lists = Applicable {
-        own: Vec::new(alloc),
-        marker: Vec::new(alloc),
-        before: Vec::new(alloc),
-        after: Vec::new(alloc),
+        own: Candidates::new(alloc),
+        marker: Candidates::new(alloc),
+        before: Candidates::new(alloc),
+        after: Candidates::new(alloc),
     };
     add_rules(
         &mut lists,

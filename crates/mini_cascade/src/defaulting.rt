@@ -1,11 +1,10 @@
 //! Styles from the declarations that apply: the specified values (CSS Cascade 5, 4.3 and 7).
 
 ghost use Rattle.std.specs.Prelude.{◌≡◌, IfOk};
-ghost use Rattle.mini_cascade.specs.Candidates.{applied_in};
 ghost use Rattle.mini_cascade.specs.Properties.{initial_values};
 ghost use Rattle.mini_cascade.specs.Styles.{specified, style_under};
 
-use crate::candidate::{Candidate, cascaded};
+use crate::candidate::Candidates;
 use crate::property::{
     ContentProperty, CounterIncrement, CounterReset, CounterSet, DisplayProperty, ListStyleType,
     Property, QuotesProperty,
@@ -37,14 +36,14 @@ pub(crate) fn initial_values(alloc: Global) -> Result<Style, Memory>
 
 /// The value of a property, where the parent has this style.
 fn specified<'a, V, P: Property<V>>(
-    candidates: &[Candidate<'a>],
+    candidates: &Candidates<'a>,
     parent: &'a Style,
     initial: &'a Style,
 ) -> &'a V
     requires { initial.now ≡ initial_values }
-    ensures { result.now ≡ specified (applied_in candidates.now) parent.now P.definition }
+    ensures { result.now ≡ specified candidates.now parent.now P.definition }
 {
-    match cascaded::<V, P>(candidates) {
+    match candidates.cascaded::<V, P>() {
         Some(Said::Value(value)) => value,
         Some(Said::Inherit) => P::value(parent),
         Some(Said::Initial) => P::value(initial),
@@ -61,12 +60,12 @@ fn specified<'a, V, P: Property<V>>(
 /// The style that these declarations give where the parent has this style.
 pub(crate) fn style_under<'a>(
     alloc: Global,
-    candidates: &[Candidate<'a>],
+    candidates: &Candidates<'a>,
     parent: &'a Style,
     initial: &'a Style,
 ) -> Result<Style, Memory>
     requires { initial.now ≡ initial_values }
-    ensures { IfOk result (λ style. style ≡ style_under (applied_in candidates.now) parent.now) }
+    ensures { IfOk result (λ style. style ≡ style_under candidates.now parent.now) }
 {
     let display = specified::<Display, DisplayProperty>(candidates, parent, initial);
     let content = specified::<Content, ContentProperty>(candidates, parent, initial);

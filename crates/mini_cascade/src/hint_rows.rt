@@ -3,6 +3,7 @@
 use crate::documents::arena_of;
 use crate::hints::{hints, start_reset};
 use crate::shown::{show_resets, shown_hints};
+use plain_types::count::Count;
 use plain_types::memory::Memory;
 use plain_types::text::Text;
 use std::alloc::Global;
@@ -33,31 +34,60 @@ static STARTS: [Hint; 18] = [
     ("ol", "start", "\u{ff13}", ""),
 ];
 
-/// The ends of counts.
-static ENDS: [Hint; 5] = [
-    ("ol", "start", "2147483647", "reset list-item 2147483646; "),
-    ("ol", "start", "2147483648", "reset list-item 2147483646; "),
-    (
-        "ol",
-        "start",
-        "99999999999999999999",
-        "reset list-item 2147483646; ",
-    ),
+/// The ends of 32 bits, which are none, and those of counts.
+static ENDS: [Hint; 9] = [
+    ("ol", "start", "2147483648", "reset list-item 2147483647; "),
     (
         "ol",
         "start",
         "-2147483648",
-        "reset list-item -2147483648; ",
+        "reset list-item -2147483649; ",
+    ),
+    (
+        "ol",
+        "start",
+        "9223372036854775807",
+        "reset list-item 9223372036854775806; ",
+    ),
+    (
+        "ol",
+        "start",
+        "9223372036854775808",
+        "reset list-item 9223372036854775806; ",
+    ),
+    (
+        "ol",
+        "start",
+        "18446744073709551616",
+        "reset list-item 9223372036854775806; ",
+    ),
+    (
+        "ol",
+        "start",
+        "99999999999999999999",
+        "reset list-item 9223372036854775806; ",
+    ),
+    (
+        "ol",
+        "start",
+        "-9223372036854775807",
+        "reset list-item -9223372036854775808; ",
+    ),
+    (
+        "ol",
+        "start",
+        "-9223372036854775808",
+        "reset list-item -9223372036854775808; ",
     ),
     (
         "ol",
         "start",
         "-99999999999999999999",
-        "reset list-item -2147483648; ",
+        "reset list-item -9223372036854775808; ",
     ),
 ];
 
-static OTHERS: [Hint; 11] = [
+static OTHERS: [Hint; 13] = [
     // `reversed`, whatever its value
     ("ol", "reversed", "reversed", "reset reversed list-item; "),
     ("ol", "reversed", "", "reset reversed list-item; "),
@@ -69,7 +99,19 @@ static OTHERS: [Hint; 11] = [
     ("li", "value", "10", "set list-item 10; "),
     ("li", "value", " -7 apples", "set list-item -7; "),
     ("li", "value", "ten", ""),
-    ("li", "value", "2147483648", "set list-item 2147483647; "),
+    ("li", "value", "2147483648", "set list-item 2147483648; "),
+    (
+        "li",
+        "value",
+        "9223372036854775808",
+        "set list-item 9223372036854775807; ",
+    ),
+    (
+        "li",
+        "value",
+        "-9223372036854775809",
+        "set list-item -9223372036854775808; ",
+    ),
     ("ol", "value", "10", ""),
 ];
 
@@ -91,9 +133,13 @@ static TYPES: [Hint; 13] = [
 ];
 
 /// The start of a reversed list, and what its counter is reset to.
-static REVERSED_STARTS: [(Option<i32>, &str); 4] = [
+static REVERSED_STARTS: [(Option<Count>, &str); 5] = [
     (Some(3), "reset reversed list-item 4; "),
-    (Some(2147483647), "reset reversed list-item 2147483647; "),
+    (Some(2147483647), "reset reversed list-item 2147483648; "),
+    (
+        Some(9223372036854775807),
+        "reset reversed list-item 9223372036854775807; ",
+    ),
     (Some(-1), "reset reversed list-item 0; "),
     (None, "reset reversed list-item; "),
 ];
@@ -128,8 +174,9 @@ fn hints_are_those_of_the_attributes(rt: HostRuntime) -> Result<(), Fail> {
 #[test]
 fn reversed_lists_start_one_higher(rt: HostRuntime) -> Result<(), Fail> {
     let alloc = rt.alloc();
+    let reversed = true;
     for (start, expected) in &REVERSED_STARTS {
-        let reset = start_reset(alloc, true, *start)?.ok_or("no reset")?;
+        let reset = start_reset(alloc, reversed, *start)?.ok_or("no reset")?;
         let mut shown = Text::new(alloc);
         show_resets(&[reset], alloc, &mut shown)?;
         assert_eq!(rt; shown.as_str(), *expected);

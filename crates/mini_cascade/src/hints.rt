@@ -3,7 +3,7 @@
 ghost use Rattle.std.specs.Prelude.{◌≡◌, ◌++◌, IsTrue, IfOk, OnOk, OnErr, Some};
 ghost use Rattle.std.specs.Option.{option_to_list};
 ghost use Rattle.std.specs.Str.{chars};
-ghost use Rattle.definitions.specs.Words.{is_ascii};
+ghost use Rattle.css_definitions.specs.Words.{is_ascii};
 ghost use Rattle.forest.specs.Spots.{IsLive};
 ghost use Rattle.plain_types.specs.declared.style_ref.StyleRef.TheVariants as style_ref;
 ghost use Rattle.node_arena.specs.Nodes.{attrs_of};
@@ -20,6 +20,14 @@ use plain_types::style::{CounterOp, ListType, ResetOp};
 use plain_types::style_ref::StyleRef;
 use plain_types::text::Text;
 use std::alloc::Global;
+
+/// Of which lists the types of markers count.
+#[derive(Clone, Copy)]
+pub(crate) enum MarkerTypes {
+    Numbered,
+    Bulleted,
+    Either,
+}
 
 /// A reset of `list-item`.
 fn list_reset(alloc: Global, reversed: bool, value: Option<Count>) -> Result<ResetOp, Memory>
@@ -131,24 +139,17 @@ fn bullet(alloc: Global, kind: &str) -> Result<Option<StyleRef>, Memory>
     }
 }
 
-/// The style of a type, where those of numbered lists count, or those of others.
-fn type_style(
-    alloc: Global,
-    numbered: bool,
-    bulleted: bool,
-    kind: &str,
-) -> Result<Option<StyleRef>, Memory>
-    ensures { IfOk result (λ style. style ≡ type_style numbered bulleted (chars kind.now)) }
+/// The style of a type, where the types of these lists count.
+fn type_style(alloc: Global, types: MarkerTypes, kind: &str) -> Result<Option<StyleRef>, Memory>
+    ensures { IfOk result (λ style. style ≡ type_style types (chars kind.now)) }
 {
-    if numbered {
-        if let Some(style) = numbering(alloc, kind)? {
-            return Ok(Some(style));
-        }
-    }
-    if bulleted {
-        bullet(alloc, kind)
-    } else {
-        Ok(None)
+    match types {
+        MarkerTypes::Numbered => numbering(alloc, kind),
+        MarkerTypes::Bulleted => bullet(alloc, kind),
+        MarkerTypes::Either => match numbering(alloc, kind)? {
+            Some(style) => Ok(Some(style)),
+            None => bullet(alloc, kind),
+        },
     }
 }
 
@@ -157,16 +158,15 @@ fn type_hint(
     alloc: Global,
     arena: &Arena,
     key: usize,
-    numbered: bool,
-    bulleted: bool,
+    types: MarkerTypes,
 ) -> Result<Option<Declaration>, Memory>
     requires { IsLive arena.now.tree key }
-    ensures { IfOk result (λ hint. hint ≡ type_hint numbered bulleted (attrs_of arena.now.tree key)) }
+    ensures { IfOk result (λ hint. hint ≡ type_hint types (attrs_of arena.now.tree key)) }
 {
     let Some(kind) = attr(arena, key, "type") else {
         return Ok(None);
     };
-    match type_style(alloc, numbered, bulleted, kind)? {
+    match type_style(alloc, types, kind)? {
         Some(style) => Ok(Some(Declaration::ListStyle(Said::Value(ListType::Style(style))))),
         None => Ok(None),
     }
@@ -197,12 +197,21 @@ pub fn hints(alloc: Global, arena: &Arena, key: usize) -> Result<List<Declaratio
     };
     if is_exactly(name, "ol") {
         add(&mut hints, start_hint(alloc, arena, key)?)?;
-        add(&mut hints, type_hint(alloc, arena, key, true, false)?)?;
+        add(
+            &mut hints,
+            type_hint(alloc, arena, key, MarkerTypes::Numbered)?,
+        )?;
     } else if is_exactly(name, "ul") {
-        add(&mut hints, type_hint(alloc, arena, key, false, true)?)?;
+        add(
+            &mut hints,
+            type_hint(alloc, arena, key, MarkerTypes::Bulleted)?,
+        )?;
     } else if is_exactly(name, "li") {
         add(&mut hints, value_hint(alloc, arena, key)?)?;
-        add(&mut hints, type_hint(alloc, arena, key, true, true)?)?;
+        add(
+            &mut hints,
+            type_hint(alloc, arena, key, MarkerTypes::Either)?,
+        )?;
     }
     Ok(hints)
 }

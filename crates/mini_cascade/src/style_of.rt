@@ -2,8 +2,7 @@
 
 ghost use Rattle.std.specs.Prelude.{◌≡◌, ◌+◌, IfOk, option_copied};
 ghost use Rattle.forest.specs.Spots.{IsLive};
-ghost use Rattle.mini_cascade.specs.Candidates.{styles_from};
-ghost use Rattle.mini_cascade.specs.Styles.{element_style};
+ghost use Rattle.mini_cascade.specs.Styles.{element_style, styles_under};
 
 use crate::applicable::{Applicable, collect};
 use crate::defaulting::{initial_values, style_under};
@@ -17,19 +16,19 @@ use std::sync::ledger::Ledger;
 use steps::Steps;
 
 /// The styles that the declarations in these lists give.
-fn styles_from<'a>(
+fn styles_under<'a>(
     alloc: Global,
     lists: &Applicable<'a>,
     parent: Option<&'a Style>,
 ) -> Result<ElementStyle, Memory>
-    ensures { IfOk result (λ style. style ≡ styles_from lists.now (option_copied parent.entry)) }
+    ensures { IfOk result (λ style. style ≡ styles_under lists.now.own lists.now.marker lists.now.before lists.now.after (option_copied parent.entry)) }
 {
     let initial = initial_values(alloc)?;
     let above = parent.unwrap_or(&initial);
-    let own = style_under(alloc, lists.own.as_slice(), above, &initial)?;
-    let marker = style_under(alloc, lists.marker.as_slice(), &own, &initial)?;
-    let before = style_under(alloc, lists.before.as_slice(), &own, &initial)?;
-    let after = style_under(alloc, lists.after.as_slice(), &own, &initial)?;
+    let own = style_under(alloc, &lists.own, above, &initial)?;
+    let marker = style_under(alloc, &lists.marker, &own, &initial)?;
+    let before = style_under(alloc, &lists.before, &own, &initial)?;
+    let after = style_under(alloc, &lists.after, &own, &initial)?;
     Ok(ElementStyle {
         own,
         marker,
@@ -59,5 +58,5 @@ pub fn style_of<L: Ledger>(
     steps.tick();
     let hints = hints(alloc, arena, key)?;
     let lists = collect(alloc, arena, key, agent, hints.as_slice(), author)?;
-    styles_from(alloc, &lists, parent)
+    styles_under(alloc, &lists, parent)
 }

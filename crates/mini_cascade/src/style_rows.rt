@@ -3,6 +3,7 @@
 ghost use Rattle.std.specs.Prelude.{◌≡◌, ◌<◌};
 
 use crate::documents::arena_of;
+use crate::rank::Origin;
 use crate::shown::shown_styles;
 use crate::style_of::style_of;
 use css_tokens::lexer::tokens;
@@ -311,14 +312,21 @@ fn rule_of(alloc: Global, rule: &Rule) -> Result<Option<StyleRule>, Memory> {
     }))
 }
 
-/// The sheet of the user agent's rules, or of the author's.
-fn sheet_of(alloc: Global, rules: &[Rule], agent: bool) -> Result<Sheet, Memory> {
+fn origin(whose: Whose) -> Origin {
+    match whose {
+        Whose::Agent | Whose::AgentImportant => Origin::UserAgent,
+        Whose::Author | Whose::AuthorImportant => Origin::Author,
+    }
+}
+
+/// The sheet of the rules of this origin.
+fn sheet_of(alloc: Global, rules: &[Rule], of: Origin) -> Result<Sheet, Memory> {
     let mut sheet = Sheet {
         rules: List::new(alloc),
         styles: List::new(alloc),
     };
     for rule in rules {
-        if agent == matches!(rule.0, Whose::Agent | Whose::AgentImportant) {
+        if origin(rule.0) == of {
             if let Some(rule) = rule_of(alloc, rule)? {
                 sheet.rules.push(rule)?;
             }
@@ -357,8 +365,8 @@ fn styles_of_child<L: Ledger>(
 {
     let alloc = rt.alloc();
     let mut steps = Steps::<L>::open(rt, blank);
-    let agent = sheet_of(alloc, rules, true)?;
-    let author = sheet_of(alloc, rules, false)?;
+    let agent = sheet_of(alloc, rules, Origin::UserAgent)?;
+    let author = sheet_of(alloc, rules, Origin::Author)?;
     match styles_between(alloc, arena, &agent, &author, &mut steps)? {
         Some(styles) => Ok(Some(shown_styles(alloc, &styles)?)),
         None => Ok(None),

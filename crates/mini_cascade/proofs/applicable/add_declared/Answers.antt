@@ -1,7 +1,6 @@
-use Rattle.std.proofs.Common.{◌≡◌, Bool, true, false, cond, List, [], ◌∷◌, ◌++◌, refl, sym, ap, ◌∙◌}
+use Rattle.std.proofs.Common.{◌≡◌, Bool, true, false, List, ◌++◌, sym, ◌∙◌}
 use Rattle.std.proofs.lemmas.List.{append-nil}
 use Rattle.plain_types.specs.declared.declaration.Declared.{Declared}
-use Rattle.mini_cascade.specs.Candidates.{applied_in}
 use Rattle.mini_cascade.specs.Declarations.{Applied, counts_for, declared_with, ranked}
 use Rattle.mini_cascade.specs.Ranks.{cascade_level}
 use Rattle.mini_cascade.proofs.Appending.{appended, passing, map-filter}
@@ -13,7 +12,7 @@ loop-declared-preserved c =
     let test : Declared → Bool = λ d. counts_for c.args.pseudo d.what in
     let make : Declared → Applied = λ d. ranked (record { level = cascade_level c.args.origin d.important; specificity = c.args.specificity }) d.what in
     let item = c.declared-item.result in
-    let met = λ (next : List Applied) (is : next ≡ applied_in c.loop-declared.list.items ++ passing test make item).
+    let met = λ (next : List Applied) (is : next ≡ c.loop-declared.list ++ passing test make item).
     appended (passing test make) (λ block. declared_with c.args.pseudo c.args.origin block c.args.specificity) (map-filter test make)
     c.args.block.now c.loop-declared.declared-index item _ next _ c.loop-declared-test.true c.declared-item.is is c.loop-declared.invariant in
     elim c.if-counts_for.branch [
@@ -22,5 +21,5 @@ loop-declared-preserved c =
           rw w.list-is (met _ (rw passes (rw w.cascade_level-level.ensures at w.in_ok-push.ensures.ok)))
       | else-counts_for w ↦
           let fails : test item ≡ false = sym c.counts_for.ensures ∙ w.if-counts_for.false in
-          rw w.list-is (met _ (rw fails (sym (append-nil (applied_in c.loop-declared.list.items)))))
+          rw w.list-is (met _ (rw fails (sym (append-nil (c.loop-declared.list)))))
     ]

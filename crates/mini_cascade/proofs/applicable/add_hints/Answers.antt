@@ -1,4 +1,4 @@
-use Rattle.std.proofs.Common.{refl, List, [], ◌∷◌}
+use Rattle.std.proofs.Common.{refl, [], ◌∷◌}
 use Rattle.plain_types.specs.declared.declaration.Declaration.{Declaration}
 use Rattle.plain_types.specs.declared.selector_parts.PseudoElement.TheVariants.{Own}
 use Rattle.mini_cascade.specs.Declarations.{hint_rank, hinted, ranked}

@@ -1,4 +1,4 @@
-use Rattle.std.proofs.Common.{◌≡◌, ◌+◌, List, ◌++◌, drop, flat_map, refl}
+use Rattle.std.proofs.Common.{◌≡◌, List, ◌++◌, drop, flat_map, refl}
 use Rattle.plain_types.specs.declared.selector_parts.PseudoElement.{PseudoElement}
 use Rattle.plain_types.specs.declared.selector_parts.PseudoElement.TheVariants.{Own, Marker, Before, After}
 use Rattle.mini_cascade.specs.Declarations.{Applied, declared_in}

@@ -1,5 +1,5 @@
 use Rattle.std.proofs.Common.{◌≡◌, map, filter, drop}
-use Rattle.mini_cascade.specs.Declarations.{selects, specificity_in}
+use Rattle.mini_cascade.specs.Declarations.{selects}
 use Rattle.mini_cascade.specs.Greatest.{greater, greatest}
 use Rattle.selectors.specs.Specificity.{is_less, specificity}
 use Rattle.mini_cascade.proofs.applicable.specificity_in.Given as goal

@@ -1,6 +1,6 @@
-use Rattle.std.proofs.Common.{◌≡◌, true, Option, Some, None, is_some, option_copied, option_map, filter, List, Bool, refl, sym, ap, ◌∙◌}
+use Rattle.std.proofs.Common.{◌≡◌, Option, Some, None, is_some, option_copied, filter, List, Bool, refl, sym, ap, ◌∙◌}
 use Rattle.std.specs.Borrow.{Bor}
-use Rattle.mini_cascade.specs.Candidates.{applied_of, applied_in}
+use Rattle.mini_cascade.proofs.Candidates.{applied_of, applied_in}
 use Rattle.mini_cascade.specs.Declarations.{Applied}
 use Rattle.mini_cascade.specs.Styles.{gives_way}
 use Rattle.mini_cascade.specs.declared.candidate.Candidate.{Candidate}

@@ -1,5 +1,5 @@
 use Rattle.std.proofs.Common.{◌≡◌, filter, option_map, is_some, drop}
-use Rattle.mini_cascade.specs.Candidates.{applied_of, applied_in}
+use Rattle.mini_cascade.proofs.Candidates.{applied_of, applied_in}
 use Rattle.mini_cascade.specs.Greatest.{greater, greatest}
 use Rattle.mini_cascade.specs.Declarations.{Applied}
 use Rattle.mini_cascade.specs.Styles.{gives_way}
