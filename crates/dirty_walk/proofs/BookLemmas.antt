@@ -5,7 +5,7 @@ use Rattle.forest.specs.Keys.{Keyed}
 use Rattle.plain_types.specs.declared.counter_style.CounterStyle.{CounterStyle}
 use Rattle.plain_types.specs.declared.node.Node.{Node}
 use Rattle.plain_types.specs.declared.sheet.Sheet.{Sheet}
-use Rattle.definitions.specs.CounterStyles.{finished_styles}
+use Rattle.css_definitions.specs.CounterStyles.{finished_styles}
 use Rattle.css_reader.specs.Sheets.{sheet}
 use Rattle.mini_cascade.specs.Styles.{element_style}
 use Rattle.box_eval.specs.declared.element_record.ElementRecord.{ElementRecord}

@@ -10,7 +10,7 @@ use Rattle.forest.proofs.SpotLaws.{live-spot, on_first, on_key, on_next}
 use Rattle.plain_types.specs.declared.node.Node.{Node}
 use Rattle.node_arena.specs.Nodes.{characters_of, node_characters}
 use Rattle.generated_texts.specs.References.{characters_in}
-use Rattle.dirty_walk.specs.Walking.{AreLive, characters_left, nodes_left, turns_left}
+use Rattle.dirty_walk.proofs.CharactersLeft.{AreLive, characters_left, nodes_left, turns_left}
 
 pushed : (keys grown_keys : List ℕ) (key : ℕ) → grown_keys ≡ keys ++ key ∷ [] → reverse grown_keys ≡ key ∷ reverse keys
 pushed keys grown_keys key e = ap reverse e ∙ reverse-append keys (key ∷ [])

@@ -1,5 +1,6 @@
 pub mod BookLemmas
 pub mod CharacterTurns
+pub mod CharactersLeft
 pub mod HolderLemmas
 pub mod IdLemmas
 pub mod KeptLemmas

@@ -1,5 +1,5 @@
 -- What a book stands for, and what it keeps (our own).
-use Rattle.std.specs.Prelude.{◌≡◌, ℕ, nat_eq, Bool, true, List, Option, IfSome, refl}
+use Rattle.std.specs.Prelude.{◌≡◌, ℕ, nat_eq, Bool, true, List, Option, Some, None, IfSome, refl}
 use Rattle.std.specs.Coded.{Coded, code_by, coded×, coded_bool, coded_list, coded_ℕ}
 use Rattle.std.specs.HashMap.{HashMap, get}
 use Rattle.forest.specs.Forest.{Forest, coded_forest}
@@ -8,7 +8,7 @@ use Rattle.plain_types.specs.declared.node.Node.{Node}
 use Rattle.css_reader.specs.Sheets.{sheet}
 use Rattle.node_arena.specs.declared.reversal.Reversal.{Reversal}
 use Rattle.node_arena.specs.Document.{Document}
-use Rattle.node_arena.specs.Reversals.{IsReversal}
+use Rattle.node_arena.specs.Reversals.{IsCommitted, IsReversal, IsSettled}
 use Rattle.generated_texts.specs.declared.entry.NodeEntry.{NodeEntry}
 use Rattle.generated_texts.specs.Entries.{document_entries}
 use Rattle.generated_texts.specs.References.{kept_at}
@@ -35,7 +35,13 @@ fresh_entry styled key = kept_at (document_entries (sheet styled.sheet) styled.t
 abbrev pub Keeps : {S : Type 0} → HashMap ℕ NodeEntry S → StyledDocument → Type 0
 Keeps entries styled = (key : ℕ) → get nat_eq entries key ≡ fresh_entry styled key
 
--- a settled book keeps what a fresh evaluation does; an edit that is planned can be taken back
+-- exactly the keys of the document's nodes are used, and, while an edit is planned, of those that it had before
+abbrev pub UsesItsKeys : Document → Option Reversal → Type 0
+UsesItsKeys arena None = IsSettled arena
+UsesItsKeys arena (Some reversal) = IsCommitted arena reversal
+
+-- a settled book keeps what a fresh evaluation does, and uses no key that no node has; an edit that is planned can be taken back
 pub record IsBook (arena : Document) (planned : Option Reversal) {S : Type 0} (entries : HashMap ℕ NodeEntry S) (styled : StyledDocument) : Type 0 where
   pub kept : styled.settled ≡ true → Keeps entries styled
   pub back : IfSome planned (λ reversal. IsReversal arena reversal)
+  pub keys : UsesItsKeys arena planned

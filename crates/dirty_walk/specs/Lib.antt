@@ -2,4 +2,3 @@ pub mod Books
 pub mod Holding
 pub mod Known
 pub mod Plans
-pub mod Walking

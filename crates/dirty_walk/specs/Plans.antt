@@ -1,5 +1,5 @@
 -- What contracts see of planned edits (our own).
-use Rattle.std.specs.Prelude.{◌≡◌, Bool, false, unwrap_or}
+use Rattle.std.specs.Prelude.{◌≡◌, false, unwrap_or}
 use Rattle.dirty_walk.specs.declared.plan.Plan.{Plan}
 use Rattle.dirty_walk.specs.Books.{StyledDocument, settled_on, Keeps}
 

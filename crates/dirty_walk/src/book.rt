@@ -7,6 +7,7 @@ ghost use Rattle.forest.specs.Keys.{without_keys};
 ghost use Rattle.node_arena.specs.Document.{HasElementRoot};
 ghost use Rattle.node_arena.specs.Edits.{place_fault, edited, edited_sheet, IsEdited};
 ghost use Rattle.node_arena.specs.Nodes.{name_of};
+ghost use Rattle.node_arena.specs.Reversals.{IsSettled};
 ghost use Rattle.dirty_walk.specs.Books.{fresh_entry};
 ghost use Rattle.dirty_walk.specs.Plans.{settled_after, IsPlannedBy};
 
@@ -15,6 +16,7 @@ use crate::plan::Plan;
 use generated_texts::entry::NodeEntry;
 use generated_texts::laws::elements_have_entries;
 use node_arena::arena::Arena;
+use node_arena::laws::arena_holds_document;
 use node_arena::reversal::Reversal;
 use plain_types::duplicate::Duplicate;
 use plain_types::edit::Edit;
@@ -150,10 +152,11 @@ impl Book {
         }
     }
 
-    /// The document under its keys. It takes no memory and constant time.
+    /// The document under its keys, of which none is used that no node has. It takes no memory and constant time.
     pub fn arena(&self) -> &Arena
         requires settled { self.now.settled ≡ true }
         ensures tree { result.now.tree ≡ self.now.tree }
+        ensures keys { IsSettled result.now }
     {
         &self.arena
     }
@@ -184,7 +187,7 @@ impl Book {
         ensures element { is_some result ≡ is_some (name_of self.now.tree key) }
     {
         // The document has distinct keys, and then exactly its elements have entries.
-        let _root = self.arena.root();
+        arena_holds_document(&self.arena);
         elements_have_entries();
         self.entries.get(&key)
     }

@@ -6,6 +6,7 @@ ghost use Rattle.node_arena.specs.Nodes.{characters_of};
 ghost use Rattle.generated_texts.specs.References.{characters_in};
 
 use node_arena::arena::Arena;
+use node_arena::laws::arena_holds_document;
 use plain_types::memory::Memory;
 use plain_types::text::Text;
 use std::alloc::Global;
@@ -27,7 +28,7 @@ pub(crate) fn characters_under(alloc: Global, arena: &Arena, key: usize) -> Resu
     requires live { IsLive arena.now.tree key }
     ensures characters { IfOk result (λ text. text ≡ characters_in (children_of arena.now.tree key)) }
 {
-    let _root = arena.root();
+    arena_holds_document(arena);
     let mut text = Text::new(alloc);
     let mut inside = Vec::new(alloc);
     let mut link = arena.first_child(key);

@@ -19,7 +19,7 @@ use crate::targets::DocumentTargets;
 use box_eval::change::Change;
 use box_eval::changed_starts::ChangedStarts;
 use box_eval::element_record::ElementRecord;
-use box_eval::laws::starts_matter_where_asked;
+use box_eval::laws::no_start_matters_where_none_is_asked;
 use box_eval::starts::NoStarts;
 use content_eval::laws::no_reference_is_circular;
 use document_walk::evaluate::evaluate;
@@ -68,7 +68,7 @@ pub(crate) fn document_records<L: Ledger>(
     ensures records { IfOk result (λ records. records ≡ document_records table.now (element_style arena.now.tree agent.now author.now) arena.now.tree) }
     ensures steps { steps.new ≤ steps.old + 6 * size arena.now.tree }
 {
-    starts_matter_where_asked();
+    no_start_matters_where_none_is_asked();
     let first = evaluate(alloc, arena, agent, author, table, &NoStarts, steps)?;
     if first.asks {
         let changes = first.changes;

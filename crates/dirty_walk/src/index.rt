@@ -7,6 +7,7 @@ ghost use Rattle.generated_texts.specs.References.{first_holder};
 ghost use Rattle.dirty_walk.specs.Holding.{IsIndexOf, id_change, id_changes};
 
 use node_arena::arena::Arena;
+use node_arena::laws::arena_holds_document;
 use plain_types::list::List;
 use plain_types::memory::Memory;
 use plain_types::text::Text;
@@ -18,7 +19,7 @@ use target_index::index::Index;
 pub(crate) fn index_of(alloc: Global, arena: &Arena) -> Result<Index, Memory>
     ensures index { IfOk result (λ index. IsIndexOf index arena.now.tree) }
 {
-    let _root = arena.root();
+    arena_holds_document(arena);
     let changes = id_changes(alloc, arena)?;
     let mut index = Index::new(alloc);
     index.reserve_for(alloc, changes.as_slice())?;
@@ -65,6 +66,6 @@ pub(crate) fn first_holder(index: &Index, arena: &Arena, id: &str) -> Option<usi
     ensures first { result ≡ first_holder arena.now.tree (chars id.now) }
     ensures live { IsLink arena.now.tree result }
 {
-    let _root = arena.root();
+    arena_holds_document(arena);
     index.first(arena, id)
 }

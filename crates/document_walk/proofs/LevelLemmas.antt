@@ -12,12 +12,13 @@ use Rattle.plain_types.specs.declared.style.Style.{Style}
 use Rattle.box_eval.specs.declared.entry.Closing.{Closing}
 use Rattle.box_eval.specs.Elements.{Handed, by_parent}
 use Rattle.box_eval.specs.Evaluation.{Element, StyledNode, Text, changes, changes_in, past_trees, records, style_within, styled_trees, without_box}
-use Rattle.box_eval.specs.Starts.{ask}
+use Rattle.box_eval.specs.Starts.{any_asks_for_start}
 use Rattle.box_eval.proofs.EntryLemmas.{closing_any}
 use Rattle.box_eval.proofs.DocumentLemmas.{DiffersInEarlier, same_for, with_earlier}
 use Rattle.document_walk.specs.declared.frame.Frame.{Frame}
 use Rattle.document_walk.specs.declared.frame.Opened.{Opened}
-use Rattle.document_walk.specs.Walking.{changes_behind, changes_past, element_of, handed_behind, handed_past, is_boxed_in, level_changes, level_records, past_level, records_past, style_over, told_of, told_opened}
+use Rattle.document_walk.specs.Walking.{changes_behind, element_of, handed_behind, handed_past, is_boxed_in, style_over, told_of, told_opened}
+use Rattle.document_walk.proofs.Remaining.{changes_past, level_changes, level_records, past_level, records_past}
 
 module _ (style : ℕ → Option Style → ElementStyle) (start : BoxId → List ℕ → ℤ) where
   -- to give nodes styles changes no key
@@ -56,11 +57,11 @@ module _ (style : ℕ → Option Style → ElementStyle) (start : BoxId → List
     no_changes Empty handed = refl
     no_changes (Tree node children after) handed = no_changes_node node.key node.label children after handed (no_changes children handed) (no_changes after handed)
 
-    asks_no_node : (label : StyledNode) (children after : Forest (Keyed StyledNode)) (key : ℕ) → ask false children ≡ false → ask false after ≡ false → ask false (Tree (record { key = key; label = label }) children after) ≡ false
+    asks_no_node : (label : StyledNode) (children after : Forest (Keyed StyledNode)) (key : ℕ) → any_asks_for_start false children ≡ false → any_asks_for_start false after ≡ false → any_asks_for_start false (Tree (record { key = key; label = label }) children after) ≡ false
     asks_no_node (Element element) children after key below beside = rw (below, beside) refl
     asks_no_node Text children after key below beside = rw (below, beside) refl
 
-    pub asks_for_none : (trees : Forest (Keyed StyledNode)) → ask false trees ≡ false
+    pub asks_for_none : (trees : Forest (Keyed StyledNode)) → any_asks_for_start false trees ≡ false
     asks_for_none Empty = refl
     asks_for_none (Tree node children after) = asks_no_node node.label children after node.key (asks_for_none children) (asks_for_none after)
 

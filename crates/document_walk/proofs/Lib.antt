@@ -1,4 +1,4 @@
-pub mod StartLemmas
+pub mod Remaining
 pub mod LevelLemmas
 pub mod OpeningLemmas
 pub mod TurnLemmas

@@ -12,7 +12,7 @@ use Rattle.plain_types.specs.declared.style.Style.{Style}
 use Rattle.node_arena.specs.Document.{IsKeyedDocument}
 use Rattle.node_arena.specs.Nodes.{name_of}
 use Rattle.box_eval.specs.Evaluation.{all_changes, evaluation, styled}
-use Rattle.box_eval.specs.Starts.{ask}
+use Rattle.box_eval.specs.Starts.{any_asks_for_start}
 use Rattle.box_eval.specs.Laws.{DoesParentTell, OfEachDocument}
 use Rattle.document_walk.specs.declared.frame.Frame.{Frame}
 use Rattle.document_walk.specs.declared.walk.Walk.{Walk}
@@ -77,7 +77,7 @@ module _ (table : List CounterStyle) (style : ℕ → Option Style → ElementSt
       pub record AllIsTold : Type 0 where
         pub records : walk.told.records ≡ evaluation table (styled style start document)
         pub changes : walk.told.changes ≡ all_changes table (styled style start document)
-        pub asks : walk.told.asks ≡ ask true (styled style start document)
+        pub asks : walk.told.asks ≡ any_asks_for_start true (styled style start document)
 
       pub ends_here : OfEachDocument DoesParentTell → HasDistinctKeys document → frames_of walk ≡ [] → AllIsTold
       ends_here law distinct none =

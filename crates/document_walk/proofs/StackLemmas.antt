@@ -5,7 +5,7 @@ use Rattle.std.specs.Prelude.{is_some, option_map}
 use Rattle.plain_types.specs.declared.style.Style.{Style}
 use Rattle.document_walk.specs.declared.frame.Frame.{Frame}
 use Rattle.document_walk.specs.declared.frame.Opened.{Opened}
-use Rattle.document_walk.specs.Walking.{is_boxed_in, style_over}
+use Rattle.document_walk.specs.Walking.{is_boxed_in, made_of_first, style_over}
 
 pub last_first : {A : Type 0} (xs before : List A) (x : A) → xs ≡ before ++ x ∷ [] → reverse xs ≡ x ∷ reverse before
 last_first xs before x e = ap reverse e ∙ reverse-append before (x ∷ [])
@@ -17,6 +17,13 @@ no_items (x ∷ xs) e = absurd (omega arith)
 -- where nothing came off a stack, it was empty
 pub none_left : {A : Type 0} (xs rest : List A) (count : ℕ) → xs ≡ rest ++ [] → rest ≡ take (count - 1) xs → count ≡ 0 → xs ≡ []
 none_left xs rest count all front none = all ∙ ap (λ items. items ++ []) front ∙ ap (λ count. take (count - 1) xs ++ []) none
+
+-- what was made of the innermost
+pub made_first : (stack before : List Frame) (frame : Frame) (made : Option Opened) → made ≡ frame.opened → stack ≡ before ++ frame ∷ [] → made ≡ made_of_first (reverse stack)
+made_first stack before frame made is e = is ∙ sym (ap made_of_first (last_first stack before frame e))
+
+pub none_first : (stack : List Frame) → length stack ≡ 0 → None ≡ made_of_first (reverse stack)
+none_first stack e = sym (ap (λ frames. made_of_first (reverse frames)) (no_items stack e))
 
 -- what is said of the level under the innermost open element
 module _ (P : Bool → Option Style → Type 0) (stack : List Frame) where

@@ -20,12 +20,13 @@ use Rattle.box_eval.specs.declared.made.Made.{Made}
 use Rattle.box_eval.specs.Boxes.{box_of}
 use Rattle.box_eval.specs.Elements.{Handed, Styled, before_of, by_parent, children_handed, closing_of, entry_of, inside, marker_of, own_counted, past_formed}
 use Rattle.box_eval.specs.Evaluation.{Element, StyledNode, changes, changes_in, element_starts, first_changes, last_changes, past_node, past_trees, records, records_of, styled_trees, within, without_box}
-use Rattle.box_eval.specs.Starts.{ask, asks_in}
+use Rattle.box_eval.specs.Starts.{any_asks_for_start, node_asks_for_start}
 use Rattle.box_eval.proofs.EntryLemmas.{closing_any}
 use Rattle.box_eval.proofs.DocumentLemmas.{DiffersInEarlier, same_for, with_earlier}
 use Rattle.document_walk.specs.declared.frame.Frame.{Frame}
 use Rattle.document_walk.specs.declared.frame.Opened.{Opened}
-use Rattle.document_walk.specs.Walking.{asks_before, asks_past, changes_before, changes_past, handed_behind, handed_inside, handed_within, is_boxed_in, level_asks, level_changes, level_records, opened_with, past_level, records_past, remaining_asks, remaining_changes, remaining_records, style_over, told_opened}
+use Rattle.document_walk.specs.Walking.{asks_before, changes_before, handed_behind, handed_inside, handed_within, is_boxed_in, opened_with, style_over, told_opened}
+use Rattle.document_walk.proofs.Remaining.{asks_past, changes_past, level_asks, level_changes, level_records, past_level, records_past, remaining_asks, remaining_changes, remaining_records}
 use Rattle.document_walk.proofs.LevelLemmas.{asks_for_none, left_any, no_changes, past_no_box, same_without_box}
 
 -- What the children of an element are handed is told by what was made of it.
@@ -100,7 +101,7 @@ module _ (table : List CounterStyle) (style : ℕ → Option Style → ElementSt
         ++ changes_past table style start document frames (past_level table style start document frames (next_if has) after)
 
     abbrev pub asks_if : Bool → Bool
-    asks_if has = (asks_in has (Element element) || (ask has inner || level_asks table style start document frames after)) || asks_past table style start document frames
+    asks_if has = (node_asks_for_start has (Element element) || (any_asks_for_start has inner || level_asks table style start document frames after)) || asks_past table style start document frames
 
     pub record Entered (has : Bool) : Type 0 where
       pub records : records_if has ≡ remaining_records table style start document (frames_if has) (handed_within (opened_if has) handed) children
@@ -147,7 +148,7 @@ module _ (table : List CounterStyle) (style : ℕ → Option Style → ElementSt
               ∙ ap (λ closing. changed_too ++ (last closing ++ (level_changes table style start document frames next after ++ later))) closing_is
               ∙ ap (λ all. changed_too ++ (last (closing_of table by_parent key element behind_too) ++ (all ++ later))) level.changes
               ∙ ap (λ all. changed_too ++ (last (closing_of table by_parent key element behind_too) ++ (level_changes table style start document frames next_too after ++ all))) rest.changes);
-          asks = regroup_or (asks_in true (Element element)) (ask true inner) (level_asks table style start document frames after) (asks_past table style start document frames);
+          asks = regroup_or (node_asks_for_start true (Element element)) (any_asks_for_start true inner) (level_asks table style start document frames after) (asks_past table style start document frames);
         }
 
     without : Entered false
@@ -172,7 +173,7 @@ module _ (table : List CounterStyle) (style : ℕ → Option Style → ElementSt
               ∙ ap (λ all. all ++ (level_too handed ++ tail_too handed)) (no_changes style start table inner handed ∙ sym (no_changes style start table inner_too handed))
               ∙ ap (λ next. changes table by_parent false handed inner_too ++ (level_too next ++ tail_too next)) (sym back);
           asks =
-              regroup_or false (ask false inner) (level_asks table style start document frames after) (asks_past table style start document frames)
+              regroup_or false (any_asks_for_start false inner) (level_asks table style start document frames after) (asks_past table style start document frames)
               ∙ ap (λ below. below || (level_asks table style start document frames after || asks_past table style start document frames)) (asks_for_none style start table inner ∙ sym (asks_for_none style start table inner_too));
         }
 

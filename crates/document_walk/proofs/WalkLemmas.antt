@@ -22,13 +22,14 @@ use Rattle.node_arena.proofs.ToTree.{sound-at}
 use Rattle.box_eval.specs.Boxes.{generates_box}
 use Rattle.box_eval.specs.Elements.{Handed, at_root, by_parent}
 use Rattle.box_eval.specs.Evaluation.{changes, records, styled_trees}
-use Rattle.box_eval.specs.Starts.{ask}
+use Rattle.box_eval.specs.Starts.{any_asks_for_start}
 use Rattle.document_walk.specs.declared.evaluated.Evaluated.{Evaluated}
 use Rattle.document_walk.specs.declared.frame.Frame.{Frame}
 use Rattle.document_walk.specs.declared.frame.Opened.{Opened}
 use Rattle.document_walk.specs.declared.walk.Walk.{Walk}
 use Rattle.document_walk.specs.Turns.{HasEntered, HasLeft, frames_of, nothing_told, told_entering, told_leaving}
-use Rattle.document_walk.specs.Walking.{HandsOn, IsBehindBox, IsByNoAfter, IsByOther, asks_before, changes_before, changes_behind, handed_by, handed_past, handed_within, is_boxed_in, opened_in, remaining_asks, remaining_changes, remaining_records, style_over, told_of}
+use Rattle.document_walk.specs.Walking.{HandsOn, IsBehindBox, IsByNoAfter, IsByOther, asks_before, changes_before, changes_behind, handed_by, handed_past, handed_within, is_boxed_in, opened_in, style_over, told_of}
+use Rattle.document_walk.proofs.Remaining.{remaining_asks, remaining_changes, remaining_records}
 use Rattle.document_walk.proofs.TurnLemmas.{entered}
 use Rattle.document_walk.proofs.StateLemmas.{FrameHolds, FramesHold, IsDone, by_other, frames_hold, hands_on, has_open_box, opens_if, size_left, still_done, times_left}
 
@@ -37,7 +38,7 @@ module _ (table : List CounterStyle) (style : ℕ → Option Style → ElementSt
   pub record Walks (frames : List Frame) (handed : Handed) (trees : Forest (Keyed Node)) (told : Evaluated) (steps most : ℕ) : Type 0 where
     pub records : told.records ++ remaining_records table style start document frames handed trees ≡ records table by_parent true at_root (styled_trees style start None document)
     pub changes : told.changes ++ remaining_changes table style start document frames handed trees ≡ changes table by_parent true at_root (styled_trees style start None document)
-    pub asks : (told.asks || remaining_asks table style start document frames handed trees) ≡ ask true (styled_trees style start None document)
+    pub asks : (told.asks || remaining_asks table style start document frames handed trees) ≡ any_asks_for_start true (styled_trees style start None document)
     pub live : AllByRecursion (λ (frame : Frame). IsLive document frame.key) frames
     pub once : (key : ℕ) → times_left document key frames trees ≤ 1
     pub done : HandsOn (IsDone document frames trees) handed
@@ -53,7 +54,7 @@ module _ (table : List CounterStyle) (style : ℕ → Option Style → ElementSt
   begins steps distinct = record {
     records = append-nil (records table by_parent true at_root (styled_trees style start None document));
     changes = append-nil (changes table by_parent true at_root (styled_trees style start None document));
-    asks = or-false (ask true (styled_trees style start None document));
+    asks = or-false (any_asks_for_start true (styled_trees style start None document));
     live = tt;
     once = λ key. omega (arith, distinct key);
     done = record { parent = tt; sibling = tt };
@@ -272,7 +273,7 @@ module _ (table : List CounterStyle) (style : ℕ → Option Style → ElementSt
   pub record Ends (walk : Walk) : Type 0 where
     pub records : walk.told.records ≡ records table by_parent true at_root (styled_trees style start None document)
     pub changes : walk.told.changes ≡ changes table by_parent true at_root (styled_trees style start None document)
-    pub asks : walk.told.asks ≡ ask true (styled_trees style start None document)
+    pub asks : walk.told.asks ≡ any_asks_for_start true (styled_trees style start None document)
 
   pub ends : (walk : Walk) (steps most : ℕ) → IsAt walk None steps most → frames_of walk ≡ [] → Ends walk
   ends walk steps most at none =

@@ -1,10 +1,9 @@
--- What a walk over a document makes of an element, and what it has left to do while elements are open.
-use Rattle.std.specs.Prelude.{◌≡◌, ◌⊎◌, IsSome, ℕ, ℤ, ◌==◌, Bool, true, false, ◌&&◌, ◌||◌, List, [], ◌∷◌, ◌++◌, Option, Some, None, cond, is_some, option_map, unwrap_or}
+-- What a walk over a document makes of an element, where others are open.
+use Rattle.std.specs.Prelude.{◌≡◌, ◌⊎◌, IsSome, ℕ, ℤ, ◌==◌, Bool, true, false, ◌&&◌, List, [], ◌∷◌, ◌++◌, Option, Some, None, cond, is_some, option_map, unwrap_or}
 use Rattle.std.specs.List.{AllByRecursion}
 use Rattle.std.specs.Option.{option_or}
 use Rattle.forest.specs.Forest.{Forest}
 use Rattle.forest.specs.Keys.{Keyed}
-use Rattle.forest.specs.Spots.{after_of}
 use Rattle.plain_types.specs.declared.box_id.BoxId.{BoxId}
 use Rattle.plain_types.specs.declared.box_kind.BoxKind.{BoxKind}
 use Rattle.plain_types.specs.declared.box_kind.BoxKind.TheVariants as kind
@@ -23,8 +22,8 @@ use Rattle.box_eval.specs.declared.inputs.Start.{Start}
 use Rattle.box_eval.specs.declared.made.Made.{Made}
 use Rattle.box_eval.specs.Boxes.{generates_box}
 use Rattle.box_eval.specs.Elements.{Handed, Styled, by_parent, closing_of, entry_of}
-use Rattle.box_eval.specs.Evaluation.{changes, changes_in, element_starts, past_trees, records, styled_trees, without_box}
-use Rattle.box_eval.specs.Starts.{ask, asks}
+use Rattle.box_eval.specs.Evaluation.{changes_in, element_starts, without_box}
+use Rattle.box_eval.specs.Starts.{has_starts}
 use Rattle.document_walk.specs.declared.frame.Frame.{Frame}
 use Rattle.document_walk.specs.declared.frame.Opened.{Opened}
 use Rattle.document_walk.specs.declared.surroundings.Surroundings.{Surroundings}
@@ -102,7 +101,7 @@ changes_before (Some opened) = opened.entry.changes ++ changes_in opened.entry.b
 -- whether one of its boxes asks for the start of a reversed counter
 abbrev pub asks_before : Option Opened → Bool
 asks_before None = false
-asks_before (Some opened) = asks opened.starts
+asks_before (Some opened) = has_starts opened.starts
 
 abbrev pub told_opened : ℕ → Entry → Closing → ElementRecord
 told_opened depth entry closing = record {
@@ -139,6 +138,11 @@ module _ (table : List CounterStyle) (document : Forest (Keyed Node)) (key : ℕ
 
 -- The innermost open element is the first of these; with none open, the root's level is that of the document.
 
+-- what was made of it
+abbrev pub made_of_first : List Frame → Option Opened
+made_of_first [] = None
+made_of_first (frame ∷ frames) = frame.opened
+
 -- whether the children of the innermost open element have a box around them, or are the root
 abbrev pub is_boxed_in : List Frame → Bool
 is_boxed_in [] = true
@@ -148,6 +152,10 @@ is_boxed_in (frame ∷ frames) = is_some frame.opened
 abbrev pub style_over : List Frame → Option Style
 style_over [] = None
 style_over (frame ∷ frames) = option_map (λ (opened : Opened). opened.style.own) frame.opened
+
+-- an element of this style, of which this was made, and what it stood on
+abbrev pub opened_by : ElementStyle → Inputs × Entry → Opened
+opened_by style made = record { parent = made.0.parent; depth = made.0.depth; style = style; starts = made.0.starts; entry = made.1 }
 
 module _ (table : List CounterStyle) (style : ℕ → Option Style → ElementStyle) (start : BoxId → List ℕ → ℤ) (document : Forest (Keyed Node)) where
   -- an element with a box, as far as its children come, where its parent has this style and it is handed this
@@ -166,50 +174,3 @@ module _ (table : List CounterStyle) (style : ℕ → Option Style → ElementSt
   -- an element, where its parent has a box or not
   abbrev pub opened_in : Bool → ℕ → Option Style → Handed → Option Opened
   opened_in boxed key parent handed = cond (boxed && generates_box (style key parent)) (Some (opened_with key parent handed)) None
-
-  -- Trees on the level of the children of the innermost open element.
-
-  module _ (frames : List Frame) (handed : Handed) (trees : Forest (Keyed Node)) where
-    abbrev pub level_records : List (ℕ × ElementRecord)
-    level_records = records table by_parent (is_boxed_in frames) handed (styled_trees style start (style_over frames) trees)
-
-    abbrev pub level_changes : List Change
-    level_changes = changes table by_parent (is_boxed_in frames) handed (styled_trees style start (style_over frames) trees)
-
-    abbrev pub past_level : Handed
-    past_level = past_trees table by_parent (is_boxed_in frames) handed (styled_trees style start (style_over frames) trees)
-
-  abbrev pub level_asks : List Frame → Forest (Keyed Node) → Bool
-  level_asks frames trees = ask (is_boxed_in frames) (styled_trees style start (style_over frames) trees)
-
-  -- What is left to do behind them: the open elements are left, and after each come its siblings.
-
-  abbrev pub records_past : List Frame → Handed → List (ℕ × ElementRecord)
-  records_past [] behind = []
-  records_past (frame ∷ frames) behind =
-      let next = handed_past table document frame.key frame.opened behind in
-      let after = after_of document frame.key in
-      (frame.key, told_of table document frame.key frame.opened behind) ∷ (level_records frames next after ++ records_past frames (past_level frames next after))
-
-  abbrev pub changes_past : List Frame → Handed → List Change
-  changes_past [] behind = []
-  changes_past (frame ∷ frames) behind =
-      let next = handed_past table document frame.key frame.opened behind in
-      let after = after_of document frame.key in
-      changes_behind table document frame.key frame.opened behind ++ (level_changes frames next after ++ changes_past frames (past_level frames next after))
-
-  abbrev pub asks_past : List Frame → Bool
-  asks_past [] = false
-  asks_past (frame ∷ frames) = level_asks frames (after_of document frame.key) || asks_past frames
-
-  -- What is left to do in all, where the first of these trees is handed this.
-
-  module _ (frames : List Frame) (handed : Handed) (trees : Forest (Keyed Node)) where
-    abbrev pub remaining_records : List (ℕ × ElementRecord)
-    remaining_records = level_records frames handed trees ++ records_past frames (past_level frames handed trees)
-
-    abbrev pub remaining_changes : List Change
-    remaining_changes = level_changes frames handed trees ++ changes_past frames (past_level frames handed trees)
-
-    abbrev pub remaining_asks : Bool
-    remaining_asks = level_asks frames trees || asks_past frames

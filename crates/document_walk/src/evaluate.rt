@@ -7,7 +7,7 @@ ghost use Rattle.node_arena.specs.Nodes.{name_of};
 ghost use Rattle.mini_cascade.specs.Styles.{element_style};
 ghost use Rattle.box_eval.specs.Elements.{at_root};
 ghost use Rattle.box_eval.specs.Evaluation.{all_changes, evaluation, styled};
-ghost use Rattle.box_eval.specs.Starts.{ask};
+ghost use Rattle.box_eval.specs.Starts.{any_asks_for_start};
 ghost use Rattle.document_walk.specs.Turns.{frames_of, nothing_told};
 ghost use Rattle.document_walk.specs.Walking.{handed_by};
 
@@ -40,7 +40,7 @@ pub fn evaluate<L: Ledger, T: Starts>(
 ) -> Result<Evaluated, Memory>
     ensures records { IfOk result (λ evaluated. evaluated.records ≡ evaluation table.now (styled (element_style arena.now.tree agent.now author.now) (T.starts starts.now) arena.now.tree)) }
     ensures changes { IfOk result (λ evaluated. evaluated.changes ≡ all_changes table.now (styled (element_style arena.now.tree agent.now author.now) (T.starts starts.now) arena.now.tree)) }
-    ensures asks { IfOk result (λ evaluated. evaluated.asks ≡ ask true (styled (element_style arena.now.tree agent.now author.now) (T.starts starts.now) arena.now.tree)) }
+    ensures asks { IfOk result (λ evaluated. evaluated.asks ≡ any_asks_for_start true (styled (element_style arena.now.tree agent.now author.now) (T.starts starts.now) arena.now.tree)) }
     ensures steps { steps.new ≤ steps.old + 3 * size arena.now.tree }
 {
     let sources = Sources {
@@ -67,7 +67,7 @@ fn go<L: Ledger, T: Starts>(
     requires nothing { walk.old.told ≡ nothing_told }
     ensures records { OnOk result (walk.new.told.records ≡ evaluation sources.now.table.now (styled (element_style sources.now.arena.now.tree sources.now.agent.now sources.now.author.now) (T.starts sources.now.starts.now) sources.now.arena.now.tree)) }
     ensures changes { OnOk result (walk.new.told.changes ≡ all_changes sources.now.table.now (styled (element_style sources.now.arena.now.tree sources.now.agent.now sources.now.author.now) (T.starts sources.now.starts.now) sources.now.arena.now.tree)) }
-    ensures asks { OnOk result (walk.new.told.asks ≡ ask true (styled (element_style sources.now.arena.now.tree sources.now.agent.now sources.now.author.now) (T.starts sources.now.starts.now) sources.now.arena.now.tree)) }
+    ensures asks { OnOk result (walk.new.told.asks ≡ any_asks_for_start true (styled (element_style sources.now.arena.now.tree sources.now.agent.now sources.now.author.now) (T.starts sources.now.starts.now) sources.now.arena.now.tree)) }
     ensures steps { steps.new ≤ steps.old + 3 * size sources.now.arena.now.tree }
 {
     parents_tell_scopes();

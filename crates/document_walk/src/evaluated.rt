@@ -2,6 +2,7 @@
 
 ghost use Rattle.std.specs.Prelude.{◌≡◌, ◌++◌, IfOk, OnOk, option_copied};
 ghost use Rattle.box_eval.specs.Evaluation.{changes_in, without_box};
+ghost use Rattle.document_walk.specs.Turns.{told_entering};
 ghost use Rattle.document_walk.specs.Walking.{asks_before, changes_before, told_opened};
 
 use crate::frame::Opened;
@@ -83,8 +84,21 @@ pub(crate) fn add_made(
     }
 }
 
-/// Appends what the boxes of an element before its children do, where it has a box.
-pub(crate) fn add_opened(
+/// Tells what the boxes of an element before its children do, where it has a box.
+pub(crate) fn tell_opened(
+    alloc: Global,
+    told: &mut Evaluated,
+    opened: Option<&Opened>,
+) -> Result<(), Memory>
+    ensures told { OnOk result (told.new ≡ told_entering told.old (option_copied opened.entry)) }
+{
+    add_opened(alloc, &mut told.changes, opened)?;
+    told.asks |= asks_for_start(opened);
+    Ok(())
+}
+
+/// Appends what the boxes of an element before its children do to counters, where it has a box.
+fn add_opened(
     alloc: Global,
     changes: &mut List<Change>,
     opened: Option<&Opened>,
@@ -101,7 +115,7 @@ pub(crate) fn add_opened(
 }
 
 /// Whether a box of an element asks for a start, where it has a box.
-pub(crate) fn asks_for_start(opened: Option<&Opened>) -> bool
+fn asks_for_start(opened: Option<&Opened>) -> bool
     ensures test { result ≡ asks_before (option_copied opened.entry) }
 {
     match opened {

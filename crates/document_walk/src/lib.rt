@@ -5,14 +5,14 @@
 //! [`evaluated::Evaluated`]: what is said of each element, and what the elements' boxes do to counters.
 //!
 //! The walk goes from link to link, with the open elements on a stack (`walk`). To open an element is to find its
-//! style, to take the starts that its boxes need ([`starting`]), and to evaluate its boxes up to its children
-//! (`element`). It is left once its children are done: then come its after box and its record. What a box is
-//! handed by the boxes before it is a `surroundings::Surroundings`. Elements in an element without a box are
-//! neither styled nor evaluated; texts are passed.
+//! style, to take the starts that its boxes need, and to evaluate its boxes up to its children (`element`). It is
+//! left once its children are done: then come its after box and its record. What a box is handed by the boxes
+//! before it is a `surroundings::Surroundings`. Elements in an element without a box are neither styled nor
+//! evaluated; texts are passed.
 //!
 //! The layer above knows this crate by `evaluation` and `all_changes` of `box_eval`, which recurse on the tree and
-//! know nothing of keys, links and stacks. What the walk has left to do at each moment, as a function of the open
-//! elements, is in `specs/Walking.antt`; what a turn does is in `specs/Turns.antt`.
+//! know nothing of keys, links and stacks. What is made of an element is in `specs/Walking.antt`, what a turn
+//! does in `specs/Turns.antt`, and what the walk has left to do at each moment in `proofs/Remaining.antt`.
 //!
 //! ```text
 //! let evaluated = evaluate(alloc, &arena, &agent, &author, &table, &NoStarts, steps)?;
@@ -26,6 +26,5 @@ pub mod evaluate;
 pub mod evaluated;
 mod frame;
 mod sources;
-pub mod starting;
 mod surroundings;
 mod walk;

@@ -1,23 +1,23 @@
 //! The state of a walk over a document.
 
-ghost use Rattle.std.specs.Prelude.{◌≡◌, ◌+◌, ◌≤◌, ◌++◌, ◌∷◌, [], IfOk, OnOk, is_some, true, false};
+ghost use Rattle.std.specs.Prelude.{◌≡◌, ◌+◌, ◌≤◌, ◌++◌, ◌∷◌, [], IfOk, OnOk, Some, is_some, true, false};
 ghost use Rattle.forest.specs.Spots.{IsLive};
 ghost use Rattle.node_arena.specs.Nodes.{attrs_of};
 ghost use Rattle.mini_cascade.specs.Styles.{element_style};
 ghost use Rattle.box_eval.specs.Elements.{at_root, by_parent, closing_of};
-ghost use Rattle.box_eval.specs.Evaluation.{changes_in};
-ghost use Rattle.document_walk.specs.Walking.{HandsOn, IsBehindBox, IsByNoAfter, IsByOther, closing_with, handed_behind, handed_by, is_boxed_in, opened_in, style_over, told_opened};
-ghost use Rattle.document_walk.specs.Turns.{HasEntered, HasLeft, frames_of};
+ghost use Rattle.box_eval.specs.Evaluation.{changes_in, without_box};
+ghost use Rattle.document_walk.specs.Walking.{HandsOn, IsBehindBox, IsByNoAfter, IsByOther, handed_behind, handed_by, handed_within, is_boxed_in, made_of_first, opened_in, style_over, told_opened};
+ghost use Rattle.document_walk.specs.Turns.{HasEntered, HasLeft, frames_of, told_entering};
 
 use crate::element::{close, open};
-use crate::evaluated::{Evaluated, add_made, add_opened, asks_for_start, told_opened, without_box};
-use crate::frame::{Frame, Opened};
+use crate::evaluated::{Evaluated, add_made, tell_opened, told_opened, without_box};
+use crate::frame::{Frame, Opened, innermost, put_frame};
 use crate::sources::Sources;
 use crate::surroundings::Surroundings;
-use box_eval::element_record::ElementRecord;
-use box_eval::entry::Closing;
+use box_eval::entry::{Closing, Entry};
 use box_eval::inputs::Start;
 use box_eval::starts::Starts;
+use counter_sets::counter_set::CounterSet;
 use plain_types::list::List;
 use plain_types::memory::Memory;
 use plain_types::style::ElementStyle;
@@ -70,10 +70,20 @@ impl Walk {
         ensures steps { steps.new ≤ steps.old + 2 }
     {
         let opened = self.open_next(alloc, sources, key, steps)?;
-        add_opened(alloc, &mut self.told.changes, opened.as_ref())?;
-        self.told.asks |= asks_for_start(opened.as_ref());
-        self.around.go_inside(alloc, opened.as_ref())?;
-        self.stack.push(Frame { key, opened })?;
+        put_frame(&mut self.stack, key, opened)?;
+        self.go_inside(alloc)?;
+        Ok(())
+    }
+
+    /// Goes to the children of the innermost open element, of which nothing is told yet.
+    fn go_inside(&mut self, alloc: Global) -> Result<(), Memory>
+        ensures stack { OnOk result (self.new.stack ≡ self.old.stack) }
+        ensures around { OnOk result (handed_by self.new.around ≡ handed_within (made_of_first (frames_of self.old)) (handed_by self.old.around)) }
+        ensures told { OnOk result (self.new.told ≡ told_entering self.old.told (made_of_first (frames_of self.old))) }
+    {
+        let opened = innermost(self.stack.as_slice());
+        tell_opened(alloc, &mut self.told, opened)?;
+        self.around.go_inside(alloc, opened)?;
         Ok(())
     }
 
@@ -116,12 +126,25 @@ impl Walk {
         ensures left { OnOk result (HasLeft sources.now.table.now sources.now.arena.now.tree self.old self.new frame) }
         ensures steps { steps.new ≤ steps.old + 1 }
     {
-        let key = frame.key;
-        let opened = frame.opened;
-        let record = match opened {
-            Some(opened) => self.leave_box(alloc, sources, key, opened, steps)?,
-            None => without_box(alloc)?,
-        };
+        let Frame { key, opened } = frame;
+        match opened {
+            Some(opened) => self.leave_box(alloc, sources, key, opened, steps),
+            None => {
+                self.leave_boxless(alloc, key)?;
+                Ok(())
+            }
+        }
+    }
+
+    /// Leaves an element without a box.
+    fn leave_boxless(&mut self, alloc: Global, key: usize) -> Result<(), Memory>
+        ensures records { OnOk result (self.new.told.records ≡ self.old.told.records ++ (key, without_box) ∷ []) }
+        ensures stack { OnOk result (self.new.stack ≡ self.old.stack) }
+        ensures around { OnOk result (self.new.around ≡ self.old.around) }
+        ensures changes { OnOk result (self.new.told.changes ≡ self.old.told.changes) }
+        ensures asks { OnOk result (self.new.told.asks ≡ self.old.told.asks) }
+    {
+        let record = without_box(alloc)?;
         self.told.records.push((key, record))?;
         Ok(())
     }
@@ -134,24 +157,23 @@ impl Walk {
         key: usize,
         opened: Opened,
         steps: &mut Steps<L>,
-    ) -> Result<ElementRecord, Memory>
+    ) -> Result<(), Memory>
         requires live { IsLive sources.now.arena.now.tree key }
         requires behind { IsBehindBox (handed_by self.old.around) }
         requires new { HandsOn IsByNoAfter (handed_by self.old.around) }
-        ensures told { IfOk result (λ told. told ≡ told_opened opened.depth opened.entry (closing_with sources.now.table.now sources.now.arena.now.tree key opened (handed_by self.old.around))) }
-        ensures around { OnOk result (handed_by self.new.around ≡ handed_behind opened.parent opened.entry.own (closing_with sources.now.table.now sources.now.arena.now.tree key opened (handed_by self.old.around))) }
-        ensures changes { OnOk result (self.new.told.changes ≡ self.old.told.changes ++ changes_in (closing_with sources.now.table.now sources.now.arena.now.tree key opened (handed_by self.old.around)).after) }
-        ensures frames { OnOk result (frames_of self.new ≡ frames_of self.old) }
-        ensures records { OnOk result (self.new.told.records ≡ self.old.told.records) }
-        ensures asks { OnOk result (self.new.told.asks ≡ self.old.told.asks) }
-        ensures step { steps.new ≤ steps.old + 1 }
+        ensures left { OnOk result (HasLeft sources.now.table.now sources.now.arena.now.tree self.old self.new (record { key = key; opened = Some opened })) }
+        ensures steps { steps.new ≤ steps.old + 1 }
     {
-        let starts = opened.starts;
-        let parent = opened.parent;
-        let closing = self.close(alloc, sources, key, &opened.style, starts, steps)?;
-        self.around
-            .go_past(alloc, parent, &opened.entry.own, &closing)?;
-        Ok(told_opened(opened.depth, opened.entry, closing))
+        let Opened {
+            parent,
+            depth,
+            style,
+            starts,
+            entry,
+        } = opened;
+        let closing = self.close(alloc, sources, key, style, starts, steps)?;
+        self.go_past(alloc, key, parent, depth, entry, closing)?;
+        Ok(())
     }
 
     /// An element of this style with a box, from its children on.
@@ -160,14 +182,14 @@ impl Walk {
         alloc: Global,
         sources: &Sources<T>,
         key: usize,
-        style: &ElementStyle,
+        style: ElementStyle,
         starts: List<Start>,
         steps: &mut Steps<L>,
     ) -> Result<Closing, Memory>
         requires live { IsLive sources.now.arena.now.tree key }
         requires behind { IsBehindBox (handed_by self.old.around) }
         requires new { HandsOn IsByNoAfter (handed_by self.old.around) }
-        ensures closing { IfOk result (λ closing. closing ≡ closing_of sources.now.table.now by_parent key (record { attrs = attrs_of sources.now.arena.now.tree key; style = style.now; starts = starts }) (handed_by self.old.around)) }
+        ensures closing { IfOk result (λ closing. closing ≡ closing_of sources.now.table.now by_parent key (record { attrs = attrs_of sources.now.arena.now.tree key; style = style; starts = starts }) (handed_by self.old.around)) }
         ensures changes { IfOk result (λ closing. self.new.told.changes ≡ self.old.told.changes ++ changes_in closing.after) }
         ensures stack { self.new.stack ≡ self.old.stack }
         ensures around { self.new.around ≡ self.old.around }
@@ -175,9 +197,69 @@ impl Walk {
         ensures asks { self.new.told.asks ≡ self.old.told.asks }
         ensures step { steps.new ≤ steps.old + 1 }
     {
-        let inputs = self.around.inputs(alloc, key, starts)?;
-        let closing = close(alloc, sources, style, &inputs, steps)?;
+        let closing = self.closing(alloc, sources, key, style, starts, steps)?;
         add_made(alloc, &mut self.told.changes, closing.after.as_ref())?;
         Ok(closing)
+    }
+
+    /// What is made of it then, and nothing told yet. Its style is not needed after.
+    fn closing<L: Ledger, T: Starts>(
+        &self,
+        alloc: Global,
+        sources: &Sources<T>,
+        key: usize,
+        style: ElementStyle,
+        starts: List<Start>,
+        steps: &mut Steps<L>,
+    ) -> Result<Closing, Memory>
+        requires live { IsLive sources.now.arena.now.tree key }
+        requires behind { IsBehindBox (handed_by self.now.around) }
+        requires new { HandsOn IsByNoAfter (handed_by self.now.around) }
+        ensures closing { IfOk result (λ closing. closing ≡ closing_of sources.now.table.now by_parent key (record { attrs = attrs_of sources.now.arena.now.tree key; style = style; starts = starts }) (handed_by self.now.around)) }
+        ensures step { steps.new ≤ steps.old + 1 }
+    {
+        self.closing_under(alloc, sources, key, &style, starts, steps)
+    }
+
+    fn closing_under<L: Ledger, T: Starts>(
+        &self,
+        alloc: Global,
+        sources: &Sources<T>,
+        key: usize,
+        style: &ElementStyle,
+        starts: List<Start>,
+        steps: &mut Steps<L>,
+    ) -> Result<Closing, Memory>
+        requires live { IsLive sources.now.arena.now.tree key }
+        requires behind { IsBehindBox (handed_by self.now.around) }
+        requires new { HandsOn IsByNoAfter (handed_by self.now.around) }
+        ensures closing { IfOk result (λ closing. closing ≡ closing_of sources.now.table.now by_parent key (record { attrs = attrs_of sources.now.arena.now.tree key; style = style.now; starts = starts }) (handed_by self.now.around)) }
+        ensures step { steps.new ≤ steps.old + 1 }
+    {
+        let inputs = self.around.inputs(alloc, key, starts)?;
+        let closing = close(alloc, sources, style, &inputs, steps)?;
+        Ok(closing)
+    }
+
+    /// Goes on behind an element with a box, and tells it.
+    fn go_past(
+        &mut self,
+        alloc: Global,
+        key: usize,
+        parent: CounterSet,
+        depth: u64,
+        entry: Entry,
+        closing: Closing,
+    ) -> Result<(), Memory>
+        ensures around { OnOk result (handed_by self.new.around ≡ handed_behind parent entry.own closing) }
+        ensures records { OnOk result (self.new.told.records ≡ self.old.told.records ++ (key, told_opened depth entry closing) ∷ []) }
+        ensures stack { OnOk result (self.new.stack ≡ self.old.stack) }
+        ensures changes { OnOk result (self.new.told.changes ≡ self.old.told.changes) }
+        ensures asks { OnOk result (self.new.told.asks ≡ self.old.told.asks) }
+    {
+        self.around.go_past(alloc, parent, &entry.own, &closing)?;
+        let record = told_opened(depth, entry, closing);
+        self.told.records.push((key, record))?;
+        Ok(())
     }
 }

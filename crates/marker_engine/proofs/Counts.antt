@@ -21,7 +21,7 @@ use Rattle.generated_texts.specs.Lines.{first_lines, last_lines, lines_of, tree_
 use Rattle.node_arena.specs.Nodes.{name_of, node_name}
 use Rattle.marker_engine.specs.declared.census.Census.{Census}
 use Rattle.marker_engine.specs.Census.{boxes_in, element_count, lines_in, one_where, saturated}
-use Rattle.marker_engine.specs.Counting.{counted, nodes_before, total, total_before, with_node}
+use Rattle.marker_engine.proofs.Counting.{counted, nodes_before, total, total_before, with_node}
 
 -- Lists of keys.
 

@@ -1,3 +1,5 @@
+pub mod Counting
 pub mod Counts
+pub mod LinesLeft
 pub mod RekeyedCounts
 pub mod Turns

@@ -11,12 +11,12 @@ use Rattle.forest.specs.Spots.{IsLink, IsLive, after_of, children_of, first_chil
 use Rattle.forest.proofs.SpotLaws.{live-spot, on_first, on_key, on_next, on_root, root_link}
 use Rattle.plain_types.specs.declared.box_kind.BoxKind.TheVariants.{Marker, Before}
 use Rattle.plain_types.specs.declared.node.Node.{Node}
-use Rattle.definitions.specs.Dump.{Line, dump, line_text}
+use Rattle.dump_definitions.specs.Dump.{Line, dump, line_text}
 use Rattle.generated_texts.specs.declared.entry.NodeEntry.{NodeEntry}
 use Rattle.generated_texts.specs.Lines.{first_lines, last_lines, lines_of, tree_lines}
 use Rattle.ports.specs.Grown.{grown, GrowsByFront}
 use Rattle.ports.proofs.GrownLemmas.{front_after, grown_after, grown-nil}
-use Rattle.marker_engine.specs.Walking.{AreLive, lines_left, nodes_left, turns_left}
+use Rattle.marker_engine.proofs.LinesLeft.{AreLive, lines_left, nodes_left, turns_left}
 
 pub dump-append : (first second : List Line) → dump (first ++ second) ≡ dump first ++ dump second
 dump-append first second = ap encode_utf8_all (flat_map-append line_text first second) ∙ encodes-append (flat_map line_text first) (flat_map line_text second)

@@ -1,5 +1,5 @@
 -- What edits make of what an engine stands for (our own).
-use Rattle.std.specs.Prelude.{Option, Some, None, Result, Ok, Err}
+use Rattle.std.specs.Prelude.{Some, None, Result, Ok, Err}
 use Rattle.plain_types.specs.declared.edit.Edit.{Edit}
 use Rattle.node_arena.specs.declared.place_fault.PlaceFault.{PlaceFault}
 use Rattle.node_arena.specs.declared.place_fault.PlaceFault.TheVariants as place

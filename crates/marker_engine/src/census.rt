@@ -1,11 +1,10 @@
 //! How much there is of a document.
 
-ghost use Rattle.std.specs.Prelude.{◌≡◌, true, length, is_some, option_copied};
+ghost use Rattle.std.specs.Prelude.{◌≡◌, ◌+◌, true, length, is_some, option_copied};
 ghost use Rattle.std.specs.Option.{option_map_or};
 ghost use Rattle.forest.specs.Keys.{without_keys};
 ghost use Rattle.generated_texts.specs.Lines.{keyed_lines};
 ghost use Rattle.marker_engine.specs.Census.{boxes_in, element_count, keyed_box_count, lines_in, one_where, saturated};
-ghost use Rattle.marker_engine.specs.Counting.{with_node};
 
 use dirty_walk::book::Book;
 use generated_texts::entry::NodeEntry;
@@ -30,7 +29,9 @@ fn lines_in(entry: &NodeEntry) -> usize
 
 /// The numbers with one more node.
 fn with_node(census: Census, is_element: bool, entry: Option<&NodeEntry>) -> Census
-    ensures { result ≡ with_node census is_element (option_copied entry.entry) }
+    ensures elements { result.elements ≡ saturated (census.elements + one_where is_element) }
+    ensures boxes { result.boxes ≡ saturated (census.boxes + option_map_or boxes_in (option_copied entry.entry) 0) }
+    ensures lines { result.lines ≡ saturated (census.lines + option_map_or lines_in (option_copied entry.entry) 0) }
 {
     let (boxes, lines) = match entry {
         Some(entry) => (entry.has_box as usize, lines_in(entry)),

@@ -17,6 +17,7 @@ use crate::lines::put_lines;
 use crate::show_fault::ShowFault;
 use dirty_walk::book::Book;
 use generated_texts::laws::keys_do_not_matter;
+use node_arena::laws::arena_holds_document;
 use plain_types::edit::Edit;
 use plain_types::memory::Memory;
 use plain_types::tree::Tree;
@@ -126,7 +127,7 @@ impl Engine {
         ensures steps { steps.new ≡ steps.old }
     {
         // The book has keys of its own, and the lines are those of any keys.
-        let _root = self.book.arena().root();
+        arena_holds_document(self.book.arena());
         keys_do_not_matter();
         put_lines(alloc, &self.book, out)
     }
@@ -147,7 +148,7 @@ impl Engine {
         ensures lines { result.lines ≡ saturated (length (document_lines self.now.sheet self.now.tree)) }
         ensures steps { steps.new ≡ steps.old }
     {
-        let _root = self.book.arena().root();
+        arena_holds_document(self.book.arena());
         keys_do_not_matter();
         census_of(&self.book)
     }

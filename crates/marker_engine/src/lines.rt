@@ -2,7 +2,7 @@
 
 ghost use Rattle.std.specs.Prelude.{◌≡◌, ◌≢◌, true, OnOk, OnErr, Some, option_copied};
 ghost use Rattle.std.specs.Option.{option_map_or};
-ghost use Rattle.definitions.specs.Dump.{dump};
+ghost use Rattle.dump_definitions.specs.Dump.{dump};
 ghost use Rattle.dirty_walk.specs.Books.{fresh_entry};
 ghost use Rattle.forest.specs.Spots.{IsLive};
 ghost use Rattle.generated_texts.specs.Lines.{first_lines, last_lines, lines_of, tree_lines};

@@ -6,13 +6,16 @@ ghost use Rattle.marker_engine.specs.declared.show_fault.ShowFault.TheVariants a
 use plain_types::memory::Memory;
 use ports::failed::Failed;
 use std::alloc::AllocFailed;
+use thiserror::Error;
 
 /// A front of the dump went out.
-#[derive(Clone, Copy, Debug, PartialEq, Eq)]
+#[derive(Clone, Copy, Debug, PartialEq, Eq, Error)]
 pub enum ShowFault {
     /// A call on the sink failed.
+    #[error("a write failed")]
     WriteFault,
     /// Memory was wanting.
+    #[error("out of memory")]
     Memory,
 }
 

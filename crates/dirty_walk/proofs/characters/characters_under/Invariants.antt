@@ -1,7 +1,7 @@
 use Rattle.std.proofs.Common.{reverse}
 use Rattle.forest.specs.Spots.{children_of}
 use Rattle.generated_texts.specs.References.{characters_in}
-use Rattle.dirty_walk.specs.Walking.{turns_left}
+use Rattle.dirty_walk.proofs.CharactersLeft.{turns_left}
 use Rattle.dirty_walk.proofs.CharacterTurns.{Gathers}
 use Rattle.dirty_walk.proofs.characters.characters_under.Given as goal
 

@@ -10,5 +10,5 @@ returns c = record {
       c.commit.ensures.holders id key
       ∙ ap (λ ids. holds_after_all c.in_ok-changes.changes id key (list_any (nat_eq key) ids)) (c.in_ok-reserve_for.ensures.holders id ∙ c.new-index.ensures.holders id)
       ∙ ap (λ changes. holds_after_all changes id key false) c.in_ok-changes.ensures.changes
-      ∙ ids_held c.args.arena.now.tree c.root-root.ensures.document.distinct id key;
+      ∙ ids_held c.args.arena.now.tree c.arena_holds_document.ensures.document.distinct id key;
 }

@@ -7,6 +7,7 @@ use Rattle.forest.specs.Keys.{HasDistinctKeys, Keyed}
 use Rattle.forest.specs.Order.{next_in_order_of}
 use Rattle.node_arena.specs.Nodes.{name_of}
 use Rattle.plain_types.specs.declared.node.Node.{Node}
+use Rattle.marker_engine.proofs.Counting.{same_numbers}
 use Rattle.marker_engine.proofs.Counts.{ends, turn}
 use Rattle.marker_engine.proofs.census.census_of.Goals as goal
 
@@ -23,7 +24,8 @@ loop-link-smaller c =
     c.in-Some.key c.loop-link.link c.next_in_order-link.result c.loop-link.census c.with_node-census.result c.is_some-is_element.result _ c.in-Some.is c.loop-link.invariant.link_is
     c.loop-link.invariant.census
     (has_name c.name.result _ _ c.is_some-is_element.ensures (c.name.ensures.characters ∙ ap (λ (t : Forest (Keyed Node)). name_of t c.in-Some.key) c.arena-arena.ensures.tree))
-    c.find_entry.ensures.entry c.with_node-census.ensures
+    c.find_entry.ensures.entry
+    (same_numbers _ _ c.with_node-census.ensures.elements c.with_node-census.ensures.boxes c.with_node-census.ensures.lines)
     (c.next_in_order-link.ensures.link ∙ ap (λ (t : Forest (Keyed Node)). next_in_order_of t c.in-Some.key) c.arena-arena.ensures.tree)).1
 
 pub loop-link-preserved : goal.loop-link-preserved
@@ -34,7 +36,8 @@ loop-link-preserved c = record {
       c.in-Some.key c.loop-link.link c.next_in_order-link.result c.loop-link.census c.with_node-census.result c.is_some-is_element.result _ c.in-Some.is c.loop-link.invariant.link_is
       c.loop-link.invariant.census
       (has_name c.name.result _ _ c.is_some-is_element.ensures (c.name.ensures.characters ∙ ap (λ (t : Forest (Keyed Node)). name_of t c.in-Some.key) c.arena-arena.ensures.tree))
-      c.find_entry.ensures.entry c.with_node-census.ensures
+      c.find_entry.ensures.entry
+      (same_numbers _ _ c.with_node-census.ensures.elements c.with_node-census.ensures.boxes c.with_node-census.ensures.lines)
       (c.next_in_order-link.ensures.link ∙ ap (λ (t : Forest (Keyed Node)). next_in_order_of t c.in-Some.key) c.arena-arena.ensures.tree)).0;
 }
 

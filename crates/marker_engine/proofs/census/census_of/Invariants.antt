@@ -2,7 +2,7 @@ use Rattle.std.proofs.Common.{◌≡◌, ◌-◌}
 use Rattle.dirty_walk.specs.Books.{fresh_entry}
 use Rattle.forest.specs.Forest.{size}
 use Rattle.forest.specs.Spots.{IsLink}
-use Rattle.marker_engine.specs.Counting.{counted, nodes_before}
+use Rattle.marker_engine.proofs.Counting.{counted, nodes_before}
 use Rattle.marker_engine.proofs.census.census_of.Given as goal
 
 abbrev pub invariant-loop-link : goal.invariant-loop-link

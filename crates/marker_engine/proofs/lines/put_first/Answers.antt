@@ -1,5 +1,5 @@
 use Rattle.std.proofs.Common.{◌∙◌, ap}
-use Rattle.definitions.specs.Dump.{dump}
+use Rattle.dump_definitions.specs.Dump.{dump}
 use Rattle.dirty_walk.specs.Books.{fresh_entry}
 use Rattle.forest.specs.Forest.{Forest}
 use Rattle.forest.specs.Keys.{Keyed}

@@ -1,6 +1,6 @@
 use Rattle.std.proofs.Common.{◌≤◌, reverse}
 use Rattle.dirty_walk.specs.Books.{fresh_entry}
-use Rattle.marker_engine.specs.Walking.{turns_left}
+use Rattle.marker_engine.proofs.LinesLeft.{turns_left}
 use Rattle.marker_engine.proofs.Turns.{Walks}
 use Rattle.marker_engine.proofs.lines.put_lines.Given as goal
 

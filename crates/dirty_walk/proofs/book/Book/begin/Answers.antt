@@ -21,6 +21,7 @@ invariant_of-result g c = record {
       kept_where c.in_ok-arena.arena.tree c.in_ok-arena.arena.tree (chars c.args.sheet.now) c.in_ok-sheet.sheet c.in_ok-entries.entries
       refl c.in_ok-sheet.ensures.characters c.in_ok-entries.ensures.entries;
   back = tt;
+  keys = c.in_ok-arena.ensures.settled;
 }
 
 pub returns-clause-steps : goal.returns-clause-steps

@@ -1,7 +1,8 @@
-use Rattle.std.proofs.Common.{◌∙◌, Option, IfSome, ap, sym, subst, unwrap_or}
+use Rattle.std.proofs.Common.{◌≡◌, ◌∙◌, Option, Some, None, IfSome, ap, sym, subst, unwrap_or}
 use Rattle.node_arena.specs.declared.reversal.Reversal.{Reversal}
-use Rattle.node_arena.specs.Reversals.{IsReversal}
-use Rattle.dirty_walk.specs.Books.{StyledDocument}
+use Rattle.node_arena.specs.Reversals.{IsCommitted, IsReversal}
+use Rattle.node_arena.proofs.KeyLaws.{settled}
+use Rattle.dirty_walk.specs.Books.{StyledDocument, UsesItsKeys}
 use Rattle.dirty_walk.specs.Plans.{settled_after, IsPlannedBy}
 use Rattle.dirty_walk.proofs.PlanLemmas.{kept_where, is_settled_on}
 use Rattle.dirty_walk.proofs.book.Book.commit.Goals as goal
@@ -15,6 +16,11 @@ invariant_of-self g c = record {
       (c.replace_sheet.ensures ∙ ap (λ (styled : StyledDocument). unwrap_or c.args.plan.sheet styled.sheet) c.self.view_is)
       c.requires.planned.1;
   back = subst (λ (planned : Option Reversal). IfSome planned (λ reversal. IsReversal c.settle.new.self reversal)) (sym c.take.ensures.after) tt;
+  keys =
+      let was : c.self.inside.planned ≡ Some c.in-Some.reversal = sym c.take.ensures.value ∙ c.in-Some.is in
+      let committed : IsCommitted c.self.inside.arena c.in-Some.reversal = subst (λ (planned : Option Reversal). UsesItsKeys c.self.inside.arena planned) was c.self.invariant.keys in
+      subst (λ (planned : Option Reversal). UsesItsKeys c.settle.new.self planned) (sym c.take.ensures.after)
+      (settled c.self.inside.arena c.settle.new.self c.in-Some.reversal committed c.settle.ensures.tree c.settle.ensures.freed);
 }
 
 pub invariant_of-self-in_default : goal.invariant_of-self-in_default
@@ -26,6 +32,9 @@ invariant_of-self-in_default g c = record {
       (c.replace_sheet.ensures ∙ ap (λ (styled : StyledDocument). unwrap_or c.args.plan.sheet styled.sheet) c.self.view_is)
       c.requires.planned.1;
   back = subst (λ (planned : Option Reversal). IfSome planned (λ reversal. IsReversal c.self.inside.arena reversal)) (sym c.take.ensures.after) tt;
+  keys =
+      let was : c.self.inside.planned ≡ None = sym c.take.ensures.value ∙ c.in_default.is in
+      subst (λ (planned : Option Reversal). UsesItsKeys c.self.inside.arena planned) (was ∙ sym c.take.ensures.after) c.self.invariant.keys;
 }
 
 pub returns-in-Some-clause-settled : goal.returns-in-Some-clause-settled

@@ -1,4 +1,4 @@
-use Rattle.std.proofs.Common.{◌≡◌, ◌∙◌, ap, subst, sym, true}
+use Rattle.std.proofs.Common.{◌≡◌, ◌∙◌, ap, subst, sym}
 use Rattle.std.specs.Prelude.{is_some}
 use Rattle.forest.specs.Forest.{Forest}
 use Rattle.forest.specs.Keys.{Keyed, HasDistinctKeys}
@@ -21,5 +21,5 @@ returns c =
           sym (copied_some c.get.result)
           ∙ ap is_some kept
           ∙ c.elements_have_entries.ensures.keys (sheet c.args.self.now.sheet) c.args.self.now.tree c.args.key
-          (subst (λ (t : Forest (Keyed Node)). HasDistinctKeys t) tree c.root-root.ensures.document.distinct);
+          (subst (λ (t : Forest (Keyed Node)). HasDistinctKeys t) tree c.arena_holds_document.ensures.document.distinct);
     }

@@ -5,27 +5,49 @@ use Rattle.std.specs.Str.{chars}
 use Rattle.forest.specs.Forest.{Forest, size}
 use Rattle.forest.specs.Keys.{Keyed, without_keys}
 use Rattle.plain_types.specs.declared.node.Node.{Node}
+use Rattle.node_arena.proofs.KeyLaws.{committed, reverted, still_settled}
 use Rattle.node_arena.proofs.RowFacts.{size-without_keys}
 use Rattle.node_arena.specs.Edits.{edited, edited_sheet, IsEdited}
 use Rattle.dirty_walk.specs.Books.{StyledDocument}
 use Rattle.dirty_walk.specs.Plans.{settled_after, IsPlannedBy}
-use Rattle.dirty_walk.proofs.PlanLemmas.{kept_where, now-unwrap_or, same_document}
+use Rattle.dirty_walk.proofs.PlanLemmas.{its_keys, kept_where, now-unwrap_or, same_document}
 use Rattle.dirty_walk.proofs.book.Book.plan.Goals as goal
 
 pub invariant_of-self : goal.invariant_of-self
 invariant_of-self g c =
     let none : is_none c.self.inside.planned ≡ true = ap (λ (styled : StyledDocument). styled.settled) c.self.view_is ∙ c.requires.settled in
-    same_document _ _ _ _ _ none c.prepare.ensures.tree c.self.invariant
+    same_document _ _ _ _ _ none c.prepare.ensures.tree (λ were. still_settled _ _ were c.prepare.ensures.tree c.in_err-prepared.ensures.err) c.self.invariant
+
+pub invariant_of-self-in-Ok : goal.invariant_of-self-in-Ok
+invariant_of-self-in-Ok g c =
+    let none : is_none c.self.inside.planned ≡ true = ap (λ (styled : StyledDocument). styled.settled) c.self.view_is ∙ c.requires.settled in
+    record {
+      kept = λ settled. cc;
+      back = c.commit-reversal.ensures.reversal;
+      keys =
+          committed _ _ _ _ _ (its_keys c.self.inside.arena c.self.inside.planned none c.self.invariant.keys) c.prepare.ensures.tree c.in_ok-prepared.ensures.reserves
+          c.commit-reversal.ensures.tree c.commit-reversal.ensures.before c.commit-reversal.ensures.used;
+    }
 
 pub invariant_of-self-in-Err : goal.invariant_of-self-in-Err
 invariant_of-self-in-Err g c =
     let none : is_none c.self.inside.planned ≡ true = ap (λ (styled : StyledDocument). styled.settled) c.self.view_is ∙ c.requires.settled in
-    same_document _ _ _ _ _ none (c.revert.ensures.tree ∙ c.commit-reversal.ensures.before ∙ c.prepare.ensures.tree) c.self.invariant
+    same_document _ _ _ _ _ none (c.revert.ensures.tree ∙ c.commit-reversal.ensures.before ∙ c.prepare.ensures.tree)
+    (λ were.
+    reverted _ _ _
+    (committed _ _ _ _ _ were c.prepare.ensures.tree c.in_ok-prepared.ensures.reserves c.commit-reversal.ensures.tree c.commit-reversal.ensures.before c.commit-reversal.ensures.used)
+    c.revert.ensures.tree c.revert.ensures.freed)
+    c.self.invariant
 
 pub invariant_of-self-in-Err-2 : goal.invariant_of-self-in-Err-2
 invariant_of-self-in-Err-2 g c =
     let none : is_none c.self.inside.planned ≡ true = ap (λ (styled : StyledDocument). styled.settled) c.self.view_is ∙ c.requires.settled in
-    same_document _ _ _ _ _ none (c.revert.ensures.tree ∙ c.commit-reversal.ensures.before ∙ c.prepare.ensures.tree) c.self.invariant
+    same_document _ _ _ _ _ none (c.revert.ensures.tree ∙ c.commit-reversal.ensures.before ∙ c.prepare.ensures.tree)
+    (λ were.
+    reverted _ _ _
+    (committed _ _ _ _ _ were c.prepare.ensures.tree c.in_ok-prepared.ensures.reserves c.commit-reversal.ensures.tree c.commit-reversal.ensures.before c.commit-reversal.ensures.used)
+    c.revert.ensures.tree c.revert.ensures.freed)
+    c.self.invariant
 
 pub returns-in-Ok-clause-planned : goal.returns-in-Ok-clause-planned
 unfolding IsPlannedBy settled_after

@@ -1,18 +1,29 @@
-use Rattle.std.proofs.Common.{◌∙◌, ap, ◌++◌}
-use Rattle.std.specs.Prelude.{reverse}
+use Rattle.std.proofs.Common.{◌∙◌, ◌++◌, ◌∷◌, [], ap, reverse}
 use Rattle.box_eval.specs.declared.entry.Closing.{Closing}
 use Rattle.box_eval.specs.Evaluation.{changes_in}
 use Rattle.document_walk.specs.Walking.{handed_behind, told_opened}
+use Rattle.document_walk.proofs.LeavingLemmas.{told_is}
 use Rattle.document_walk.proofs.walk.Walk.leave_box.Goals as goal
 
 pub returns : goal.returns
 returns g c =
+    let walk = c.args.self.now in
+    let key = c.args.key in
+    let opened = c.args.opened in
+    let closing = c.in_ok-closing.closing in
+    let past = c.in_ok-go_past.ensures in
+    let closed = c.close.ensures in
     record {
-      told = c.told_opened.ensures.told ∙ ap (told_opened c.args.opened.depth c.args.opened.entry) c.in_ok-closing.ensures.closing;
-      around = c.in_ok-go_past.ensures.past ∙ ap (handed_behind c.args.opened.parent c.args.opened.entry.own) c.in_ok-closing.ensures.closing;
-      changes = c.in_ok-closing.ensures.changes ∙ ap (λ (closing : Closing). c.args.self.now.told.changes ++ changes_in closing.after) c.in_ok-closing.ensures.closing;
-      frames = ap (λ stack. reverse stack.items) c.close.ensures.stack;
-      records = c.close.ensures.records;
-      asks = c.close.ensures.asks;
-      step = c.close.ensures.step;
+      left = record {
+        frames = ap (λ stack. reverse stack.items) (past.stack ∙ closed.stack);
+        around = past.around ∙ ap (handed_behind opened.parent opened.entry.own) c.in_ok-closing.ensures.closing;
+        told =
+            told_is c.go_past.new.self.told _ _ _
+            (past.records
+            ∙ ap (λ all. all ++ (key, told_opened opened.depth opened.entry closing) ∷ []) closed.records
+            ∙ ap (λ closing. walk.told.records ++ (key, told_opened opened.depth opened.entry closing) ∷ []) c.in_ok-closing.ensures.closing)
+            (past.changes ∙ c.in_ok-closing.ensures.changes ∙ ap (λ (closing : Closing). walk.told.changes ++ changes_in closing.after) c.in_ok-closing.ensures.closing)
+            (past.asks ∙ closed.asks);
+      };
+      steps = closed.step;
     }

@@ -27,11 +27,11 @@ returns-clause-elements g c = c.census_of.ensures.elements ∙ ap (λ (source : 
 pub returns-clause-boxes : goal.returns-clause-boxes
 returns-clause-boxes g c =
     c.census_of.ensures.boxes
-    ∙ ap saturated (fresh_boxes c.self.inside.book c.args.self.now c.arena.result.now.tree c.self.view_is c.arena.ensures.tree c.root-root.ensures.document.distinct
+    ∙ ap saturated (fresh_boxes c.self.inside.book c.args.self.now c.arena.result.now.tree c.self.view_is c.arena.ensures.tree c.arena_holds_document.ensures.document.distinct
     c.keys_do_not_matter.ensures.keyings c.keys_do_not_matter.ensures.entries)
 
 pub returns-clause-lines : goal.returns-clause-lines
 returns-clause-lines g c =
     c.census_of.ensures.lines
-    ∙ ap saturated (fresh_lines c.self.inside.book c.args.self.now c.arena.result.now.tree c.self.view_is c.arena.ensures.tree c.root-root.ensures.document.distinct
+    ∙ ap saturated (fresh_lines c.self.inside.book c.args.self.now c.arena.result.now.tree c.self.view_is c.arena.ensures.tree c.arena_holds_document.ensures.document.distinct
     c.keys_do_not_matter.ensures.tree)

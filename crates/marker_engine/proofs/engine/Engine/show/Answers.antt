@@ -1,5 +1,5 @@
 use Rattle.std.proofs.Common.{◌≡◌, OnOk, OnErr, ap, subst}
-use Rattle.definitions.specs.Dump.{dump}
+use Rattle.dump_definitions.specs.Dump.{dump}
 use Rattle.dirty_walk.specs.Books.{StyledDocument, fresh_entry}
 use Rattle.forest.specs.Forest.{Forest}
 use Rattle.forest.specs.Keys.{HasDistinctKeys, Keyed}
@@ -18,11 +18,11 @@ fresh styled source arena_tree law is same distinct = rw (← is) (ap dump (law 
 pub returns-clause-ok : goal.returns-clause-ok
 returns-clause-ok g c =
     subst (λ bytes. OnOk c.put_lines.result (g.O.Sink.out c.put_lines.new.out ≡ grown (g.O.Sink.out c.args.out.now) bytes))
-    (fresh c.self.inside.book c.args.self.now c.arena.result.now.tree c.keys_do_not_matter.ensures.tree c.self.view_is c.arena.ensures.tree c.root-root.ensures.document.distinct)
+    (fresh c.self.inside.book c.args.self.now c.arena.result.now.tree c.keys_do_not_matter.ensures.tree c.self.view_is c.arena.ensures.tree c.arena_holds_document.ensures.document.distinct)
     c.put_lines.ensures.ok
 
 pub returns-clause-failed : goal.returns-clause-failed
 returns-clause-failed g c =
     subst (λ bytes. OnErr c.put_lines.result (GrowsByFront (g.O.Sink.out c.args.out.now) (g.O.Sink.out c.put_lines.new.out) bytes))
-    (fresh c.self.inside.book c.args.self.now c.arena.result.now.tree c.keys_do_not_matter.ensures.tree c.self.view_is c.arena.ensures.tree c.root-root.ensures.document.distinct)
+    (fresh c.self.inside.book c.args.self.now c.arena.result.now.tree c.keys_do_not_matter.ensures.tree c.self.view_is c.arena.ensures.tree c.arena_holds_document.ensures.document.distinct)
     c.put_lines.ensures.failed

@@ -4,7 +4,7 @@ use Rattle.forest.specs.Forest.{Forest, size}
 use Rattle.forest.specs.Keys.{Keyed}
 use Rattle.forest.specs.Spots.{IsLive, after_of, on_link}
 use Rattle.plain_types.specs.declared.node.Node.{Node}
-use Rattle.definitions.specs.Dump.{Line}
+use Rattle.dump_definitions.specs.Dump.{Line}
 use Rattle.generated_texts.specs.declared.entry.NodeEntry.{NodeEntry}
 use Rattle.generated_texts.specs.Lines.{last_lines, tree_lines}
 

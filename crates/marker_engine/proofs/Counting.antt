@@ -1,5 +1,5 @@
 -- The numbers of a document, while its nodes are counted in tree order.
-use Rattle.std.specs.Prelude.{ℕ, ◌+◌, Bool, is_some, List, [], ◌∷◌, Option, take}
+use Rattle.std.proofs.Common.{◌≡◌, ◌∙◌, ap, ℕ, ◌+◌, Bool, is_some, List, [], ◌∷◌, Option, take}
 use Rattle.std.specs.Option.{option_map_or}
 use Rattle.forest.specs.Forest.{Forest, size}
 use Rattle.forest.specs.Keys.{Keyed, keys}
@@ -17,6 +17,13 @@ with_node census is_element entry = record {
   boxes = saturated (census.boxes + option_map_or boxes_in entry 0);
   lines = saturated (census.lines + option_map_or lines_in entry 0);
 }
+
+-- three numbers are the same one by one
+pub same_numbers : (one other : Census) → one.elements ≡ other.elements → one.boxes ≡ other.boxes → one.lines ≡ other.lines → one ≡ other
+same_numbers one other elements boxes lines =
+    ap (λ n. record { elements = n; boxes = one.boxes; lines = one.lines }) elements
+    ∙ ap (λ n. record { elements = other.elements; boxes = n; lines = one.lines }) boxes
+    ∙ ap (λ n. record { elements = other.elements; boxes = other.boxes; lines = n }) lines
 
 -- the weights of keys, added up
 abbrev pub total : (ℕ → ℕ) → List ℕ → ℕ

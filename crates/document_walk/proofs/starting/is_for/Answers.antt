@@ -1,9 +1,0 @@
-use Rattle.std.proofs.Common.{ap, ◌∙◌}
-use Rattle.std.specs.Str.{bytes_eq, chars}
-use Rattle.plain_types.proofs.TextLemmas.{bytes_eq-chars}
-use Rattle.document_walk.proofs.starting.is_for.Goals as goal
-
-pub returns : goal.returns
-returns c = record {
-  test = c.eq.ensures ∙ bytes_eq-chars _ _ c.as_str.utf8 c.utf8.name ∙ ap (λ text. bytes_eq text (chars c.args.name.now)) c.as_str.ensures.characters;
-}
