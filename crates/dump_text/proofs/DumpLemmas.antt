@@ -1,7 +1,7 @@
 -- The bytes of a dump, line by line.
 use Rattle.std.proofs.Common.{◌≡◌, ℕ, List, encode_utf8_all}
 use Rattle.std.specs.List.{flat_map}
-use Rattle.definitions.specs.Dump.{Line, dump, line_text}
+use Rattle.dump_definitions.specs.Dump.{Line, dump, line_text}
 use Rattle.dump_text.proofs.EncodedLemmas.{encodes-flat_map}
 
 -- the bytes of a line

@@ -9,7 +9,7 @@ use borrow.Author.Tests.{ltb-true}
 use Rattle.std.specs.Char.{digit_char}
 use Rattle.std.specs.List.{flat_map}
 use Rattle.std.specs.Str.{IsUtf8, chars}
-use Rattle.definitions.specs.Dump.{escape, hexadecimal, is_escaped, quoted, shown}
+use Rattle.dump_definitions.specs.Dump.{escape, hexadecimal, is_escaped, quoted, shown}
 
 -- P holds of each
 abbrev pub Each : (ℕ → Type 0) → List ℕ → Type 0

@@ -5,7 +5,7 @@ use Rattle.std.proofs.Math.Utf8.{encode}
 use Rattle.std.specs.Fmt.{decimal}
 use Rattle.std.specs.List.{flat_map}
 use Rattle.std.specs.Str.{IsAscii}
-use Rattle.definitions.specs.Dump.{kind_name, line_text, path_text, quoted}
+use Rattle.dump_definitions.specs.Dump.{kind_name, line_text, path_text, quoted}
 use Rattle.plain_types.specs.declared.box_kind.BoxKind.{BoxKind}
 use Rattle.plain_types.specs.declared.box_kind.BoxKind.TheVariants.{Element, Marker, Before, After}
 use Rattle.dump_text.proofs.EncodedLemmas.{encodes-flat_map}

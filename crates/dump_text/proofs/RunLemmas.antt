@@ -2,7 +2,7 @@
 use Rattle.std.proofs.Common.{◌≡◌, ℕ, ◌+◌, ◌-◌, ◌<◌, ◌≤◌, true, false, List, [], ◌∷◌, ◌++◌, length, get_or, take, drop, sym, ◌∙◌, ap, append-nil, append_assoc, cond, arith, get_or-drop, length-drop, take_all}
 use Rattle.std.proofs.lemmas.List.{take_more, get_or_default}
 use Rattle.std.specs.List.{flat_map}
-use Rattle.definitions.specs.Dump.{escape, is_escaped, shown}
+use Rattle.dump_definitions.specs.Dump.{escape, is_escaped, shown}
 use Rattle.ports.proofs.PieceLemmas.{pieces-more}
 
 -- one byte more

@@ -2,7 +2,7 @@
 
 ghost use Rattle.std.specs.Prelude.{◌≡◌, ◌≢◌, ◌∷◌, ◌++◌, [], OnOk, OnErr, encode_utf8_all};
 ghost use Rattle.std.specs.Fmt.{decimal};
-ghost use Rattle.definitions.specs.Dump.{kind_name, line_text, path_text};
+ghost use Rattle.dump_definitions.specs.Dump.{kind_name, line_text, path_text};
 ghost use Rattle.plain_types.specs.declared.box_kind.BoxKind.TheVariants as kinds;
 ghost use Rattle.ports.specs.Causes.{HasCause};
 ghost use Rattle.ports.specs.Grown.{grown, GrowsByFront};

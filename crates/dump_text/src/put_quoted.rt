@@ -4,7 +4,7 @@ ghost use Rattle.std.specs.Prelude.{◌≡◌, ◌<◌, OnOk, OnErr, encode_utf8
 ghost use Rattle.std.specs.Char.{digit_char};
 ghost use Rattle.std.specs.List.{flat_map};
 ghost use Rattle.std.specs.Str.{chars};
-ghost use Rattle.definitions.specs.Dump.{escape, is_escaped, quoted, shown};
+ghost use Rattle.dump_definitions.specs.Dump.{escape, is_escaped, quoted, shown};
 ghost use Rattle.ports.specs.Causes.{HasCause};
 ghost use Rattle.ports.specs.Grown.{grown, GrowsByFront};
 

@@ -10,8 +10,11 @@
 //! ```
 #![tactic(auto)]
 
-ghost use Rattle.std.specs.Prelude.{◌≡◌, ◌<◌};
+ghost use Rattle.std.specs.Prelude.{◌≡◌, ◌<◌, None};
+ghost use Rattle.marker_cli.specs.Words.{ReadsAsForm};
+ghost use Rattle.marker_cli.specs.declared.status.Status.TheVariants as status;
 
+use marker_cli::form::read_form;
 use marker_cli::report::report;
 use marker_cli::run::run;
 use marker_cli::status::Status;
@@ -20,7 +23,7 @@ use plain_types::text::Text;
 use ports::file_shelf::FileShelf;
 use ports::std_sink::StdSink;
 use std::env;
-use std::io::{BufWriter, ErrorKind};
+use std::io::{BufWriter, ErrorKind, Write};
 use std::marker::Brand;
 use std::process::ExitCode;
 use std::sync::ledger::{Blank, Ledger};
@@ -40,36 +43,62 @@ fn read_words(rt: &HostRuntime) -> Result<List<Text>, Status> {
     Ok(words)
 }
 
-/// Runs the words, with a count of steps that nobody reads. The output is kept back in a buffer, which
-/// the run flushes.
-fn run_words<L: Ledger>(rt: &HostRuntime, blank: Blank) -> Status
-    requires name { blank.name ≡ L.name }
-    requires parts { blank.parts ≡ L.parts }
-    requires some { 0 < L.parts }
+/// Ends without a run, with the line of this status.
+fn end_with(rt: &HostRuntime, status: Status) -> Status
+    ensures status { result ≡ status }
 {
-    let mut err = StdSink::new(rt.stderr());
-    let status = match (read_words(rt), BufWriter::new(rt.alloc(), rt.stdout())) {
-        (Ok(words), Ok(writer)) => {
-            let mut shelf = FileShelf::new(rt);
-            let mut out = StdSink::new(writer);
-            let mut steps = Steps::<L>::open(rt, blank);
-            return run(
-                rt.alloc(),
-                words.as_slice(),
-                &mut shelf,
-                &mut out,
-                &mut err,
-                &mut steps,
-            );
-        }
-        (Err(status), _) => status,
-        (_, Err(_)) => Status::Memory,
-    };
-    report(&[], &[], status, &mut err);
+    report(&[], &[], status, &mut StdSink::new(rt.stderr()));
     status
 }
 
+/// Runs words, with a count of steps that nobody reads. The writer keeps output back, and the run flushes it.
+fn run_form<L: Ledger, W: Write + Drop>(
+    rt: &HostRuntime,
+    blank: Blank,
+    words: &[Text],
+    writer: W,
+) -> Status
+    requires name { blank.name ≡ L.name }
+    requires parts { blank.parts ≡ L.parts }
+    requires some { 0 < L.parts }
+    ensures usage { result ≡ status.Usage → ReadsAsForm words.now None }
+{
+    let mut shelf = FileShelf::new(rt);
+    let mut out = StdSink::new(writer);
+    let mut err = StdSink::new(rt.stderr());
+    let mut steps = Steps::<L>::open(rt, blank);
+    run(
+        rt.alloc(),
+        words,
+        &mut shelf,
+        &mut out,
+        &mut err,
+        &mut steps,
+    )
+}
+
+/// Runs words, which end as Usage exactly where they are of no form. The writer's buffer is taken after that is
+/// known, so that want of memory can't hide it.
+fn run_words<L: Ledger>(rt: &HostRuntime, blank: Blank, words: &[Text]) -> Status
+    requires name { blank.name ≡ L.name }
+    requires parts { blank.parts ≡ L.parts }
+    requires some { 0 < L.parts }
+    ensures no_form { ReadsAsForm words.now None → result ≡ status.Usage }
+    ensures usage { result ≡ status.Usage → ReadsAsForm words.now None }
+{
+    if read_form(words).is_none() {
+        return end_with(rt, Status::Usage);
+    }
+    match BufWriter::new(rt.alloc(), rt.stdout()) {
+        Ok(writer) => run_form::<L, _>(rt, blank, words, writer),
+        Err(_) => end_with(rt, Status::Memory),
+    }
+}
+
 fn main(rt: HostRuntime) -> ExitCode {
-    let status = run_words::<Brand>(&rt, Blank::new(1));
+    let status = match read_words(&rt) {
+        Ok(words) => run_words::<Brand>(&rt, Blank::new(1), words.as_slice()),
+        Err(status) => end_with(&rt, status),
+    };
     ExitCode::from(status.code())
 }

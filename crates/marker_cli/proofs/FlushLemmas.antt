@@ -1,43 +1,58 @@
 -- How a run ends once its output is flushed.
-use Rattle.std.proofs.Common.{◌≡◌, ℕ, ◌≤◌, List, Option, arith, refl, sym, ◌∙◌, subst, inl, inr, ◌⊎◌}
+use Rattle.std.proofs.Common.{◌≡◌, ℕ, ◌≤◌, List, ◌++◌, Option, append_assoc, arith, sym, ◌∙◌, ap, subst, inl, inr, ◌⊎◌}
 use Rattle.ports.specs.Causes.{Rose}
+use Rattle.ports.specs.Grown.{grown, GrowsByFront}
 use Rattle.ports.proofs.GrownLemmas.{front_whole}
+use Rattle.marker_cli.specs.declared.status.FileAt.{FileAt}
 use Rattle.marker_cli.specs.declared.status.Status.{Status}
 use Rattle.marker_cli.specs.declared.status.Status.TheVariants.{WriteFault}
-use Rattle.marker_cli.specs.declared.status.Status.TheVariants as status
-use Rattle.marker_cli.specs.Ends.{EndsAs, IsCaused, whole, no_memory, not_written, not_read}
+use Rattle.marker_cli.specs.Ends.{EndsAs, IsCaused, IsSettled, whole, no_memory, not_written, not_read}
 use Rattle.marker_cli.specs.Names.{TellsOfLine}
-use Rattle.marker_cli.specs.Output.{Output, bytes_of}
+use Rattle.marker_cli.specs.Output.{ComesAfter, Output, bytes_of, ends, turn, writes}
 use Rattle.marker_cli.proofs.EndsLemmas.{ends_same, ends_weaker}
 
--- the status stays, or the flush of a run that was Ok failed
+-- the status stays, or the flush failed
 abbrev Flushed : Type 0 → Status → Status → Type 0
-Flushed failed before now = (now ≡ before) ⊎ ((before ≡ status.Ok) × (now ≡ WriteFault) × failed)
+Flushed failed before now = (now ≡ before) ⊎ (IsSettled before × (now ≡ WriteFault) × failed)
 
-failed_flush : {R W X : Type 0} {all : Output} {before now : Option (List ℕ)} {outcome told : Status} → EndsAs R W all before now outcome → outcome ≡ status.Ok
+-- what is written before a file's turn is a front of the output
+comes_front : (output : Output) (file : FileAt) (written : List ℕ) → ComesAfter output file written → (rest : List ℕ) × (written ++ rest ≡ bytes_of output)
+comes_front (ends status) file written comes = absurd comes
+comes_front (turn other rest) file written (inl here) = (bytes_of rest, ap (λ w. w ++ bytes_of rest) here.1)
+comes_front (turn other rest) file written (inr later) = comes_front rest file written later
+comes_front (writes bytes rest) file written comes =
+    let found = comes_front rest file comes.0 comes.2 in
+    (found.0, ap (λ w. w ++ found.0) comes.1 ∙ append_assoc bytes comes.0 found.0 ∙ ap (λ z. bytes ++ z) found.1)
+
+front_turn : {before now : Option (List ℕ)} (output : Output) (file : FileAt) (written : List ℕ) → ComesAfter output file written → now ≡ grown before written
+    → GrowsByFront before now (bytes_of output)
+front_turn output file written comes grew =
+    let found = comes_front output file written comes in record { front = written; rest = found.0; parts = found.1; went_out = grew }
+
+failed_flush : {R W X : Type 0} {all : Output} {before now : Option (List ℕ)} {outcome told : Status} → EndsAs R W all before now outcome → IsSettled outcome
     → told ≡ WriteFault → X → EndsAs R X all before now told
-failed_flush {all = all} (whole is grew) ok fault failed = not_written fault failed (front_whole _ _ (bytes_of all) grew)
-failed_flush (no_memory is grows) ok fault failed = absurd (cc (sym is ∙ ok))
-failed_flush (not_written is write grows) ok fault failed = absurd (cc (sym is ∙ ok))
-failed_flush (not_read file written is read comes grew) ok fault failed = absurd (cc (sym is ∙ ok))
+failed_flush {all = all} (whole is grew) settled fault failed = not_written fault failed (front_whole _ _ (bytes_of all) grew)
+failed_flush (no_memory is grows) settled fault failed = absurd (subst IsSettled is settled)
+failed_flush (not_written is write grows) settled fault failed = absurd (subst IsSettled is settled)
+failed_flush {all = all} (not_read file written is read comes grew) settled fault failed = not_written fault failed (front_turn all file written comes grew)
 
 pub ends_flushed : {R W V X : Type 0} {all : Output} {before now after : Option (List ℕ)} {outcome told : Status} → EndsAs R W all before now outcome
     → Flushed V outcome told → after ≡ now → (W → X) → (V → X) → EndsAs R X all before after told
-ends_flushed {R} {W} {V} {X} {all} {before} {now} {after} {outcome} {told} ends flushed kept w v = rw kept (by flushed)
+ends_flushed {R} {W} {V} {X} {all} {before} {now} {after} {outcome} {told} ended flushed kept w v = rw kept (by flushed)
   where
     by : Flushed V outcome told → EndsAs R X all before now told
-    by (inl same) = ends_same refl same (ends_weaker (λ read. read) w ends)
-    by (inr failed) = failed_flush ends failed.0 failed.1 (v failed.2)
+    by (inl same) = ends_same (λ i. all) same (ends_weaker (λ read. read) w ended)
+    by (inr failed) = failed_flush ended failed.0 failed.1 (v failed.2)
 
 -- a status other than WriteFault was there before
 pub was_before : (V : Type 0) (outcome told other : Status) → Flushed V outcome told → told ≡ other → (WriteFault ≡ other → ⊥) → outcome ≡ other
 was_before V outcome told other (inl same) is differs = sym same ∙ is
 was_before V outcome told other (inr failed) is differs = absurd (differs (sym failed.1 ∙ is))
 
--- a status other than Ok stays
-pub stays : (V : Type 0) (outcome told other : Status) → Flushed V outcome told → outcome ≡ other → (status.Ok ≡ other → ⊥) → told ≡ other
+-- a status that tells of no output stays
+pub stays : (V : Type 0) (outcome told other : Status) → Flushed V outcome told → outcome ≡ other → (IsSettled other → ⊥) → told ≡ other
 stays V outcome told other (inl same) is differs = same ∙ is
-stays V outcome told other (inr failed) is differs = absurd (differs (sym failed.0 ∙ is))
+stays V outcome told other (inr failed) is differs = absurd (differs (subst IsSettled is failed.0))
 
 pub tells_before : (V : Type 0) (outcome told : Status) → Flushed V outcome told → TellsOfLine told → TellsOfLine outcome
 tells_before V outcome told (inl same) tells = subst TellsOfLine same tells

@@ -1,130 +1,171 @@
 -- Words are of one form at most.
-use Rattle.std.proofs.Common.{◌≡◌, ◌∙◌, ℕ, ℤ, zero, suc, ◌^◌, ◌<◌, w32, FitsSigned, get_or, ap, Bool, true, false, IsTrue, ◌&&◌, ◌==◌, List, [], ◌∷◌, length, arith, refl, sym, codes, encode_utf8_all}
+use Rattle.std.proofs.Common.{◌≡◌, ◌∙◌, ℕ, ℤ, ◌^◌, ◌<◌, w64, FitsSigned, get_or, ap, Bool, List, [], ◌∷◌, length, arith, nat_lt, refl, sym, true, codes, encode_utf8_all}
 use lib.Signed.{mag}
 use Rattle.std.specs.Fmt.{decimal, signed_decimal}
 use Rattle.std.proofs.lemmas.Fmt.{decimal_injective, signed_decimal_injective}
 use Rattle.std.proofs.lemmas.Int.{ints}
-use Rattle.std.proofs.lemmas.Str.{chars-IsAscii, encodes-IsAscii}
+use Rattle.std.proofs.lemmas.Bool.{and_parts, ltb-true}
+use Rattle.std.proofs.lemmas.Str.{chars-IsAscii, encodes-IsAscii, encodes-chars}
+use Rattle.std.proofs.lemmas.Str.Ascii.{IsAscii-cons, IsAscii-nil}
+use Rattle.std.specs.List.{list_all}
+use Rattle.std.specs.Bool.{Decides}
 use Rattle.std.specs.Prelude.{Some, None, Option, IfNone}
-use Rattle.std.specs.Str.{IsAscii, bytes_eq, chars}
-use Rattle.std.proofs.lemmas.Bool.Decides.{nat_tests}
+use Rattle.std.specs.Str.{IsAscii, IsUtf8, bytes_eq, chars}
+use Rattle.std.proofs.lemmas.Bool.Decides.{Decides-at, Decides-like}
 use Rattle.std.proofs.lemmas.Slice.Eq.{bytes_eq-Decides}
-use Rattle.marker_cli.specs.declared.form.Form.{Form}
-use Rattle.marker_cli.specs.declared.form.Form.TheVariants.{Dump, Edit, Table, Gen}
-use Rattle.marker_cli.specs.Words.{IsForm, IsGen, IsTable, is_command, word}
+use Rattle.marker_cli.specs.declared.form.Form.{Form as ReadForm}
+use Rattle.marker_cli.specs.Words.{Form, IsCount, IsForm, IsRun, IsTable, IsWithin, ReadsAsForm, dump, edit, gen, read_form_of, table, word, words_of}
 
-both : (first second : Bool) → (first && second) ≡ true → (first ≡ true) × (second ≡ true)
-both true true is = (is, is)
-both true false is = absurd (cc is)
-both false second is = absurd (cc is)
+-- what `==` of two texts says of their characters
+pub same_text : (answer : Bool) (xs ys cs : List ℕ) → IsUtf8 ys → xs ≡ encode_utf8_all cs → chars xs ≡ cs → answer ≡ bytes_eq xs ys
+    → Decides answer (cs ≡ chars ys)
+same_text answer xs ys cs utf8 bytes characters is =
+    Decides-at answer (bytes_eq xs ys) is
+    (Decides-like (bytes_eq xs ys) (λ e. sym characters ∙ ap chars e) (λ e. bytes ∙ ap encode_utf8_all e ∙ encodes-chars ys utf8) (bytes_eq-Decides xs ys))
 
-pub command_length : (name : List ℕ) (count : ℕ) (words : List (List ℕ)) → is_command name count words ≡ true → length words ≡ count
-command_length name count words is = grind (arith, nat_tests, (both (length words == count) (bytes_eq (encode_utf8_all (word words 0)) name) is).0)
-
-command_name : (name : List ℕ) (count : ℕ) (words : List (List ℕ)) → is_command name count words ≡ true → encode_utf8_all (word words 0) ≡ name
-command_name name count words is =
-    (bytes_eq-Decides (encode_utf8_all (word words 0)) name).0 (both (length words == count) (bytes_eq (encode_utf8_all (word words 0)) name) is).1
-
-other_length : {P : Type 0} (name other : List ℕ) (count more : ℕ) (words : List (List ℕ)) → is_command name count words ≡ true → is_command other more words ≡ true
-    → (count ≡ more → ⊥) → P
-other_length name other count more words first second differ = absurd (differ (sym (command_length name count words first) ∙ command_length other more words second))
-
-dump_not_gen : {P : Type 0} (words : List (List ℕ)) → is_command (codes "dump") 3 words ≡ true → is_command (codes "gen") 3 words ≡ true → P
-dump_not_gen words first second = absurd (cc (sym (command_name (codes "dump") 3 words first) ∙ command_name (codes "gen") 3 words second))
-
--- each command excludes the others
-module _ (words : List (List ℕ)) where
-  pub only_dump : (P : Type 0) (form : Form) → IsTrue (is_command (codes "dump") 3 words) → IsForm words form → (form ≡ Dump → P) → P
-  only_dump P Dump is other go = go refl
-  only_dump P Edit is other go = other_length (codes "dump") (codes "edit") 3 4 words is other (λ e. cc e)
-  only_dump P (Table from to) is other go = other_length (codes "dump") (codes "table") 3 5 words is other.0 (λ e. cc e)
-  only_dump P (Gen seed count) is other go = dump_not_gen words is other.0
-
-  pub only_edit : (P : Type 0) (form : Form) → IsTrue (is_command (codes "edit") 4 words) → IsForm words form → (form ≡ Edit → P) → P
-  only_edit P Dump is other go = other_length (codes "dump") (codes "edit") 3 4 words other is (λ e. cc e)
-  only_edit P Edit is other go = go refl
-  only_edit P (Table from to) is other go = other_length (codes "edit") (codes "table") 4 5 words is other.0 (λ e. cc e)
-  only_edit P (Gen seed count) is other go = other_length (codes "edit") (codes "gen") 4 3 words is other.0 (λ e. cc e)
-
-  pub table_none : IsTrue (is_command (codes "table") 5 words) → ((from to : ℤ) → IsTable words from to → ⊥) → (form : Form) → IsForm words form → ⊥
-  table_none is none Dump other = other_length (codes "dump") (codes "table") 3 5 words other is (λ e. cc e)
-  table_none is none Edit other = other_length (codes "edit") (codes "table") 4 5 words other is (λ e. cc e)
-  table_none is none (Table from to) other = none from to other.1
-  table_none is none (Gen seed count) other = other_length (codes "gen") (codes "table") 3 5 words other.0 is (λ e. cc e)
-
-  pub gen_none : IsTrue (is_command (codes "gen") 3 words) → ((seed count : ℕ) → IsGen words seed count → ⊥) → (form : Form) → IsForm words form → ⊥
-  gen_none is none Dump other = dump_not_gen words other is
-  gen_none is none Edit other = other_length (codes "edit") (codes "gen") 4 3 words other is (λ e. cc e)
-  gen_none is none (Table from to) other = other_length (codes "table") (codes "gen") 5 3 words other.0 is (λ e. cc e)
-  gen_none is none (Gen seed count) other = none seed count other.1
-
-  pub no_command : is_command (codes "dump") 3 words ≡ false → is_command (codes "edit") 4 words ≡ false → is_command (codes "table") 5 words ≡ false
-      → is_command (codes "gen") 3 words ≡ false → (form : Form) → IsForm words form → ⊥
-  no_command dump edit table gen Dump is = cc (sym dump ∙ is)
-  no_command dump edit table gen Edit is = cc (sym edit ∙ is)
-  no_command dump edit table gen (Table from to) is = cc (sym table ∙ is.0)
-  no_command dump edit table gen (Gen seed count) is = cc (sym gen ∙ is.0)
-
--- a word that is a number in decimal
+-- an answer that is none
 pub if_none : {T P : Type 0} (answer : Option T) → P → IfNone answer P
 if_none None p = p
 if_none (Some x) p = tt
 
-module _ (words : List (List ℕ)) (place : ℕ) (read bytes : List ℕ) (below : place < length words) (is : read ≡ get_or words place read) where
-  pub word_here : read ≡ word words place
-  word_here = is ∙ same_at words place read below
-    where
-      same_at : (ws : List (List ℕ)) (n : ℕ) (d : List ℕ) → n < length ws → get_or ws n d ≡ get_or ws n []
-      same_at [] n d below = absurd (omega arith)
-      same_at (w ∷ ws) zero d below = refl
-      same_at (w ∷ ws) (suc n) d below = same_at ws n d (omega arith)
+-- a word, and the bytes of a number
+pub number_word : (read bytes digits : List ℕ) → IsAscii digits → chars bytes ≡ read → bytes ≡ digits → read ≡ digits
+number_word read bytes digits ascii characters same = sym characters ∙ ap chars same ∙ chars-IsAscii digits ascii
 
-  pub number_word : (digits : List ℕ) → IsAscii digits → chars bytes ≡ read → bytes ≡ digits → word words place ≡ digits
-  number_word digits ascii characters same = sym word_here ∙ sym characters ∙ ap chars same ∙ chars-IsAscii digits ascii
+pub word_number : (read bytes digits : List ℕ) → IsAscii digits → bytes ≡ encode_utf8_all read → read ≡ digits → bytes ≡ digits
+word_number read bytes digits ascii encoded same = encoded ∙ ap encode_utf8_all same ∙ encodes-IsAscii digits ascii
 
-  pub word_number : (digits : List ℕ) → IsAscii digits → bytes ≡ encode_utf8_all read → word words place ≡ digits → bytes ≡ digits
-  word_number digits ascii encoded same = encoded ∙ ap encode_utf8_all (word_here ∙ same) ∙ encodes-IsAscii digits ascii
+-- counts have 64 bits
+pub fits_count : (number : ℤ) → IsCount number → FitsSigned w64 number
+fits_count number is = let low = is.low in let high = is.high in grind (arith, ints)
 
-pub small : (number : ℤ) → FitsSigned w32 number → mag number < 2 ^ 63
-small number fits = omega (arith, ints)
+pub count_fits : (number : ℤ) → FitsSigned w64 number → IsCount number
+count_fits number fits = record { low = grind (arith, ints); high = grind (arith, ints) }
+
+pub small : (number : ℤ) → IsCount number → mag number < 2 ^ 63
+small number is = let fits = fits_count number is in omega (arith, ints)
 
 -- two numbers that are written so
-pub one_integer : (bytes : List ℕ) (number other : ℤ) → FitsSigned w32 number → FitsSigned w32 other → bytes ≡ signed_decimal number → bytes ≡ signed_decimal other → other ≡ number
-one_integer bytes number other fits fits_too first second =
+pub one_integer : (digits : List ℕ) (number other : ℤ) → IsCount number → IsCount other → digits ≡ signed_decimal number → digits ≡ signed_decimal other → other ≡ number
+one_integer digits number other fits fits_too first second =
     signed_decimal_injective other number (small other fits_too) (small number fits) (sym second ∙ first)
 
-pub one_natural : (bytes : List ℕ) (number other : ℕ) → number < 2 ^ 32 → other < 2 ^ 32 → bytes ≡ decimal number → bytes ≡ decimal other → other ≡ number
-one_natural bytes number other fits fits_too first second = decimal_injective other number (omega arith) (omega arith) (sym second ∙ first)
+pub one_natural : (digits : List ℕ) (number other : ℕ) → number < 2 ^ 32 → other < 2 ^ 32 → digits ≡ decimal number → digits ≡ decimal other → other ≡ number
+one_natural digits number other fits fits_too first second = decimal_injective other number (omega arith) (omega arith) (sym second ∙ first)
 
--- a table excludes the other forms, and has one pair of numbers
-pub only_table : (words : List (List ℕ)) (P : Type 0) (from to : ℤ) (form : Form) → IsForm words (Table from to) → IsForm words form → (form ≡ Table from to → P) → P
-only_table words P from to Dump is other go = other_length (codes "dump") (codes "table") 3 5 words other is.0 (λ e. cc e)
-only_table words P from to Edit is other go = other_length (codes "edit") (codes "table") 4 5 words other is.0 (λ e. cc e)
-only_table words P from to (Table first last) is other go = go (λ i. Table (same_from i) (same_to i))
-  where
-    same_from : first ≡ from
-    same_from = one_integer (word words 3) from first is.1.from_fits other.1.from_fits is.1.from_written other.1.from_written
+-- words of one form are of no other
+one_written : (form other : Form) → IsWithin form → IsWithin other → words_of form ≡ words_of other → other ≡ form
+one_written (dump document sheet) (dump first second) within fits same =
+    let one : first ≡ document = cc same in let two : second ≡ sheet = cc same in λ i. dump (one i) (two i)
+one_written (dump document sheet) (edit first second third) within fits same = absurd (cc same)
+one_written (dump document sheet) (table first second from to) within fits same = absurd (cc same)
+one_written (dump document sheet) (gen seed count) within fits same = absurd (cc same)
+one_written (edit document sheet script) (dump first second) within fits same = absurd (cc same)
+one_written (edit document sheet script) (edit first second third) within fits same =
+    let one : first ≡ document = cc same in let two : second ≡ sheet = cc same in let three : third ≡ script = cc same in λ i. edit (one i) (two i) (three i)
+one_written (edit document sheet script) (table first second from to) within fits same = absurd (cc same)
+one_written (edit document sheet script) (gen seed count) within fits same = absurd (cc same)
+one_written (table sheet style from to) (dump first second) within fits same = absurd (cc same)
+one_written (table sheet style from to) (edit first second third) within fits same = absurd (cc same)
+one_written (table sheet style from to) (table first second low high) within fits same =
+    let one : first ≡ sheet = cc same in
+    let two : second ≡ style = cc same in
+    let from_same : signed_decimal from ≡ signed_decimal low = cc same in
+    let to_same : signed_decimal to ≡ signed_decimal high = cc same in
+    let three : low ≡ from = one_integer _ from low within.from_fits fits.from_fits (λ i. signed_decimal from) from_same in
+    let four : high ≡ to = one_integer _ to high within.to_fits fits.to_fits (λ i. signed_decimal to) to_same in
+    λ i. table (one i) (two i) (three i) (four i)
+one_written (table sheet style from to) (gen seed count) within fits same = absurd (cc same)
+one_written (gen seed count) (dump first second) within fits same = absurd (cc same)
+one_written (gen seed count) (edit first second third) within fits same = absurd (cc same)
+one_written (gen seed count) (table first second from to) within fits same = absurd (cc same)
+one_written (gen seed count) (gen start edits) within fits same =
+    let seed_same : decimal seed ≡ decimal start = cc same in
+    let count_same : decimal count ≡ decimal edits = cc same in
+    let one : start ≡ seed = one_natural _ seed start (omega (arith, within.0)) (omega (arith, fits.0)) (λ i. decimal seed) seed_same in
+    let two : edits ≡ count = one_natural _ count edits (omega (arith, within.2)) (omega (arith, fits.2)) (λ i. decimal count) count_same in
+    λ i. gen (one i) (two i)
 
-    same_to : last ≡ to
-    same_to = one_integer (word words 4) to last is.1.to_fits other.1.to_fits is.1.to_written other.1.to_written
-only_table words P from to (Gen seed count) is other go = other_length (codes "gen") (codes "table") 3 5 words other.0 is.0 (λ e. cc e)
-
--- a made-up run excludes the other forms, and has one pair of numbers
-pub only_gen : (words : List (List ℕ)) (P : Type 0) (seed count : ℕ) (form : Form) → IsForm words (Gen seed count) → IsForm words form → (form ≡ Gen seed count → P) → P
-only_gen words P seed count Dump is other go = dump_not_gen words other is.0
-only_gen words P seed count Edit is other go = other_length (codes "edit") (codes "gen") 4 3 words other is.0 (λ e. cc e)
-only_gen words P seed count (Table from to) is other go = other_length (codes "table") (codes "gen") 5 3 words other.0 is.0 (λ e. cc e)
-only_gen words P seed count (Gen first number) is other go = go (λ i. Gen (same_seed i) (same_count i))
-  where
-    same_seed : first ≡ seed
-    same_seed = let low = is.1.run in let high = other.1.run in one_natural (word words 1) seed first (omega (arith, low.0)) (omega (arith, high.0)) is.1.seed_written other.1.seed_written
-
-    same_count : number ≡ count
-    same_count = let low = is.1.run in let high = other.1.run in one_natural (word words 2) count number (omega (arith, low.2)) (omega (arith, high.2)) is.1.count_written other.1.count_written
-
--- words are of one form at most
 pub one_form : (words : List (List ℕ)) (form other : Form) → IsForm words form → IsForm words other → other ≡ form
-one_form words Dump other is reads = only_dump words (other ≡ Dump) other is reads (λ same. same)
-one_form words Edit other is reads = only_edit words (other ≡ Edit) other is reads (λ same. same)
-one_form words (Table from to) other is reads = only_table words (other ≡ Table from to) from to other is reads (λ same. same)
-one_form words (Gen seed count) other is reads = only_gen words (other ≡ Gen seed count) seed count other is reads (λ same. same)
+one_form words form other is reads = one_written form other is.within reads.within (sym is.written ∙ reads.written)
+
+-- words that are so many
+pub three_words : (words : List (List ℕ)) (name first second : List ℕ) → length words ≡ 3 → word words 0 ≡ name → first ≡ get_or words 1 first → second ≡ get_or words 2 second
+    → words ≡ name ∷ first ∷ second ∷ []
+three_words [] name first second long begins one two = absurd (cc long)
+three_words (a ∷ []) name first second long begins one two = absurd (cc long)
+three_words (a ∷ b ∷ []) name first second long begins one two = absurd (cc long)
+three_words (a ∷ b ∷ c ∷ []) name first second long begins one two = λ i. begins i ∷ sym one i ∷ sym two i ∷ []
+three_words (a ∷ b ∷ c ∷ d ∷ rest) name first second long begins one two = absurd (omega arith)
+
+pub four_words : (words : List (List ℕ)) (name first second third : List ℕ) → length words ≡ 4 → word words 0 ≡ name → first ≡ get_or words 1 first → second ≡ get_or words 2 second
+    → third ≡ get_or words 3 third → words ≡ name ∷ first ∷ second ∷ third ∷ []
+four_words [] name first second third long begins one two three = absurd (cc long)
+four_words (a ∷ []) name first second third long begins one two three = absurd (cc long)
+four_words (a ∷ b ∷ []) name first second third long begins one two three = absurd (cc long)
+four_words (a ∷ b ∷ c ∷ []) name first second third long begins one two three = absurd (cc long)
+four_words (a ∷ b ∷ c ∷ d ∷ []) name first second third long begins one two three = λ i. begins i ∷ sym one i ∷ sym two i ∷ sym three i ∷ []
+four_words (a ∷ b ∷ c ∷ d ∷ e ∷ rest) name first second third long begins one two three = absurd (omega arith)
+
+pub five_words : (words : List (List ℕ)) (name first second third fourth : List ℕ) → length words ≡ 5 → word words 0 ≡ name → first ≡ get_or words 1 first
+    → second ≡ get_or words 2 second → third ≡ get_or words 3 third → fourth ≡ get_or words 4 fourth → words ≡ name ∷ first ∷ second ∷ third ∷ fourth ∷ []
+five_words [] name first second third fourth long begins one two three four = absurd (cc long)
+five_words (a ∷ []) name first second third fourth long begins one two three four = absurd (cc long)
+five_words (a ∷ b ∷ []) name first second third fourth long begins one two three four = absurd (cc long)
+five_words (a ∷ b ∷ c ∷ []) name first second third fourth long begins one two three four = absurd (cc long)
+five_words (a ∷ b ∷ c ∷ d ∷ []) name first second third fourth long begins one two three four = absurd (cc long)
+five_words (a ∷ b ∷ c ∷ d ∷ e ∷ []) name first second third fourth long begins one two three four = λ i. begins i ∷ sym one i ∷ sym two i ∷ sym three i ∷ sym four i ∷ []
+five_words (a ∷ b ∷ c ∷ d ∷ e ∷ f ∷ rest) name first second third fourth long begins one two three four = absurd (omega arith)
+
+-- words of no form
+pub none_read : (words : List (List ℕ)) (answer : Option ReadForm) → answer ≡ None → ((form : Form) → IsForm words form → ⊥) → ReadsAsForm words (read_form_of answer)
+none_read words answer is none = rw is none
+
+pub table_none : (words : List (List ℕ)) (sheet style from to : List ℕ) → words ≡ codes "table" ∷ sheet ∷ style ∷ from ∷ to ∷ []
+    → ((first last : ℤ) → from ≡ signed_decimal first → to ≡ signed_decimal last → IsTable first last → ⊥) → (form : Form) → IsForm words form → ⊥
+table_none words sheet style from to written none (dump document other) is = cc (sym written ∙ is.written)
+table_none words sheet style from to written none (edit document other script) is = cc (sym written ∙ is.written)
+table_none words sheet style from to written none (table other another first last) is =
+    let one : from ≡ signed_decimal first = cc (sym written ∙ is.written) in
+    let two : to ≡ signed_decimal last = cc (sym written ∙ is.written) in
+    none first last one two is.within
+table_none words sheet style from to written none (gen seed count) is = cc (sym written ∙ is.written)
+
+pub gen_none : (words : List (List ℕ)) (seed count : List ℕ) → words ≡ codes "gen" ∷ seed ∷ count ∷ []
+    → ((start edits : ℕ) → seed ≡ decimal start → count ≡ decimal edits → IsRun start edits → ⊥) → (form : Form) → IsForm words form → ⊥
+gen_none words seed count written none (dump document sheet) is = cc (sym written ∙ is.written)
+gen_none words seed count written none (edit document sheet script) is = cc (sym written ∙ is.written)
+gen_none words seed count written none (table sheet style from to) is = cc (sym written ∙ is.written)
+gen_none words seed count written none (gen start edits) is =
+    let one : seed ≡ decimal start = cc (sym written ∙ is.written) in
+    let two : count ≡ decimal edits = cc (sym written ∙ is.written) in
+    none start edits one two is.within
+
+-- the words are so many, and the first one is this
+abbrev Begins : List (List ℕ) → ℕ → List ℕ → Type 0
+Begins words count name = (length words ≡ count) × (word words 0 ≡ name)
+
+pub no_command : (words : List (List ℕ)) → (Begins words 3 (codes "dump") → ⊥) → (Begins words 4 (codes "edit") → ⊥) → (Begins words 5 (codes "table") → ⊥)
+    → (Begins words 3 (codes "gen") → ⊥) → (form : Form) → IsForm words form → ⊥
+no_command words first second third fourth (dump document sheet) is = first (ap length is.written, ap (λ ws. word ws 0) is.written)
+no_command words first second third fourth (edit document sheet script) is = second (ap length is.written, ap (λ ws. word ws 0) is.written)
+no_command words first second third fourth (table sheet style from to) is = third (ap length is.written, ap (λ ws. word ws 0) is.written)
+no_command words first second third fourth (gen seed count) is = fourth (ap length is.written, ap (λ ws. word ws 0) is.written)
+
+-- the names of the commands are in ASCII
+ascii : (bytes : List ℕ) → list_all (λ b. nat_lt b 128) bytes ≡ true → IsAscii bytes
+ascii [] small = IsAscii-nil
+ascii (b ∷ bytes) small =
+    let parts = and_parts (nat_lt b 128) (list_all (λ c. nat_lt c 128) bytes) small in IsAscii-cons b bytes (ltb-true b 128 parts.0) (ascii bytes parts.1)
+
+pub dump_name : chars (codes "dump") ≡ codes "dump"
+dump_name = chars-IsAscii (codes "dump") (ascii (codes "dump") refl)
+
+pub edit_name : chars (codes "edit") ≡ codes "edit"
+edit_name = chars-IsAscii (codes "edit") (ascii (codes "edit") refl)
+
+pub table_name : chars (codes "table") ≡ codes "table"
+table_name = chars-IsAscii (codes "table") (ascii (codes "table") refl)
+
+pub gen_name : chars (codes "gen") ≡ codes "gen"
+gen_name = chars-IsAscii (codes "gen") (ascii (codes "gen") refl)

@@ -1,13 +1,16 @@
 -- Runs that are made up.
-use Rattle.std.proofs.Common.{◌≡◌, ℕ, ◌<◌, ◌+◌, List, drop, get_or, length, refl, ◌∙◌, ap, add-one}
+use Rattle.std.proofs.Common.{◌≡◌, ℕ, zero, suc, ◌<◌, ◌+◌, List, [], ◌∷◌, Result, arith, drop, get_or, length, refl, ◌∙◌, ap, add-one}
+use Rattle.std.specs.Prelude.{Ok, Err}
 use Rattle.std.proofs.Math.Seq.{drop-cons}
-use Rattle.edit_script.specs.Generator.{document, edits_of, sheet}
+use Rattle.edit_script.specs.Draws.{state_after}
+use Rattle.edit_script.specs.Generator.{document, draws_of, edits, edits_of, kind_drawn, section_count, sheet}
 use Rattle.forest.specs.Forest.{Forest}
 use Rattle.generated_texts.specs.Lines.{document_lines}
 use Rattle.marker_engine.specs.Census.{box_count, element_count, saturated}
 use Rattle.marker_engine.specs.Edited.{edited}
 use Rattle.marker_engine.specs.Engines.{Source}
 use Rattle.node_arena.specs.Document.{HasElementRoot}
+use Rattle.node_arena.specs.declared.place_fault.PlaceFault.{PlaceFault}
 use Rattle.plain_types.specs.declared.edit.Edit.{Edit}
 use Rattle.plain_types.specs.declared.node.Node.{Node}
 use Rattle.marker_cli.specs.declared.generated.Tally.{Tally}
@@ -35,3 +38,30 @@ pub numbers_are : (source : Source) (elements boxes lines : ℕ) (tally : Tally)
     → number_lines elements boxes tally.accepted tally.refused lines ≡ numbers outcome
 numbers_are source elements boxes lines tally outcome first second third same =
     (λ i. number_lines (first i) (second i) tally.accepted tally.refused (third i)) ∙ ap numbers same
+
+-- each edit is counted once
+abbrev sum_of : Outcome → ℕ
+sum_of outcome = outcome.accepted + outcome.refused
+
+one_counted : (outcome : Outcome) (answer : Result Source PlaceFault) → sum_of (counted outcome answer) ≡ sum_of outcome + 1
+one_counted outcome (Ok source) = omega arith
+one_counted outcome (Err fault) = omega arith
+
+counted_sum : (script : List Edit) (outcome : Outcome) → sum_of (after_edits script outcome) ≡ sum_of outcome + length script
+counted_sum [] outcome = omega arith
+counted_sum (edit ∷ script) outcome =
+    let first = one_counted outcome (edited outcome.source edit) in
+    let later = counted_sum script (counted outcome (edited outcome.source edit)) in
+    omega (arith, first, later)
+
+edits_long : (sections count state : ℕ) → length (edits sections count state) ≡ count
+unfolding edits
+edits_long sections zero state = refl
+edits_long sections (suc left) state = ap suc (edits_long sections left (state_after (draws_of (kind_drawn state)) state))
+
+pub all_counted : (seed count : ℕ) → (generated seed count).accepted + (generated seed count).refused ≡ count
+unfolding edits_of
+all_counted seed count =
+    let all = counted_sum (edits_of seed count) (unedited (record { tree = document seed count; sheet = sheet })) in
+    let long = edits_long (section_count count) count (state_after (section_count count) seed) in
+    omega (arith, all, long)

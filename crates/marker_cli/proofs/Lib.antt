@@ -8,3 +8,5 @@ mod TreeLemmas
 mod TurnLemmas
 mod GeneratedLemmas
 mod PlayLemmas
+mod FaultLemmas
+mod ReadLemmas

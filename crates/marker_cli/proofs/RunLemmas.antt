@@ -1,78 +1,88 @@
 -- From the words of a run to its command.
-use Rattle.std.proofs.Common.{◌≡◌, ◌∙◌, ◌<◌, ℕ, ℤ, [], length, get_or, arith, List, Option, sym, ap, subst, codes, refl}
-use Rattle.std.specs.Prelude.{Some, None}
+use Rattle.std.proofs.Common.{◌≡◌, ◌∙◌, ℕ, List, Option, Result, sym, ap, subst, refl}
+use Rattle.std.specs.Prelude.{Some, None, Ok, Err}
+use Rattle.edit_script.specs.Scripts.{ReadsAsScript}
 use Rattle.edit_script.specs.declared.command.Command.{Command}
+use Rattle.edit_script.proofs.TotalLaws.{some_reading}
 use Rattle.ports.specs.Files.{Files}
-use Rattle.marker_cli.specs.declared.form.Form.{Form}
-use Rattle.marker_cli.specs.declared.form.Form.TheVariants.{Dump, Edit, Table}
+use Rattle.xhtml_reader.specs.Readings.{ReadsAsDocument}
+use Rattle.xhtml_reader.proofs.Totals.{some_document}
 use Rattle.marker_cli.specs.declared.status.FileAt.TheVariants.{Word, Line}
 use Rattle.marker_cli.specs.declared.status.Status.{Status}
 use Rattle.marker_cli.specs.declared.status.Status.TheVariants.{Usage, WriteFault}
 use Rattle.marker_cli.specs.declared.status.Status.TheVariants as status
-use Rattle.marker_cli.specs.Dump.{dump_output}
-use Rattle.marker_cli.specs.Edit.{edit_output}
+use Rattle.marker_cli.specs.Dump.{DocumentReadsAs, Reading}
+use Rattle.marker_cli.specs.Edit.{ScriptReadsAs}
 use Rattle.marker_cli.specs.Ends.{IsCaused}
 use Rattle.marker_cli.specs.Lines.{message}
 use Rattle.marker_cli.specs.Names.{TellsOfLine}
 use Rattle.marker_cli.specs.Output.{ends}
-use Rattle.marker_cli.specs.Run.{Readings, form_output, output}
-use Rattle.marker_cli.specs.Table.{table_output}
-use Rattle.marker_cli.specs.Words.{IsForm, ReadsAsForm, word}
-use Rattle.marker_cli.proofs.FormLemmas.{command_length, one_form, word_here}
+use Rattle.marker_cli.specs.Run.{AreReadings, Readings, TextsReadAs, form_output, form_size, output, read_size}
+use Rattle.marker_cli.specs.Turns.{text_in}
+use Rattle.marker_cli.specs.Words.{Form, IsForm, ReadsAsForm, dump, edit, gen, table}
+use Rattle.marker_cli.proofs.FormLemmas.{one_form}
 
 -- the output, by the form of the words
 read_as : (words : List (List ℕ)) (form : Form) (read : Option Form) → IsForm words form → ReadsAsForm words read → read ≡ Some form
 read_as words form None is reads = absurd (reads form is)
 read_as words form (Some other) is reads = ap Some (one_form words form other is reads)
 
-pub output_of : (words : List (List ℕ)) (files : Files) (readings : Readings) (form : Form) → IsForm words form → ReadsAsForm words readings.form
-    → form_output words files readings.document readings.script (Some form) ≡ output words files readings
-unfolding output
-output_of words files readings form is reads =
-    sym (ap (λ read. form_output words files readings.document readings.script read) (read_as words form readings.form is reads))
+module _ (words : List (List ℕ)) (files : Files) (readings : Readings) (form : Form) (is : IsForm words form) where
+  pub output_of : ReadsAsForm words readings.form → form_output files readings.document readings.script (Some form) ≡ output files readings
+  unfolding output
+  output_of reads = sym (ap (λ read. form_output files readings.document readings.script read) (read_as words form readings.form is reads))
 
-pub output_dump : (words : List (List ℕ)) (files : Files) (readings : Readings) (document sheet : List ℕ) → IsForm words Dump → ReadsAsForm words readings.form
-    → document ≡ word words 1 → sheet ≡ word words 2 → dump_output files document sheet readings.document ≡ output words files readings
-output_dump words files readings document sheet is reads first second =
-    (λ i. dump_output files (first i) (second i) readings.document) ∙ output_of words files readings Dump is reads
+  pub texts_of : AreReadings words files readings → TextsReadAs files readings.document readings.script (Some form)
+  texts_of reads = subst (λ read. TextsReadAs files readings.document readings.script read) (read_as words form readings.form is reads.form) reads.texts
 
-pub output_edit : (words : List (List ℕ)) (files : Files) (readings : Readings) (document sheet script : List ℕ) → IsForm words Edit → ReadsAsForm words readings.form
-    → document ≡ word words 1 → sheet ≡ word words 2 → script ≡ word words 3
-    → edit_output files document sheet script readings.document readings.script ≡ output words files readings
-output_edit words files readings document sheet script is reads first second third =
-    (λ i. edit_output files (first i) (second i) (third i) readings.document readings.script) ∙ output_of words files readings Edit is reads
+  pub size_same : ReadsAsForm words readings.form → form_size files readings.script (Some form) ≡ read_size files readings
+  size_same reads = sym (ap (λ read. form_size files readings.script read) (read_as words form readings.form is reads))
 
-pub output_table : (words : List (List ℕ)) (files : Files) (readings : Readings) (sheet style : List ℕ) (from to : ℤ) → IsForm words (Table from to)
-    → ReadsAsForm words readings.form → sheet ≡ word words 1 → style ≡ word words 2 → table_output files sheet style from to ≡ output words files readings
-output_table words files readings sheet style from to is reads first second =
-    (λ i. table_output files (first i) (second i) from to) ∙ output_of words files readings (Table from to) is reads
+-- each text has a reading
+some_tree : (files : Files) (document sheet : List ℕ) → (reading : Reading) × DocumentReadsAs files document sheet reading
+some_tree files document sheet = by (text_in (Word 1) (files document)) refl
+  where
+    by : (given : Result (List ℕ) Status) → text_in (Word 1) (files document) ≡ given → (reading : Reading) × DocumentReadsAs files document sheet reading
+    by (Ok text) is =
+        let found = some_document text in
+        (found.0, λ other style same there. let known : text ≡ other = cc (sym is ∙ same) in subst (λ t. ReadsAsDocument t found.0) known found.1)
+    by (Err refusal) is = (Err (1, 1), λ other style same there. absurd (cc (sym is ∙ same)))
+
+some_script : (files : Files) (document sheet script : List ℕ) → (reading : Result (List Command) ℕ) × ScriptReadsAs files document sheet script reading
+some_script files document sheet script = by (text_in (Word 3) (files script)) refl
+  where
+    by : (given : Result (List ℕ) Status) → text_in (Word 3) (files script) ≡ given → (reading : Result (List Command) ℕ) × ScriptReadsAs files document sheet script reading
+    by (Ok text) is =
+        let found = some_reading text in
+        (found.0, λ other style lines first second third. let known : text ≡ lines = cc (sym is ∙ third) in subst (λ t. ReadsAsScript t found.0) known found.1)
+    by (Err refusal) is = (Err 1, λ other style lines first second third. absurd (cc (sym is ∙ third)))
+
+pub some_readings : (words : List (List ℕ)) (files : Files) (form : Option Form) → ReadsAsForm words form → (readings : Readings) × AreReadings words files readings
+some_readings words files None is = (record { form = None; document = Err (1, 1); script = Err 1 }, record { form = is; texts = tt })
+some_readings words files (Some (dump document sheet)) is =
+    let tree = some_tree files document sheet in
+    (record { form = Some (dump document sheet); document = tree.0; script = Err 1 }, record { form = is; texts = tree.1 })
+some_readings words files (Some (edit document sheet script)) is =
+    let tree = some_tree files document sheet in
+    let commands = some_script files document sheet script in
+    (record { form = Some (edit document sheet script); document = tree.0; script = commands.0 }, record { form = is; texts = (tree.1, commands.1) })
+some_readings words files (Some (table sheet style from to)) is =
+    (record { form = Some (table sheet style from to); document = Err (1, 1); script = Err 1 }, record { form = is; texts = tt })
+some_readings words files (Some (gen seed count)) is =
+    (record { form = Some (gen seed count); document = Err (1, 1); script = Err 1 }, record { form = is; texts = tt })
 
 no_form : (words : List (List ℕ)) (form : Option Form) → ReadsAsForm words None → ReadsAsForm words form → form ≡ None
 no_form words None none reads = refl
 no_form words (Some form) none reads = absurd (none form reads)
 
-pub output_usage : (words : List (List ℕ)) (files : Files) (readings : Readings) → ReadsAsForm words None → ReadsAsForm words readings.form → ends Usage ≡ output words files readings
+pub output_usage : (words : List (List ℕ)) (files : Files) (readings : Readings) → ReadsAsForm words None → ReadsAsForm words readings.form → ends Usage ≡ output files readings
 unfolding output
 output_usage words files readings none reads =
-    sym (ap (λ form. form_output words files readings.document readings.script form) (no_form words readings.form none reads))
+    sym (ap (λ form. form_output files readings.document readings.script form) (no_form words readings.form none reads))
 
 -- words of one form are of no other
 pub not_both : {P : Type 0} (words : List (List ℕ)) (form other : Form) → IsForm words form → IsForm words other → (other ≡ form → ⊥) → P
 not_both words form other is reads differ = absurd (differ (one_form words form other is reads))
-
--- a word of a command that was read
-pub dump_long : (words : List (List ℕ)) → IsForm words Dump → length words ≡ 3
-dump_long words is = command_length (codes "dump") 3 words is
-
-pub edit_long : (words : List (List ℕ)) → IsForm words Edit → length words ≡ 4
-edit_long words is = command_length (codes "edit") 4 words is
-
-pub table_long : (words : List (List ℕ)) (from to : ℤ) → IsForm words (Table from to) → length words ≡ 5
-table_long words from to is = command_length (codes "table") 5 words is.0
-
-pub word_read : (words : List (List ℕ)) (place count : ℕ) (read text : List ℕ) → length words ≡ count → place < count → read ≡ get_or words place read → text ≡ read
-    → text ≡ word words place
-word_read words place count read text long below got same = same ∙ word_here words place read [] (omega arith) got
 
 -- the cause of a status
 pub cause_as : (U R L W : Type 0) (status other : Status) → IsCaused U R L W status → status ≡ other → IsCaused U R L W other

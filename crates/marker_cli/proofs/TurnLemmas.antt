@@ -15,22 +15,20 @@ use Rattle.marker_engine.specs.Engines.{Source}
 use Rattle.node_arena.specs.declared.place_fault.PlaceFault.{PlaceFault}
 use Rattle.plain_types.specs.declared.node.Node.{Node}
 use Rattle.ports.specs.Files.{Files}
-use Rattle.marker_cli.specs.declared.form.Form.{Form}
-use Rattle.marker_cli.specs.declared.form.Form.TheVariants.{Dump, Edit, Table, Gen}
 use Rattle.marker_cli.specs.declared.status.FileAt.{FileAt}
 use Rattle.marker_cli.specs.declared.status.FileAt.TheVariants.{Word, Line}
 use Rattle.marker_cli.specs.declared.status.Status.{Status}
 use Rattle.marker_cli.specs.declared.status.Status.TheVariants.{Memory, NotUtf8, ReadFault, TooLarge, WriteFault}
 use Rattle.marker_cli.specs.declared.status.Status.TheVariants as status
-use Rattle.marker_cli.specs.Dump.{Reading, dump_output, malformed, tree_of, well_formed}
+use Rattle.marker_cli.specs.Dump.{Reading, dump_output, tree_of}
 use Rattle.marker_cli.specs.Edit.{ScriptReadsAs, action_output, after_edit, commands_of, edit_output, play}
 use Rattle.marker_cli.specs.Ends.{EndsAs, ReadsFailed, no_memory, not_read, not_written, whole}
 use Rattle.marker_cli.specs.Names.{file_of, name_at, sheet_name}
 use Rattle.marker_cli.specs.Output.{ComesAfter, Output, ends, goes_on, status_of, turn, writes}
-use Rattle.marker_cli.specs.Run.{AreReadings, HasTurn, Readings, commands_in, form_output, name_in, output}
+use Rattle.marker_cli.specs.Run.{AreReadings, HasTurn, Readings, TextsReadAs, commands_in, form_output, name_in, output}
 use Rattle.marker_cli.specs.Table.{table_output}
 use Rattle.marker_cli.specs.Turns.{text_in, text_of, with_text}
-use Rattle.marker_cli.specs.Words.{word}
+use Rattle.marker_cli.specs.Words.{Form, ReadsAsForm, dump, edit, gen, table, word}
 
 -- a file that is held doesn't end a run as one that isn't
 text_gives : (file : FileAt) (bytes : List ℕ) (other : FileAt) → text_of file bytes ≡ Err (ReadFault other) → ⊥
@@ -81,7 +79,7 @@ turns_edit files name number source (Err fault) next follows = at_bytes _ (follo
 
 turns_action : (files : Files) (name : FileAt → List ℕ) (number : ℕ) (action : Action) (source : Source) (next : Source → Output) → name (Line number) ≡ file_of action
     → ((now : Source) → AreTurns files name (next now)) → AreTurns files name (action_output files number action source next)
-turns_action files name number (Change edit) source next is follows = turns_edit files name number source (edited source edit) next follows
+turns_action files name number (Change change) source next is follows = turns_edit files name number source (edited source change) next follows
 turns_action files name number (SheetFile file) source next is follows = turns_text files name (Line number) _ file is (λ text found. follows _)
 turns_action files name number Show source next is follows = at_bytes _ (follows source)
 
@@ -109,8 +107,8 @@ named_from {number} name (command_line {commands = commands} action counts is re
 -- The turns of each command.
 module _ (files : Files) (name : FileAt → List ℕ) where
   turns_dumped : (style : List ℕ) (reading : Reading) → AreTurns files name (goes_on (tree_of reading) (λ tree. writes (fresh_dump style tree) (ends status.Ok)))
-  turns_dumped style (well_formed tree) = at_bytes _ (at_end _ (λ file fault. cc fault))
-  turns_dumped style (malformed line column) = at_end _ (λ file fault. cc fault)
+  turns_dumped style (Ok tree) = at_bytes _ (at_end _ (λ file fault. cc fault))
+  turns_dumped style (Err place) = at_end _ (λ file fault. cc fault)
 
   turns_dump : (document sheet : List ℕ) (reading : Reading) → name (Word 1) ≡ document → name (Word 2) ≡ sheet
       → AreTurns files name (dump_output files document sheet reading)
@@ -130,8 +128,8 @@ module _ (files : Files) (name : FileAt → List ℕ) where
       → ((line : ℕ) → name (Line line) ≡ sheet_name (commands_in read) line)
       → AreTurns files name (goes_on (tree_of reading) (λ tree.
       goes_on (commands_of read) (λ commands. play files commands (record { tree = tree; sheet = style }))))
-  turns_tree lines style (well_formed tree) read reads named = turns_commands lines style tree read reads named
-  turns_tree lines style (malformed line column) read reads named = at_end _ (λ file fault. cc fault)
+  turns_tree lines style (Ok tree) read reads named = turns_commands lines style tree read reads named
+  turns_tree lines style (Err place) read reads named = at_end _ (λ file fault. cc fault)
 
   turns_script : (document sheet script : List ℕ) (reading : Reading) (read : Result (List Command) ℕ) → name (Word 1) ≡ document → name (Word 2) ≡ sheet
       → name (Word 3) ≡ script → ScriptReadsAs files document sheet script read → ((line : ℕ) → name (Line line) ≡ sheet_name (commands_in read) line)
@@ -143,20 +141,21 @@ module _ (files : Files) (name : FileAt → List ℕ) where
       turns_tree lines style reading read (reads text style lines found held there) named)))
 
 -- the turns of a run
-turns_form : (words : List (List ℕ)) (files : Files) (document : Reading) (script : Result (List Command) ℕ) (form : Option Form)
-    → ScriptReadsAs files (word words 1) (word words 2) (word words 3) script
-    → AreTurns files (λ file. name_at words (commands_in script) file) (form_output words files document script form)
-turns_form words files document script None reads = at_end _ (λ file fault. cc fault)
-turns_form words files document script (Some Dump) reads = turns_dump files _ (word words 1) (word words 2) document refl refl
-turns_form words files document script (Some Edit) reads =
-    turns_script files _ (word words 1) (word words 2) (word words 3) document script refl refl refl reads (λ line. refl)
-turns_form words files document script (Some (Table from to)) reads = turns_table files _ (word words 1) (word words 2) from to refl
-turns_form words files document script (Some (Gen seed count)) reads = at_bytes _ (at_end _ (λ file fault. cc fault))
+turns_form : (words : List (List ℕ)) (files : Files) (document : Reading) (script : Result (List Command) ℕ) (form : Option Form) → ReadsAsForm words form
+    → TextsReadAs files document script form → AreTurns files (λ file. name_at words (commands_in script) file) (form_output files document script form)
+turns_form words files document script None is reads = at_end _ (λ file fault. cc fault)
+turns_form words files document script (Some (dump doc sheet)) is reads =
+    turns_dump files _ doc sheet document (ap (λ ws. word ws 1) is.written) (ap (λ ws. word ws 2) is.written)
+turns_form words files document script (Some (edit doc sheet commands)) is reads =
+    turns_script files _ doc sheet commands document script (ap (λ ws. word ws 1) is.written) (ap (λ ws. word ws 2) is.written) (ap (λ ws. word ws 3) is.written)
+    reads.1 (λ line. refl)
+turns_form words files document script (Some (table sheet style from to)) is reads = turns_table files _ sheet style from to (ap (λ ws. word ws 1) is.written)
+turns_form words files document script (Some (gen seed count)) is reads = at_bytes _ (at_end _ (λ file fault. cc fault))
 
 pub turns_run : (words : List (List ℕ)) (files : Files) (readings : Readings) → AreReadings words files readings
-    → AreTurns files (name_in words readings) (output words files readings)
+    → AreTurns files (name_in words readings) (output files readings)
 unfolding output
-turns_run words files readings reads = turns_form words files readings.document readings.script readings.form reads.script
+turns_run words files readings reads = turns_form words files readings.document readings.script readings.form reads.form reads.texts
 
 -- What follows of turns.
 module _ (files : Files) (name : FileAt → List ℕ) (file : FileAt) where

@@ -1,11 +1,10 @@
 -- The command `dump DOC SHEET` (our own).
 use Rattle.std.specs.Prelude.{◌≡◌, ℕ, ◌*◌, List, Result, Ok, Err}
-use Rattle.definitions.specs.Faults.{FailsAsDocument}
-use Rattle.definitions.specs.Texts.{IsDocumentText}
 use Rattle.forest.specs.Forest.{Forest, size}
 use Rattle.generated_texts.specs.Lines.{fresh_dump}
 use Rattle.plain_types.specs.declared.node.Node.{Node}
 use Rattle.ports.specs.Files.{Files}
+use Rattle.xhtml_reader.specs.Readings.{ReadsAsDocument}
 use Rattle.marker_cli.specs.declared.status.FileAt.TheVariants.{Word}
 use Rattle.marker_cli.specs.declared.status.Status.{Status}
 use Rattle.marker_cli.specs.declared.status.Status.TheVariants.{BadDocument}
@@ -14,23 +13,18 @@ use Rattle.marker_cli.specs.Output.{Output, ends, writes, goes_on}
 use Rattle.marker_cli.specs.Turns.{text_in, with_text}
 
 -- what a text reads as, which is to be a document: its tree, or the line and the column of its fault
-pub data Reading : Type 0 where
-  well_formed : Forest Node → Reading
-  malformed : (line column : ℕ) → Reading
-
-abbrev pub ReadsAs : List ℕ → Reading → Type 0
-ReadsAs text (well_formed tree) = IsDocumentText text tree
-ReadsAs text (malformed line column) = FailsAsDocument text line column
+abbrev pub Reading : Type 0
+Reading = Result (Forest Node) (ℕ × ℕ)
 
 -- DOC reads as this, where both files have texts
 abbrev pub DocumentReadsAs : Files → List ℕ → List ℕ → Reading → Type 0
 DocumentReadsAs files document sheet reading =
-    (text style : List ℕ) → text_in (Word 1) (files document) ≡ Ok text → text_in (Word 2) (files sheet) ≡ Ok style → ReadsAs text reading
+    (text style : List ℕ) → text_in (Word 1) (files document) ≡ Ok text → text_in (Word 2) (files sheet) ≡ Ok style → ReadsAsDocument text reading
 
 -- the tree of a document, or the status with which it ends the run
 abbrev pub tree_of : Reading → Result (Forest Node) Status
-tree_of (well_formed tree) = Ok tree
-tree_of (malformed line column) = Err (BadDocument line column)
+tree_of (Ok tree) = Ok tree
+tree_of (Err place) = Err (BadDocument place.0 place.1)
 
 -- the output of `dump DOC SHEET`, where DOC reads as this
 abbrev pub dump_output : Files → List ℕ → List ℕ → Reading → Output
@@ -42,5 +36,5 @@ dump_output files document sheet reading =
 
 -- an evaluation has two walks, of at most three steps a node
 abbrev pub most_steps : Reading → ℕ
-most_steps (well_formed tree) = 6 * size tree
-most_steps (malformed line column) = 0
+most_steps (Ok tree) = 6 * size tree
+most_steps (Err place) = 0

@@ -49,3 +49,27 @@ Gives given (Err refusal) = (refusal ≡ Memory) ⊎ (given ≡ Err refusal)
 -- a part that writes stops for want of memory, or since a write failed
 abbrev pub IsPutCaused : {A : Type 0} → Type 0 → Result A Status → Type 0
 IsPutCaused failed result = IfErr result (λ error. (error ≡ Memory) ⊎ ((error ≡ WriteFault) × failed))
+
+-- with this status all that was written has gone out
+abbrev pub IsSettled : Status → Type 0
+IsSettled status.Ok = Unit {0}
+IsSettled Memory = ⊥
+IsSettled status.Usage = ⊥
+IsSettled (ReadFault file) = Unit {0}
+IsSettled (status.TooLarge file) = Unit {0}
+IsSettled (status.NotUtf8 file offset) = Unit {0}
+IsSettled (status.BadDocument line column) = Unit {0}
+IsSettled (status.BadScript number) = Unit {0}
+IsSettled WriteFault = ⊥
+
+-- a part of a run that stops does so with a status other than Ok
+abbrev pub IsStop : Status → Type 0
+IsStop status.Ok = ⊥
+IsStop Memory = Unit {0}
+IsStop status.Usage = Unit {0}
+IsStop (ReadFault file) = Unit {0}
+IsStop (status.TooLarge file) = Unit {0}
+IsStop (status.NotUtf8 file offset) = Unit {0}
+IsStop (status.BadDocument line column) = Unit {0}
+IsStop (status.BadScript number) = Unit {0}
+IsStop WriteFault = Unit {0}

@@ -7,6 +7,7 @@ pub mod Names
 pub mod Output
 pub mod Run
 pub mod Stands
+pub mod Statuses
 pub mod Table
 pub mod Tallies
 pub mod Turns

@@ -1,9 +1,10 @@
 -- A run, from its words and files to its output (our own).
-use Rattle.std.specs.Prelude.{◌⊎◌, ℕ, ℤ, List, [], Option, Some, None, Result, Ok, Err}
+use Rattle.std.specs.Prelude.{◌≡◌, ◌⊎◌, ℕ, ℤ, ◌+◌, List, [], ◌∷◌, length, Option, Some, None, Result, Ok, Err}
+use Rattle.std.specs.Option.{option_map_or}
+use Rattle.edit_script.specs.declared.action.Action.{Action}
+use Rattle.edit_script.specs.declared.action.Action.TheVariants.{Change, SheetFile, Show}
 use Rattle.edit_script.specs.declared.command.Command.{Command}
 use Rattle.ports.specs.Files.{Files}
-use Rattle.marker_cli.specs.declared.form.Form.{Form}
-use Rattle.marker_cli.specs.declared.form.Form.TheVariants.{Dump, Edit, Table, Gen}
 use Rattle.marker_cli.specs.declared.status.FileAt.{FileAt}
 use Rattle.marker_cli.specs.declared.status.Status.TheVariants.{Usage}
 use Rattle.marker_cli.specs.Dump.{DocumentReadsAs, Reading, dump_output}
@@ -12,7 +13,7 @@ use Rattle.marker_cli.specs.Generated.{generated_output}
 use Rattle.marker_cli.specs.Names.{name_at}
 use Rattle.marker_cli.specs.Output.{ComesAfter, Output, ends}
 use Rattle.marker_cli.specs.Table.{table_output}
-use Rattle.marker_cli.specs.Words.{IsForm, ReadsAsForm, word}
+use Rattle.marker_cli.specs.Words.{Form, IsForm, ReadsAsForm, dump, edit, gen, table}
 
 -- what the words and the texts of a run read as
 pub record Readings : Type 0 where
@@ -20,23 +21,34 @@ pub record Readings : Type 0 where
   pub document : Reading
   pub script : Result (List Command) ℕ
 
+-- DOC and SCRIPT of the form read so, as far as it has them
+abbrev pub TextsReadAs : Files → Reading → Result (List Command) ℕ → Option Form → Type 0
+TextsReadAs files document script None = Unit {0}
+TextsReadAs files document script (Some (dump doc sheet)) = DocumentReadsAs files doc sheet document
+TextsReadAs files document script (Some (edit doc sheet commands)) = DocumentReadsAs files doc sheet document × ScriptReadsAs files doc sheet commands script
+TextsReadAs files document script (Some (table sheet style from to)) = Unit {0}
+TextsReadAs files document script (Some (gen seed count)) = Unit {0}
+
 -- They do read so. Of files this is asked only where they have texts, as well as those that are read before them.
 pub record AreReadings (words : List (List ℕ)) (files : Files) (readings : Readings) : Type 0 where
   pub form : ReadsAsForm words readings.form
-  pub document : DocumentReadsAs files (word words 1) (word words 2) readings.document
-  pub script : ScriptReadsAs files (word words 1) (word words 2) (word words 3) readings.script
+  pub texts : TextsReadAs files readings.document readings.script readings.form
+
+-- Over a shelf that tells its files, this holds of what the words and the texts of these files read as.
+abbrev pub OverTold : Option Files → List (List ℕ) → (Files → Readings → Type 0) → Type 0
+OverTold held words Holds = (files : Files) (readings : Readings) → held ≡ Some files → AreReadings words files readings → Holds files readings
 
 -- the output of words of this form
-abbrev pub form_output : List (List ℕ) → Files → Reading → Result (List Command) ℕ → Option Form → Output
-form_output words files document script None = ends Usage
-form_output words files document script (Some Dump) = dump_output files (word words 1) (word words 2) document
-form_output words files document script (Some Edit) = edit_output files (word words 1) (word words 2) (word words 3) document script
-form_output words files document script (Some (Table from to)) = table_output files (word words 1) (word words 2) from to
-form_output words files document script (Some (Gen seed count)) = generated_output seed count
+abbrev pub form_output : Files → Reading → Result (List Command) ℕ → Option Form → Output
+form_output files document script None = ends Usage
+form_output files document script (Some (dump doc sheet)) = dump_output files doc sheet document
+form_output files document script (Some (edit doc sheet commands)) = edit_output files doc sheet commands document script
+form_output files document script (Some (table sheet style from to)) = table_output files sheet style from to
+form_output files document script (Some (gen seed count)) = generated_output seed count
 
--- the output that these words have over these files, where they and the texts read so
-unfoldable pub output : List (List ℕ) → Files → Readings → Output
-output words files readings = form_output words files readings.document readings.script readings.form
+-- the output over these files of words and texts that read so
+unfoldable pub output : Files → Readings → Output
+output files readings = form_output files readings.document readings.script readings.form
 
 -- the turn of this file comes in a run with this output
 abbrev pub HasTurn : Output → FileAt → Type 0
@@ -53,4 +65,28 @@ name_in words readings file = name_at words (commands_in readings.script) file
 
 -- the words are of a form that evaluates nothing, or of none
 abbrev pub TakesNoStep : List (List ℕ) → Type 0
-TakesNoStep words = ReadsAsForm words None ⊎ ((from to : ℤ) × IsForm words (Table from to))
+TakesNoStep words = ReadsAsForm words None ⊎ ((sheet style : List ℕ) × (from to : ℤ) × IsForm words (table sheet style from to))
+
+-- How many bytes a run that is Ok takes from its files: each that a word or a command names once, whole.
+
+abbrev pub size_of : Files → List ℕ → ℕ
+size_of files name = option_map_or length (files name) 0
+
+abbrev pub action_size : Files → Action → ℕ
+action_size files (Change change) = 0
+action_size files (SheetFile name) = size_of files name
+action_size files Show = 0
+
+abbrev pub commands_size : Files → List Command → ℕ
+commands_size files [] = 0
+commands_size files (command ∷ commands) = action_size files command.action + commands_size files commands
+
+abbrev pub form_size : Files → Result (List Command) ℕ → Option Form → ℕ
+form_size files script None = 0
+form_size files script (Some (dump doc sheet)) = size_of files doc + size_of files sheet
+form_size files script (Some (edit doc sheet commands)) = size_of files doc + (size_of files sheet + (size_of files commands + commands_size files (commands_in script)))
+form_size files script (Some (table sheet style from to)) = size_of files sheet
+form_size files script (Some (gen seed count)) = 0
+
+abbrev pub read_size : Files → Readings → ℕ
+read_size files readings = form_size files readings.script readings.form

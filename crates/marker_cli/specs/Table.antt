@@ -1,7 +1,7 @@
 -- The command `table SHEET STYLE FROM TO` (our own).
 use Rattle.std.specs.Prelude.{ℕ, ℤ, List}
 use Rattle.css_reader.specs.Sheets.{sheet as sheet_of}
-use Rattle.definitions.specs.CounterStyles.{finished_styles}
+use Rattle.css_definitions.specs.CounterStyles.{finished_styles}
 use Rattle.plain_types.specs.declared.style_ref.StyleRef.TheVariants.{Name}
 use Rattle.ports.specs.Files.{Files}
 use Rattle.table_text.specs.Rows.{rows, values_between}

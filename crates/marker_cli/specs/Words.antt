@@ -1,49 +1,71 @@
 -- The words of a run (our own).
-use Rattle.std.specs.Prelude.{◌≡◌, ℕ, ℤ, pos, ◌≤◌, ◌≤ℤ◌, ◌+ℤ◌, Bool, ◌==◌, ◌&&◌, IsTrue, List, [], length, get_or, codes, encode_utf8_all, FitsSigned, Option, Some, None}
+use Rattle.std.specs.Prelude.{◌≡◌, ℕ, ℤ, pos, ◌≤◌, ◌≤ℤ◌, ◌+ℤ◌, List, [], ◌∷◌, get_or, codes, Option, Some, None}
 use Rattle.std.specs.Fmt.{decimal, signed_decimal}
-use Rattle.std.specs.Int.{w32}
-use Rattle.std.specs.Str.{bytes_eq}
-use Rattle.marker_cli.specs.declared.form.Form.{Form}
-use Rattle.marker_cli.specs.declared.form.Form.TheVariants.{Dump, Edit, Table, Gen}
+use Rattle.plain_types.specs.declared.count.TheConstants.{COUNT_LOW, COUNT_HIGH}
+use Rattle.marker_cli.specs.declared.form.Form.{Form as ReadForm}
+use Rattle.marker_cli.specs.declared.form.Form.TheVariants as read
 
--- the word at this place, from 0
-abbrev pub word : List (List ℕ) → ℕ → List ℕ
-word words place = get_or words place []
+-- what words ask for: a command with its operands
+pub data Form : Type 0 where
+  dump : (document sheet : List ℕ) → Form
+  edit : (document sheet script : List ℕ) → Form
+  table : (sheet style : List ℕ) (from to : ℤ) → Form
+  gen : (seed count : ℕ) → Form
 
--- whether the words begin with this command and are so many
-abbrev pub is_command : List ℕ → ℕ → List (List ℕ) → Bool
-is_command name count words = length words == count && bytes_eq (encode_utf8_all (word words 0)) name
+-- the words of it; numbers are in decimal
+abbrev pub words_of : Form → List (List ℕ)
+words_of (dump document sheet) = codes "dump" ∷ document ∷ sheet ∷ []
+words_of (edit document sheet script) = codes "edit" ∷ document ∷ sheet ∷ script ∷ []
+words_of (table sheet style from to) = codes "table" ∷ sheet ∷ style ∷ signed_decimal from ∷ signed_decimal to ∷ []
+words_of (gen seed count) = codes "gen" ∷ decimal seed ∷ decimal count ∷ []
+
+-- a value that a counter may have
+pub record IsCount (number : ℤ) : Type 0 where
+  pub low : COUNT_LOW ≤ℤ number
+  pub high : number ≤ℤ COUNT_HIGH
 
 -- a table has 1 to 10000 lines
 abbrev pub IsSpan : ℤ → ℤ → Type 0
 IsSpan from to = (from ≤ℤ to) × (to ≤ℤ (from +ℤ pos 9999))
 
+-- the first and the last value of a table
+pub record IsTable (from to : ℤ) : Type 0 where
+  pub from_fits : IsCount from
+  pub to_fits : IsCount to
+  pub span : IsSpan from to
+
 -- a made-up run has 1 to 100000 edits
 abbrev pub IsRun : ℕ → ℕ → Type 0
 IsRun seed count = (seed ≤ 2147483647) × (1 ≤ count) × (count ≤ 100000)
 
--- `table SHEET STYLE FROM TO`: both are numbers in 32 bits, in decimal
-pub record IsTable (words : List (List ℕ)) (from to : ℤ) : Type 0 where
-  pub from_written : word words 3 ≡ signed_decimal from
-  pub to_written : word words 4 ≡ signed_decimal to
-  pub from_fits : FitsSigned w32 from
-  pub to_fits : FitsSigned w32 to
-  pub span : IsSpan from to
-
--- `gen SEED COUNT`: both are numbers in decimal
-pub record IsGen (words : List (List ℕ)) (seed count : ℕ) : Type 0 where
-  pub seed_written : word words 1 ≡ decimal seed
-  pub count_written : word words 2 ≡ decimal count
-  pub run : IsRun seed count
+-- its numbers are as large as they may be
+abbrev pub IsWithin : Form → Type 0
+IsWithin (dump document sheet) = Unit {0}
+IsWithin (edit document sheet script) = Unit {0}
+IsWithin (table sheet style from to) = IsTable from to
+IsWithin (gen seed count) = IsRun seed count
 
 -- the words are of this form
-abbrev pub IsForm : List (List ℕ) → Form → Type 0
-IsForm words Dump = IsTrue (is_command (codes "dump") 3 words)
-IsForm words Edit = IsTrue (is_command (codes "edit") 4 words)
-IsForm words (Table from to) = IsTrue (is_command (codes "table") 5 words) × IsTable words from to
-IsForm words (Gen seed count) = IsTrue (is_command (codes "gen") 3 words) × IsGen words seed count
+pub record IsForm (words : List (List ℕ)) (form : Form) : Type 0 where
+  pub written : words ≡ words_of form
+  pub within : IsWithin form
 
 -- the words are of this form, or of none
 abbrev pub ReadsAsForm : List (List ℕ) → Option Form → Type 0
 ReadsAsForm words (Some form) = IsForm words form
 ReadsAsForm words None = (form : Form) → IsForm words form → ⊥
+
+-- what the code read of words
+abbrev pub form_of : ReadForm → Form
+form_of (read.Dump document sheet) = dump document.now sheet.now
+form_of (read.Edit document sheet script) = edit document.now sheet.now script.now
+form_of (read.Table sheet style from to) = table sheet.now style.now from to
+form_of (read.Gen seed count) = gen seed count
+
+abbrev pub read_form_of : Option ReadForm → Option Form
+read_form_of None = None
+read_form_of (Some form) = Some (form_of form)
+
+-- the word at this place, from 0
+abbrev pub word : List (List ℕ) → ℕ → List ℕ
+word words place = get_or words place []

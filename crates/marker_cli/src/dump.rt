@@ -5,12 +5,13 @@ ghost use Rattle.std.specs.Str.{chars};
 ghost use Rattle.forest.specs.Forest.{size};
 ghost use Rattle.generated_texts.specs.Lines.{fresh_dump};
 ghost use Rattle.node_arena.specs.Document.{HasElementRoot};
-ghost use Rattle.ports.specs.Causes.{Rose, RoseAbove};
+ghost use Rattle.ports.specs.Causes.{Raises, Rose, RoseAbove};
 ghost use Rattle.ports.specs.Files.{Files};
 ghost use Rattle.ports.specs.Grown.{grown, GrowsByFront};
 ghost use Rattle.marker_cli.specs.Dump.{DocumentReadsAs, Reading, dump_output, most_steps};
-ghost use Rattle.marker_cli.specs.Ends.{EndsAs, IsCaused, IsPutCaused, ReadsFailed, ended};
+ghost use Rattle.marker_cli.specs.Ends.{EndsAs, IsCaused, IsPutCaused, IsStop, ReadsFailed, ended};
 ghost use Rattle.marker_cli.specs.Names.{TellsOfLine};
+ghost use Rattle.marker_cli.specs.Run.{size_of};
 
 use crate::fetch_text::fetch_text;
 use crate::read_texts::read_tree;
@@ -59,7 +60,10 @@ pub fn dump<S: Shelf, O: Sink, L: Ledger>(
     ensures cause { IsCaused ⊥ (Rose (S.faults shelf.old) (S.faults shelf.new)) (RoseAbove 16777216 (S.taken shelf.old) (S.taken shelf.new))
         (Rose (O.faults out.old) (O.faults out.new)) (ended result) }
     ensures file { ¬ (TellsOfLine (ended result)) }
+    ensures stops { IfErr result IsStop }
     ensures faults { O.faults out.old ≤ O.faults out.new }
+    ensures reads { (files : Files) → S.held shelf.old ≡ Some files
+        → OnOk result (Raises (S.taken shelf.old) (S.taken shelf.new) (size_of files (chars document.now) + size_of files (chars sheet.now))) }
     ensures steps { (files : Files) (reading : Reading) → S.held shelf.old ≡ Some files
         → DocumentReadsAs files (chars document.now) (chars sheet.now) reading → steps.new ≤ steps.old + most_steps reading }
 {

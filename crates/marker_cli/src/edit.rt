@@ -1,14 +1,15 @@
 //! The command `edit DOC SHEET SCRIPT`.
 
-ghost use Rattle.std.specs.Prelude.{◌≡◌, ◌≤◌, ℕ, List, Ok, Result, Some};
+ghost use Rattle.std.specs.Prelude.{◌≡◌, ◌≤◌, ◌+◌, ℕ, IfErr, List, Ok, OnOk, Result, Some};
 ghost use Rattle.std.specs.Str.{chars};
 ghost use Rattle.edit_script.specs.declared.command.Command as command;
-ghost use Rattle.ports.specs.Causes.{Rose, RoseAbove};
+ghost use Rattle.ports.specs.Causes.{Raises, Rose, RoseAbove};
 ghost use Rattle.ports.specs.Files.{Files};
 ghost use Rattle.marker_cli.specs.Dump.{DocumentReadsAs, Reading};
 ghost use Rattle.marker_cli.specs.Edit.{ScriptReadsAs, edit_output};
-ghost use Rattle.marker_cli.specs.Ends.{EndsAs, IsCaused, ReadsFailed, ended};
+ghost use Rattle.marker_cli.specs.Ends.{EndsAs, IsCaused, IsStop, ReadsFailed, ended};
 ghost use Rattle.marker_cli.specs.Names.{TellsOfLine};
+ghost use Rattle.marker_cli.specs.Run.{commands_in, commands_size, size_of};
 
 use crate::fetch_text::fetch_text;
 use crate::play::play;
@@ -44,6 +45,10 @@ pub fn edit<S: Shelf, O: Sink, L: Ledger>(
     ensures cause { IsCaused ⊥ (Rose (S.faults shelf.old) (S.faults shelf.new)) (RoseAbove 16777216 (S.taken shelf.old) (S.taken shelf.new))
         (Rose (O.faults out.old) (O.faults out.new)) (ended result) }
     ensures faults { O.faults out.old ≤ O.faults out.new }
+    ensures stops { IfErr result IsStop }
+    ensures reads { (files : Files) (read : Result (List command.Command) ℕ) → S.held shelf.old ≡ Some files
+        → ScriptReadsAs files (chars document.now) (chars sheet.now) (chars script.now) read → OnOk result (Raises (S.taken shelf.old) (S.taken shelf.new)
+        (size_of files (chars document.now) + (size_of files (chars sheet.now) + (size_of files (chars script.now) + commands_size files (commands_in read))))) }
 {
     let text = fetch_text(alloc, shelf, FileAt::Word(1), document)?;
     let style = fetch_text(alloc, shelf, FileAt::Word(2), sheet)?;

@@ -1,11 +1,12 @@
 //! The text of a file in its turn.
 
-ghost use Rattle.std.specs.Prelude.{◌≡◌, ◌≤◌, Some};
+ghost use Rattle.std.specs.Prelude.{◌≡◌, ◌≤◌, IfErr, OnOk, Some};
 ghost use Rattle.std.specs.Str.{chars};
-ghost use Rattle.ports.specs.Causes.{Rose, RoseAbove};
+ghost use Rattle.ports.specs.Causes.{Raises, Rose, RoseAbove};
 ghost use Rattle.ports.specs.Files.{Files};
-ghost use Rattle.marker_cli.specs.Ends.{Gives, IsCaused, ReadsFailed, ended};
+ghost use Rattle.marker_cli.specs.Ends.{Gives, IsCaused, IsStop, ReadsFailed, ended};
 ghost use Rattle.marker_cli.specs.Names.{IsOfLine, TellsOfLine};
+ghost use Rattle.marker_cli.specs.Run.{size_of};
 ghost use Rattle.marker_cli.specs.Turns.{FetchesText, text_of};
 
 use crate::status::{FileAt, Status};
@@ -17,6 +18,7 @@ use std::alloc::Global;
 fn text_of(alloc: Global, file: FileAt, bytes: &[u8]) -> Result<Text, Status>
     ensures text { Gives (text_of file bytes.now) result }
     ensures file { TellsOfLine (ended result) → IsOfLine file }
+    ensures stops { IfErr result IsStop }
 {
     match str::from_utf8(bytes) {
         Ok(text) => Ok(Text::from_str(alloc, text)?),
@@ -38,8 +40,10 @@ pub fn fetch_text<S: Shelf>(
         → FetchesText (ReadsFailed (S.honest shelf.old) (S.faults shelf.old) (S.faults shelf.new)) file (files (chars name.now)) result }
     ensures cause { IsCaused ⊥ (Rose (S.faults shelf.old) (S.faults shelf.new)) (RoseAbove 16777216 (S.taken shelf.old) (S.taken shelf.new)) ⊥ (ended result) }
     ensures file { TellsOfLine (ended result) → IsOfLine file }
+    ensures stops { IfErr result IsStop }
     ensures faults { S.faults shelf.old ≤ S.faults shelf.new }
     ensures taken { S.taken shelf.old ≤ S.taken shelf.new }
+    ensures came { (files : Files) → S.held shelf.old ≡ Some files → OnOk result (Raises (S.taken shelf.old) (S.taken shelf.new) (size_of files (chars name.now))) }
     ensures held { S.held shelf.new ≡ S.held shelf.old }
     ensures honest { S.honest shelf.new ≡ S.honest shelf.old }
 {

@@ -1,56 +1,63 @@
 //! What the words ask for.
 
-ghost use Rattle.std.specs.Prelude.{◌≡◌, ◌<◌, ◌^◌, ◌↔◌, ℤ, ℕ, pos, ◌≤ℤ◌, ◌+ℤ◌, ◌≤◌, FitsSigned, IfNone, IfSome, IsTrue, length};
+ghost use Rattle.std.specs.Prelude.{◌≡◌, ◌<◌, ◌↔◌, ℤ, ℕ, ◌≤ℤ◌, IfNone, IfSome, IsTrue, length};
 ghost use Rattle.std.specs.Fmt.{decimal, signed_decimal};
-ghost use Rattle.std.specs.Int.{w32};
-ghost use Rattle.marker_cli.specs.Words.{IsGen, IsRun, IsSpan, IsTable, ReadsAsForm, is_command};
+ghost use Rattle.std.specs.Str.{chars};
+ghost use Rattle.marker_cli.specs.Words.{IsCount, IsRun, IsSpan, IsTable, ReadsAsForm, read_form_of, word};
 
+use edit_script::words::read_natural;
 use itoa::Buffer;
+use plain_types::count::Count;
 use plain_types::text::Text;
 
-/// A form of words. The names of files are left where they stand.
-#[derive(Clone, Copy, Debug, PartialEq, Eq)]
-pub enum Form {
+/// A form of words, with its operands.
+#[derive(Clone, Copy)]
+pub enum Form<'a> {
     /// `dump DOC SHEET`
-    Dump,
+    Dump {
+        document: &'a Text,
+        sheet: &'a Text,
+    },
     /// `edit DOC SHEET SCRIPT`
-    Edit,
+    Edit {
+        document: &'a Text,
+        sheet: &'a Text,
+        script: &'a Text,
+    },
     /// `table SHEET STYLE FROM TO`
-    Table { from: i32, to: i32 },
+    Table {
+        sheet: &'a Text,
+        style: &'a Text,
+        from: Count,
+        to: Count,
+    },
     /// `gen SEED COUNT`
-    Gen { seed: u32, count: u32 },
+    Gen {
+        seed: u32,
+        count: u32,
+    },
+}
+
+fn is_word(word: &Text, name: &str) -> bool
+    ensures same { IsTrue result ↔ (word.now ≡ chars name.now) }
+{
+    word.as_str() == name
 }
 
 /// Whether the words are this command with its operands, so many words in all.
 fn is_command(name: &str, count: usize, words: &[Text]) -> bool
     requires { 0 < count }
-    ensures { result ≡ is_command name.now count words.now }
+    ensures same { IsTrue result ↔ ((length words.now ≡ count) × (word words.now 0 ≡ chars name.now)) }
 {
-    words.len() == count && words[0].as_str() == name
+    words.len() == count && is_word(&words[0], name)
 }
 
 /// The number that is written so: `0`, or digits that don't begin with `0`, maybe behind a `-`.
-fn read_integer(text: &str) -> Option<i32>
+fn read_integer(text: &str) -> Option<Count>
     ensures found { IfSome result (λ number. text.now ≡ signed_decimal number) }
-    ensures none { IfNone result ((number : ℤ) → FitsSigned w32 number → text.now ≡ signed_decimal number → ⊥) }
+    ensures none { IfNone result ((number : ℤ) → IsCount number → text.now ≡ signed_decimal number → ⊥) }
 {
-    let Ok(number) = text.parse::<i32>() else {
-        return None;
-    };
-    let mut buffer = Buffer::new();
-    if buffer.format(number) == text {
-        Some(number)
-    } else {
-        None
-    }
-}
-
-/// The number that is written so: `0`, or digits that don't begin with `0`.
-fn read_natural(text: &str) -> Option<u32>
-    ensures found { IfSome result (λ number. text.now ≡ decimal number) }
-    ensures none { IfNone result ((number : ℕ) → number < 2 ^ 32 → text.now ≡ decimal number → ⊥) }
-{
-    let Ok(number) = text.parse::<u32>() else {
+    let Ok(number) = text.parse::<Count>() else {
         return None;
     };
     let mut buffer = Buffer::new();
@@ -62,10 +69,10 @@ fn read_natural(text: &str) -> Option<u32>
 }
 
 /// Whether a table from the one number to the other has 1 to 10000 lines.
-fn is_span(from: i32, to: i32) -> bool
+fn is_span(from: Count, to: Count) -> bool
     ensures { IsTrue result ↔ IsSpan from to }
 {
-    from <= to && to as i64 - from as i64 <= 9999
+    from <= to && i128::from(to) - i128::from(from) <= 9999
 }
 
 /// Whether these are a seed and a number of edits.
@@ -75,49 +82,59 @@ fn is_run(seed: u32, count: u32) -> bool
     seed <= 2147483647 && 1 <= count && count <= 100000
 }
 
-/// FROM and TO of the words of a `table`.
-fn read_table(words: &[Text]) -> Option<(i32, i32)>
-    requires { length words.now ≡ 5 }
-    ensures found { IfSome result (λ span. IsTable words.now span.0 span.1) }
-    ensures none { IfNone result ((from to : ℤ) → IsTable words.now from to → ⊥) }
+/// The values of a table, of its operands FROM and TO.
+fn read_values(from: &Text, to: &Text) -> Option<(Count, Count)>
+    ensures found { IfSome result (λ values. (from.now ≡ signed_decimal values.0) × (to.now ≡ signed_decimal values.1) × IsTable values.0 values.1) }
+    ensures none { IfNone result ((first last : ℤ) → from.now ≡ signed_decimal first → to.now ≡ signed_decimal last → IsTable first last → ⊥) }
 {
-    let from = read_integer(words[3].as_str())?;
-    let to = read_integer(words[4].as_str())?;
-    if is_span(from, to) {
-        Some((from, to))
+    let first = read_integer(from.as_str())?;
+    let last = read_integer(to.as_str())?;
+    if is_span(first, last) {
+        Some((first, last))
     } else {
         None
     }
 }
 
-/// SEED and COUNT of the words of a `gen`.
-fn read_gen(words: &[Text]) -> Option<(u32, u32)>
-    requires { length words.now ≡ 3 }
-    ensures found { IfSome result (λ numbers. IsGen words.now numbers.0 numbers.1) }
-    ensures none { IfNone result ((seed count : ℕ) → IsGen words.now seed count → ⊥) }
+/// The numbers of a made-up run, of its operands SEED and COUNT.
+fn read_run(seed: &Text, count: &Text) -> Option<(u32, u32)>
+    ensures found { IfSome result (λ run. (seed.now ≡ decimal run.0) × (count.now ≡ decimal run.1) × IsRun run.0 run.1) }
+    ensures none { IfNone result ((start edits : ℕ) → seed.now ≡ decimal start → count.now ≡ decimal edits → IsRun start edits → ⊥) }
 {
-    let seed = read_natural(words[1].as_str())?;
-    let count = read_natural(words[2].as_str())?;
-    if is_run(seed, count) {
-        Some((seed, count))
+    let start = read_natural(seed.as_str())?;
+    let edits = read_natural(count.as_str())?;
+    if is_run(start, edits) {
+        Some((start, edits))
     } else {
         None
     }
 }
 
 /// The form that the words are of, if they are of one. It takes no memory.
-pub fn read_form(words: &[Text]) -> Option<Form>
-    ensures form { ReadsAsForm words.now result }
+pub fn read_form(words: &[Text]) -> Option<Form<'_>>
+    ensures form { ReadsAsForm words.now (read_form_of result) }
 {
     if is_command("dump", 3, words) {
-        Some(Form::Dump)
+        Some(Form::Dump {
+            document: &words[1],
+            sheet: &words[2],
+        })
     } else if is_command("edit", 4, words) {
-        Some(Form::Edit)
+        Some(Form::Edit {
+            document: &words[1],
+            sheet: &words[2],
+            script: &words[3],
+        })
     } else if is_command("table", 5, words) {
-        let (from, to) = read_table(words)?;
-        Some(Form::Table { from, to })
+        let (from, to) = read_values(&words[3], &words[4])?;
+        Some(Form::Table {
+            sheet: &words[1],
+            style: &words[2],
+            from,
+            to,
+        })
     } else if is_command("gen", 3, words) {
-        let (seed, count) = read_gen(words)?;
+        let (seed, count) = read_run(&words[1], &words[2])?;
         Some(Form::Gen { seed, count })
     } else {
         None

@@ -1,10 +1,10 @@
 //! The command `gen SEED COUNT`.
 
-ghost use Rattle.std.specs.Prelude.{◌≡◌, ◌≤◌, ◌<◌, ◌+◌, ◌^◌, IfOk, OnOk, OnErr};
+ghost use Rattle.std.specs.Prelude.{◌≡◌, ◌≤◌, ◌<◌, ◌+◌, ◌^◌, IfErr, IfOk, OnOk, OnErr};
 ghost use Rattle.marker_engine.specs.Edited.{edited};
 ghost use Rattle.ports.specs.Causes.{HasCause, Rose};
 ghost use Rattle.ports.specs.Grown.{grown, GrowsByFront};
-ghost use Rattle.marker_cli.specs.Ends.{EndsAs, IsCaused, ended};
+ghost use Rattle.marker_cli.specs.Ends.{EndsAs, IsCaused, IsStop, ended};
 ghost use Rattle.marker_cli.specs.Generated.{after_edits, counted, generated_output, number_lines, unedited};
 ghost use Rattle.marker_cli.specs.Tallies.{tallied};
 
@@ -98,6 +98,7 @@ pub fn generated<O: Sink, L: Ledger>(
 ) -> Result<(), Status>
     ensures told { EndsAs ⊥ (Rose (O.faults out.old) (O.faults out.new)) (generated_output seed count) (O.out out.old) (O.out out.new) (ended result) }
     ensures cause { IsCaused ⊥ ⊥ ⊥ (Rose (O.faults out.old) (O.faults out.new)) (ended result) }
+    ensures stops { IfErr result IsStop }
     ensures faults { O.faults out.old ≤ O.faults out.new }
 {
     let GeneratedRun {

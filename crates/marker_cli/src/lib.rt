@@ -14,22 +14,22 @@
 //! What a run means is in `specs/`, to be read from the plain to the composed:
 //!
 //! - `Output`: what a run over told files is to do, as a list of events;
-//! - `Words`: which words are of which form;
+//! - `Words`: the forms, and which words are of which form;
 //! - `Turns` and `Dump`: the events of `dump DOC SHEET`;
 //! - `Edit`: `play`, the events of commands, and with it those of `edit DOC SHEET SCRIPT`;
 //! - `Table`, `Generated` and `Tallies`: those of the other two;
-//! - `Run`: `output`, the events of any words;
-//! - `Ends`: `EndsAs`, how a run may end against its output;
-//! - `Names` and `Lines`: the line and the code of a status.
+//! - `Run`: `output`, the events of any words, and `read_size`, how many bytes are read for them;
+//! - `Ends`: `EndsAs`, how a run may end against its output, and `IsSettled`, with which statuses nothing of it is kept back;
+//! - `Names`, `Lines` and `Statuses`: the line and the code of a status, and the status of a fault.
 //!
-//! A text such as DOC reads as one tree or fails at one place, and this is a relation (`ReadsAs`), which no
+//! A text such as DOC reads as one tree or fails at one place, and this is a relation (`ReadsAsDocument`), which no
 //! definition computes; so it is with SCRIPT (`ReadsAsScript`). So `output` takes what the words and texts read as,
-//! the `Readings`, and the clause of `run` holds for all that are right where the run comes to read them
-//! (`AreReadings`).
+//! the `Readings`. `run` gives some that are right where it comes to read them (`AreReadings`), and what its other
+//! clauses say of a shelf that tells its files (`OverTold`) holds of all such.
 //!
 //! `Stands` says where a run stands between two of its parts. A command that joins has an `.._output` of its own in
-//! `specs/`, and a line in `IsForm` and `form_output`; a status that joins has a line in `code_of`, `message`, `IsCaused`
-//! and `TellsOfLine`.
+//! `specs/`, and a line in `words_of`, `TextsReadAs`, `form_output` and `form_size`; a status that joins has a line in
+//! `code_of`, `message`, `IsCaused`, `IsStop`, `IsSettled` and `TellsOfLine`.
 //!
 //! The words, the order of refusals and the lines are our own.
 //!
@@ -44,6 +44,7 @@ mod edit;
 mod fetch_text;
 pub mod form;
 mod generated;
+pub mod laws;
 mod play;
 mod put_number;
 mod read_texts;

@@ -4,14 +4,15 @@ ghost use Rattle.std.specs.Prelude.{◌≡◌, ◌≤◌, ◌⊎◌, ℕ, List, 
 ghost use Rattle.std.specs.Str.{chars};
 ghost use Rattle.marker_engine.specs.Edited.{edited};
 ghost use Rattle.marker_engine.specs.Engines.{Source};
-ghost use Rattle.ports.specs.Causes.{Rose, RoseAbove};
+ghost use Rattle.ports.specs.Causes.{Raises, Rose, RoseAbove};
 ghost use Rattle.ports.specs.Files.{Files};
 ghost use Rattle.ports.specs.Grown.{grown, GrowsByFront};
 ghost use Rattle.marker_cli.specs.declared.status.FileAt.TheVariants.{Line};
 ghost use Rattle.marker_cli.specs.declared.status.Status.TheVariants as status;
 ghost use Rattle.marker_cli.specs.Edit.{action_output, after_edit, play, shown, with_sheet};
-ghost use Rattle.marker_cli.specs.Ends.{EndsAs, IsCaused, IsPutCaused, ReadsFailed, ended};
+ghost use Rattle.marker_cli.specs.Ends.{EndsAs, IsCaused, IsPutCaused, IsStop, ReadsFailed, ended};
 ghost use Rattle.marker_cli.specs.Output.{Output};
+ghost use Rattle.marker_cli.specs.Run.{action_size, commands_size, size_of};
 ghost use Rattle.marker_cli.specs.Stands.{Goes};
 ghost use Rattle.marker_cli.specs.Turns.{with_text};
 
@@ -43,6 +44,7 @@ fn play_edit<O: Sink, L: Ledger>(
     ensures told { (next : Source → Output) → Goes ⊥ (Rose (O.faults out.old) (O.faults out.new))
         (after_edit number engine.old (edited engine.old edit.now) next) (O.out out.old) (O.out out.new) (next engine.new) result }
     ensures cause { IsCaused ⊥ ⊥ ⊥ (Rose (O.faults out.old) (O.faults out.new)) (ended result) }
+    ensures stops { IfErr result IsStop }
     ensures faults { O.faults out.old ≤ O.faults out.new }
 {
     match engine.apply(alloc, edit, steps) {
@@ -87,10 +89,12 @@ fn play_sheet<S: Shelf, L: Ledger>(
         → Goes (ReadsFailed (S.honest shelf.old) (S.faults shelf.old) (S.faults shelf.new)) ⊥
         (with_text files (Line number) (chars name.now) (λ text. next (with_sheet text engine.old))) before before (next engine.new) result }
     ensures cause { IsCaused ⊥ (Rose (S.faults shelf.old) (S.faults shelf.new)) (RoseAbove 16777216 (S.taken shelf.old) (S.taken shelf.new)) ⊥ (ended result) }
+    ensures stops { IfErr result IsStop }
     ensures faults { S.faults shelf.old ≤ S.faults shelf.new }
     ensures taken { S.taken shelf.old ≤ S.taken shelf.new }
     ensures held { S.held shelf.new ≡ S.held shelf.old }
     ensures honest { S.honest shelf.new ≡ S.honest shelf.old }
+    ensures reads { (files : Files) → S.held shelf.old ≡ Some files → OnOk result (Raises (S.taken shelf.old) (S.taken shelf.new) (size_of files (chars name.now))) }
 {
     let text = fetch_text(alloc, shelf, FileAt::Line(number), name)?;
     replace_sheet(alloc, text, engine, steps)
@@ -128,11 +132,13 @@ fn play_command<S: Shelf, O: Sink, L: Ledger>(
         (action_output files command.now.line command.now.action engine.old next) (O.out out.old) (O.out out.new) (next engine.new) result }
     ensures cause { IsCaused ⊥ (Rose (S.faults shelf.old) (S.faults shelf.new)) (RoseAbove 16777216 (S.taken shelf.old) (S.taken shelf.new))
         (Rose (O.faults out.old) (O.faults out.new)) (ended result) }
+    ensures stops { IfErr result IsStop }
     ensures put_faults { O.faults out.old ≤ O.faults out.new }
     ensures faults { S.faults shelf.old ≤ S.faults shelf.new }
     ensures taken { S.taken shelf.old ≤ S.taken shelf.new }
     ensures held { S.held shelf.new ≡ S.held shelf.old }
     ensures honest { S.honest shelf.new ≡ S.honest shelf.old }
+    ensures reads { (files : Files) → S.held shelf.old ≡ Some files → OnOk result (Raises (S.taken shelf.old) (S.taken shelf.new) (action_size files command.now.action)) }
 {
     let number = command.line;
     match &command.action {
@@ -157,7 +163,9 @@ pub fn play<S: Shelf, O: Sink, L: Ledger>(
         (play files commands.now engine.old) (O.out out.old) (O.out out.new) (ended result) }
     ensures cause { IsCaused ⊥ (Rose (S.faults shelf.old) (S.faults shelf.new)) (RoseAbove 16777216 (S.taken shelf.old) (S.taken shelf.new))
         (Rose (O.faults out.old) (O.faults out.new)) (ended result) }
+    ensures stops { IfErr result IsStop }
     ensures put_faults { O.faults out.old ≤ O.faults out.new }
+    ensures reads { (files : Files) → S.held shelf.old ≡ Some files → OnOk result (Raises (S.taken shelf.old) (S.taken shelf.new) (commands_size files commands.now)) }
 {
     for command in commands {
         play_command(alloc, command, engine, shelf, out, steps)?;

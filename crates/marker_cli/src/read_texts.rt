@@ -1,41 +1,37 @@
 //! What the texts of a run read as.
 
-ghost use Rattle.std.specs.Prelude.{◌≡◌, ℕ, IfOk, List, Result};
+ghost use Rattle.std.specs.Prelude.{◌≡◌, ℕ, IfErr, IfOk, List, Result};
 ghost use Rattle.std.specs.Str.{chars};
 ghost use Rattle.edit_script.specs.Scripts.{ReadsAsScript};
 ghost use Rattle.edit_script.specs.declared.command.Command as command;
 ghost use Rattle.node_arena.specs.Document.{HasElementRoot};
-ghost use Rattle.marker_cli.specs.Dump.{Reading, ReadsAs, tree_of};
+ghost use Rattle.xhtml_reader.specs.Readings.{ReadsAsDocument};
+ghost use Rattle.marker_cli.specs.Dump.{Reading, tree_of};
 ghost use Rattle.marker_cli.specs.Edit.{commands_of};
-ghost use Rattle.marker_cli.specs.Ends.{Gives, IsCaused, ended};
+ghost use Rattle.marker_cli.specs.Ends.{Gives, IsCaused, IsStop, ended};
 ghost use Rattle.marker_cli.specs.Names.{TellsOfLine};
 
 use crate::status::Status;
 use edit_script::command::Command;
-use edit_script::fault::ScriptFault;
 use edit_script::laws::one_reading;
 use edit_script::read_script;
 use plain_types::list::List;
 use plain_types::tree::Tree;
 use std::alloc::Global;
-use xhtml_reader::fault::DocFault;
-use xhtml_reader::laws::one_document_tree;
+use xhtml_reader::laws::one_document_reading;
 use xhtml_reader::read_document;
 
 /// The tree of a document.
 pub fn read_tree(alloc: Global, text: &str) -> Result<Tree, Status>
-    ensures tree { (reading : Reading) → ReadsAs (chars text.now) reading → Gives (tree_of reading) result }
+    ensures tree { (reading : Reading) → ReadsAsDocument (chars text.now) reading → Gives (tree_of reading) result }
     ensures element { IfOk result HasElementRoot }
     ensures cause { IsCaused ⊥ ⊥ ⊥ ⊥ (ended result) }
     ensures file { ¬ (TellsOfLine (ended result)) }
+    ensures stops { IfErr result IsStop }
 {
-    // A text has one tree: so the outcome is the one that the text has.
-    one_document_tree();
-    match read_document(alloc, text) {
-        Ok(tree) => Ok(tree),
-        Err(DocFault::Malformed { line, column }) => Err(Status::BadDocument { line, column }),
-        Err(DocFault::Memory) => Err(Status::Memory),
-    }
+    // A text reads in one way: so the outcome is the one that the text has.
+    one_document_reading();
+    Ok(read_document(alloc, text)?)
 }
 
 /// The commands of a script.
@@ -43,12 +39,9 @@ pub fn read_commands(alloc: Global, text: &str) -> Result<List<Command>, Status>
     ensures commands { (reading : Result (List command.Command) ℕ) → ReadsAsScript (chars text.now) reading → Gives (commands_of reading) result }
     ensures cause { IsCaused ⊥ ⊥ ⊥ ⊥ (ended result) }
     ensures file { ¬ (TellsOfLine (ended result)) }
+    ensures stops { IfErr result IsStop }
 {
     // A text reads in one way: so the outcome is the one that the text has.
     one_reading();
-    match read_script(alloc, text) {
-        Ok(commands) => Ok(commands),
-        Err(ScriptFault::BadLine { number }) => Err(Status::BadScript { number }),
-        Err(ScriptFault::Memory) => Err(Status::Memory),
-    }
+    Ok(read_script(alloc, text)?)
 }

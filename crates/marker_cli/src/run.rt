@@ -1,18 +1,18 @@
 //! A run.
 
-ghost use Rattle.std.specs.Prelude.{◌≡◌, ◌⊎◌, ◌≤◌, ◌+◌, [], List, IsTrue, Some, None, Ok};
-ghost use Rattle.ports.specs.Causes.{Rose, RoseAbove};
+ghost use Rattle.std.specs.Prelude.{◌≡◌, ◌⊎◌, ◌≤◌, ◌+◌, ℕ, false, [], List, IsTrue, None, Ok};
+ghost use Rattle.ports.specs.Causes.{Raises, Rose, RoseAbove};
 ghost use Rattle.ports.specs.Files.{Files};
 ghost use Rattle.ports.specs.Grown.{grown};
 ghost use Rattle.edit_script.specs.declared.command.Command as command;
 ghost use Rattle.marker_cli.specs.Dump.{most_steps};
-ghost use Rattle.marker_cli.specs.Ends.{EndsAs, IsCaused, ReadsFailed, ended};
+ghost use Rattle.marker_cli.specs.Ends.{EndsAs, IsCaused, IsSettled, ReadsFailed, ended};
 ghost use Rattle.marker_cli.specs.Lines.{GoesOut, message};
 ghost use Rattle.marker_cli.specs.Output.{bytes_of, status_of};
 ghost use Rattle.marker_cli.specs.Names.{TellsOfLine};
-ghost use Rattle.marker_cli.specs.Run.{AreReadings, HasTurn, Readings, TakesNoStep, commands_in, name_in, output};
+ghost use Rattle.marker_cli.specs.Run.{AreReadings, HasTurn, OverTold, Readings, TakesNoStep, commands_in, name_in, output, read_size};
 ghost use Rattle.marker_cli.specs.Words.{IsForm, ReadsAsForm};
-ghost use Rattle.marker_cli.specs.declared.form.Form.TheVariants as forms;
+ghost use Rattle.marker_cli.specs.Words as forms;
 ghost use Rattle.marker_cli.specs.declared.status.FileAt.{FileAt};
 ghost use Rattle.marker_cli.specs.declared.status.Status.TheVariants as status;
 
@@ -50,69 +50,82 @@ fn perform<S: Shelf, O: Sink, L: Ledger>(
     out: &mut O,
     steps: &mut Steps<L>,
 ) -> Status
-    ensures told { (files : Files) (readings : Readings) → S.held shelf.old ≡ Some files → AreReadings words.now files readings
-        → EndsAs (ReadsFailed (S.honest shelf.old) (S.faults shelf.old) (S.faults shelf.new)) (Rose (O.faults out.old) (O.faults out.new))
-        (output words.now files readings) (O.out out.old) (O.out out.new) result }
-    ensures commands { (files : Files) (readings : Readings) → S.held shelf.old ≡ Some files → AreReadings words.now files readings
-        → TellsOfLine result → readings.script ≡ Ok commands.new }
+    ensures readings { (files : Files) → (readings : Readings) × AreReadings words.now files readings }
+    ensures told { OverTold (S.held shelf.old) words.now (λ files readings.
+        EndsAs (ReadsFailed (S.honest shelf.old) (S.faults shelf.old) (S.faults shelf.new)) (Rose (O.faults out.old) (O.faults out.new))
+        (output files readings) (O.out out.old) (O.out out.new) result) }
+    ensures commands { OverTold (S.held shelf.old) words.now (λ files readings. TellsOfLine result → readings.script ≡ Ok commands.new) }
     ensures cause { IsCaused (ReadsAsForm words.now None) (Rose (S.faults shelf.old) (S.faults shelf.new)) (RoseAbove 16777216 (S.taken shelf.old) (S.taken shelf.new))
         (Rose (O.faults out.old) (O.faults out.new)) result }
     ensures faults { O.faults out.old ≤ O.faults out.new }
     ensures no_form { ReadsAsForm words.now None → result ≡ status.Usage }
     ensures no_output { result ≡ status.Usage → O.out out.new ≡ O.out out.old }
-    ensures steps { (files : Files) (readings : Readings) → S.held shelf.old ≡ Some files → AreReadings words.now files readings
-        → IsForm words.now forms.Dump → steps.new ≤ steps.old + most_steps readings.document }
+    ensures reads { OverTold (S.held shelf.old) words.now (λ files readings.
+        result ≡ status.Ok → Raises (S.taken shelf.old) (S.taken shelf.new) (read_size files readings)) }
+    ensures steps { OverTold (S.held shelf.old) words.now (λ files readings.
+        (document sheet : List ℕ) → IsForm words.now (forms.dump document sheet) → steps.new ≤ steps.old + most_steps readings.document) }
     ensures no_steps { TakesNoStep words.now → steps.new ≡ steps.old }
 {
     match read_form(words) {
-        Some(Form::Dump) => status_of(dump(
+        Some(Form::Dump { document, sheet }) => status_of(dump(
             alloc,
-            words[1].as_str(),
-            words[2].as_str(),
+            document.as_str(),
+            sheet.as_str(),
             shelf,
             out,
             steps,
         )),
-        Some(Form::Edit) => status_of(edit(
+        Some(
+            Form::Edit {
+                document,
+                sheet,
+                script,
+            },
+        ) => status_of(edit(
             alloc,
-            words[1].as_str(),
-            words[2].as_str(),
-            words[3].as_str(),
+            document.as_str(),
+            sheet.as_str(),
+            script.as_str(),
             commands,
             shelf,
             out,
             steps,
         )),
-        Some(Form::Table { from, to }) => status_of(table(
-            alloc,
-            words[1].as_str(),
-            words[2].as_str(),
-            from,
-            to,
-            shelf,
-            out,
-        )),
+        Some(
+            Form::Table {
+                sheet,
+                style,
+                from,
+                to,
+            },
+        ) => status_of(table(alloc, sheet.as_str(), style.as_str(), from, to, shelf, out)),
         Some(Form::Gen { seed, count }) => status_of(generated(alloc, seed, count, out, steps)),
         None => Status::Usage,
     }
 }
 
-/// The status once `out` has handed on what it kept back.
+/// The status once `out` has handed on what it keeps back. A failed flush is a failed write.
 fn flushed<O: Sink>(outcome: Status, out: &mut O) -> Status
-    ensures outcome { (result ≡ outcome) ⊎ ((outcome ≡ status.Ok) × (result ≡ status.WriteFault) × Rose (O.faults out.old) (O.faults out.new)) }
-    ensures kept { O.out out.new ≡ O.out out.old }
+    ensures outcome { (result ≡ outcome) ⊎ (IsSettled outcome × (result ≡ status.WriteFault) × Rose (O.faults out.old) (O.faults out.new)) }
+    ensures sent { IsSettled result → O.kept out.new ≡ false }
+    ensures out { O.out out.new ≡ O.out out.old }
     ensures faults { O.faults out.old ≤ O.faults out.new }
 {
     match outcome {
         Status::Usage => outcome,
-        Status::Ok => match out.flush() {
-            Ok(()) => Status::Ok,
-            Err(_) => Status::WriteFault,
-        },
-        _ => {
+        Status::Memory | Status::WriteFault => {
             let _ = out.flush();
             outcome
         }
+        Status::Ok
+        | Status::ReadFault { .. }
+        | Status::TooLarge { .. }
+        | Status::NotUtf8 { .. }
+        | Status::BadDocument { .. }
+        | Status::BadScript { .. } => match out.flush() {
+            Ok(()) => outcome,
+            Err(_) => Status::WriteFault,
+        },
     }
 }
 
@@ -122,7 +135,8 @@ fn flushed<O: Sink>(outcome: Status, out: &mut O) -> Status
 /// are read in their order, each checked for its length and for UTF-8 before the next one, then the document is
 /// read, and then the script; its commands are done in their order, and the file of a `sheet` line is read when
 /// that line is done. The first status other than Ok ends the run; what was written until then stays. A refused
-/// edit is told in the output and ends nothing. A fault of `err` changes no status.
+/// edit is told in the output and ends nothing. At the end `out` is flushed, and where that fails the status is
+/// `WriteFault`, if it isn't `Usage` or `Memory`. A fault of `err` changes no status.
 ///
 /// It takes time linear in the files and the output, and what an evaluation of the document costs, once and for each
 /// accepted edit and `sheet` line; memory for the files, the commands, the document and what is kept of its elements.
@@ -135,19 +149,24 @@ pub fn run<S: Shelf, O: Sink, E: Sink, L: Ledger>(
     err: &mut E,
     steps: &mut Steps<L>,
 ) -> Status
-    ensures told { (files : Files) (readings : Readings) → S.held shelf.old ≡ Some files → AreReadings words.now files readings
-        → EndsAs (ReadsFailed (S.honest shelf.old) (S.faults shelf.old) (S.faults shelf.new)) (Rose (O.faults out.old) (O.faults out.new))
-        (output words.now files readings) (O.out out.old) (O.out out.new) result }
-    ensures complete { (files : Files) (readings : Readings) → S.held shelf.old ≡ Some files → AreReadings words.now files readings
-        → ¬ (Rose (S.faults shelf.old) (S.faults shelf.new)) → ¬ (Rose (O.faults out.old) (O.faults out.new))
-        → (result ≡ status.Memory) ⊎ ((result ≡ status_of (output words.now files readings)) × (O.out out.new ≡ grown (O.out out.old) (bytes_of (output words.now files readings)))) }
-    ensures turn { (files : Files) (readings : Readings) (file : FileAt) → S.held shelf.old ≡ Some files → AreReadings words.now files readings
-        → result ≡ status.ReadFault file → HasTurn (output words.now files readings) file }
-    ensures not_held { (files : Files) (readings : Readings) (file : FileAt) → S.held shelf.old ≡ Some files → AreReadings words.now files readings
-        → IsTrue (S.honest shelf.old) → result ≡ status.ReadFault file → files (name_in words.now readings file) ≡ None }
-    ensures missing { (files : Files) (readings : Readings) (file : FileAt) → S.held shelf.old ≡ Some files → AreReadings words.now files readings
-        → IsTrue (S.honest shelf.old) → HasTurn (output words.now files readings) file → files (name_in words.now readings file) ≡ None
-        → (result ≡ status.Memory) ⊎ (result ≡ status.WriteFault) ⊎ (result ≡ status.ReadFault file) }
+    // There are readings of the words and the texts, and what the clauses over a told shelf say holds of all such.
+    ensures readings { (files : Files) → (readings : Readings) × AreReadings words.now files readings }
+    ensures told { OverTold (S.held shelf.old) words.now (λ files readings.
+        EndsAs (ReadsFailed (S.honest shelf.old) (S.faults shelf.old) (S.faults shelf.new)) (Rose (O.faults out.old) (O.faults out.new))
+        (output files readings) (O.out out.old) (O.out out.new) result) }
+    ensures complete { OverTold (S.held shelf.old) words.now (λ files readings.
+        ¬ (Rose (S.faults shelf.old) (S.faults shelf.new)) → ¬ (Rose (O.faults out.old) (O.faults out.new))
+        → (result ≡ status.Memory) ⊎ ((result ≡ status_of (output files readings)) × (O.out out.new ≡ grown (O.out out.old) (bytes_of (output files readings))))) }
+    ensures turn { OverTold (S.held shelf.old) words.now (λ files readings.
+        (file : FileAt) → result ≡ status.ReadFault file → HasTurn (output files readings) file) }
+    ensures not_held { OverTold (S.held shelf.old) words.now (λ files readings.
+        (file : FileAt) → IsTrue (S.honest shelf.old) → result ≡ status.ReadFault file → files (name_in words.now readings file) ≡ None) }
+    ensures missing { OverTold (S.held shelf.old) words.now (λ files readings.
+        (file : FileAt) → IsTrue (S.honest shelf.old) → HasTurn (output files readings) file → files (name_in words.now readings file) ≡ None
+        → (result ≡ status.Memory) ⊎ (result ≡ status.WriteFault) ⊎ (result ≡ status.ReadFault file)) }
+    ensures reads { OverTold (S.held shelf.old) words.now (λ files readings.
+        result ≡ status.Ok → Raises (S.taken shelf.old) (S.taken shelf.new) (read_size files readings)) }
+    ensures sent { IsSettled result → O.kept out.new ≡ false }
     ensures usage { result ≡ status.Usage → ReadsAsForm words.now None }
     ensures no_form { ReadsAsForm words.now None → result ≡ status.Usage }
     ensures no_output { result ≡ status.Usage → O.out out.new ≡ O.out out.old }
@@ -156,10 +175,10 @@ pub fn run<S: Shelf, O: Sink, E: Sink, L: Ledger>(
     ensures write_fault { result ≡ status.WriteFault → Rose (O.faults out.old) (O.faults out.new) }
     ensures line { ¬ (TellsOfLine result) → GoesOut (Rose (E.faults err.old) (E.faults err.new)) (E.out err.old) (E.out err.new) (message words.now [] result) }
     ensures any_line { (commands : List command.Command) × GoesOut (Rose (E.faults err.old) (E.faults err.new)) (E.out err.old) (E.out err.new) (message words.now commands result) }
-    ensures sheet_line { (files : Files) (readings : Readings) → S.held shelf.old ≡ Some files → AreReadings words.now files readings → TellsOfLine result
-        → GoesOut (Rose (E.faults err.old) (E.faults err.new)) (E.out err.old) (E.out err.new) (message words.now (commands_in readings.script) result) }
-    ensures steps { (files : Files) (readings : Readings) → S.held shelf.old ≡ Some files → AreReadings words.now files readings
-        → IsForm words.now forms.Dump → steps.new ≤ steps.old + most_steps readings.document }
+    ensures sheet_line { OverTold (S.held shelf.old) words.now (λ files readings.
+        TellsOfLine result → GoesOut (Rose (E.faults err.old) (E.faults err.new)) (E.out err.old) (E.out err.new) (message words.now (commands_in readings.script) result)) }
+    ensures steps { OverTold (S.held shelf.old) words.now (λ files readings.
+        (document sheet : List ℕ) → IsForm words.now (forms.dump document sheet) → steps.new ≤ steps.old + most_steps readings.document) }
     ensures no_steps { TakesNoStep words.now → steps.new ≡ steps.old }
 {
     let mut commands = List::new(alloc);

@@ -8,7 +8,6 @@ ghost use Rattle.marker_cli.specs.Ends.{IsPutCaused};
 
 use crate::status::Status;
 use marker_engine::engine::Engine;
-use marker_engine::show_fault::ShowFault;
 use ports::sink::Sink;
 use std::alloc::Global;
 use std::sync::ledger::Ledger;
@@ -27,9 +26,5 @@ pub fn show<O: Sink, L: Ledger>(
     ensures faults { O.faults out.old ≤ O.faults out.new }
     ensures steps { steps.new ≡ steps.old }
 {
-    match engine.show(alloc, out, steps) {
-        Ok(()) => Ok(()),
-        Err(ShowFault::WriteFault) => Err(Status::WriteFault),
-        Err(ShowFault::Memory) => Err(Status::Memory),
-    }
+    Ok(engine.show(alloc, out, steps)?)
 }

@@ -4,8 +4,12 @@ ghost use Rattle.std.specs.Prelude.{◌≡◌};
 ghost use Rattle.marker_cli.specs.Lines.{code_of};
 ghost use Rattle.marker_cli.specs.declared.status.Status.TheVariants as status;
 
+use edit_script::fault::ScriptFault;
+use marker_engine::show_fault::ShowFault;
 use plain_types::memory::Memory;
 use ports::failed::Failed;
+use table_text::put_rows::RowFault;
+use xhtml_reader::fault::DocFault;
 
 /// A file that a run reads.
 #[derive(Clone, Copy, Debug, PartialEq, Eq)]
@@ -71,5 +75,57 @@ impl From<Failed> for Status {
 
     fn from(_error: Failed) -> Status {
         Status::WriteFault
+    }
+}
+
+impl From<DocFault> for Status {
+    ghost use Rattle.marker_cli.specs.Statuses.{document_status};
+
+    ghost from_gives = { λ fault e. e ≡ document_status fault };
+
+    fn from(fault: DocFault) -> Status {
+        match fault {
+            DocFault::Malformed { line, column } => Status::BadDocument { line, column },
+            DocFault::Memory => Status::Memory,
+        }
+    }
+}
+
+impl From<ScriptFault> for Status {
+    ghost use Rattle.marker_cli.specs.Statuses.{script_status};
+
+    ghost from_gives = { λ fault e. e ≡ script_status fault };
+
+    fn from(fault: ScriptFault) -> Status {
+        match fault {
+            ScriptFault::BadLine { number } => Status::BadScript { number },
+            ScriptFault::Memory => Status::Memory,
+        }
+    }
+}
+
+impl From<ShowFault> for Status {
+    ghost use Rattle.marker_cli.specs.Statuses.{show_status};
+
+    ghost from_gives = { λ fault e. e ≡ show_status fault };
+
+    fn from(fault: ShowFault) -> Status {
+        match fault {
+            ShowFault::WriteFault => Status::WriteFault,
+            ShowFault::Memory => Status::Memory,
+        }
+    }
+}
+
+impl From<RowFault> for Status {
+    ghost use Rattle.marker_cli.specs.Statuses.{row_status};
+
+    ghost from_gives = { λ fault e. e ≡ row_status fault };
+
+    fn from(fault: RowFault) -> Status {
+        match fault {
+            RowFault::WriteFault => Status::WriteFault,
+            RowFault::Memory => Status::Memory,
+        }
     }
 }

@@ -3,14 +3,15 @@
 ghost use Rattle.std.specs.Prelude.{◌≡◌, ◌≤◌, Some, IfOk, IfErr, OnOk, OnErr};
 ghost use Rattle.std.specs.Str.{chars};
 ghost use Rattle.css_reader.specs.Sheets.{sheet as sheet_of};
-ghost use Rattle.definitions.specs.CounterStyles.{finished_styles};
+ghost use Rattle.css_definitions.specs.CounterStyles.{finished_styles};
 ghost use Rattle.plain_types.specs.declared.style_ref.StyleRef.TheVariants.{Name};
-ghost use Rattle.ports.specs.Causes.{Rose, RoseAbove};
+ghost use Rattle.ports.specs.Causes.{Raises, Rose, RoseAbove};
 ghost use Rattle.ports.specs.Files.{Files};
 ghost use Rattle.ports.specs.Grown.{grown, GrowsByFront};
 ghost use Rattle.table_text.specs.Rows.{rows, values_between};
-ghost use Rattle.marker_cli.specs.Ends.{EndsAs, IsCaused, IsPutCaused, ReadsFailed, ended};
+ghost use Rattle.marker_cli.specs.Ends.{EndsAs, IsCaused, IsPutCaused, IsStop, ReadsFailed, ended};
 ghost use Rattle.marker_cli.specs.Names.{TellsOfLine};
+ghost use Rattle.marker_cli.specs.Run.{size_of};
 ghost use Rattle.marker_cli.specs.Table.{table_output};
 
 use crate::fetch_text::fetch_text;
@@ -25,7 +26,7 @@ use plain_types::text::Text;
 use ports::shelf::Shelf;
 use ports::sink::Sink;
 use std::alloc::Global;
-use table_text::put_rows::{RowFault, put_rows};
+use table_text::put_rows::put_rows;
 
 /// The finished counter styles of the sheet of this text.
 fn styles_of(alloc: Global, text: &str) -> Result<Table, Memory>
@@ -50,11 +51,7 @@ fn put_values<O: Sink>(
     ensures faults { O.faults out.old ≤ O.faults out.new }
 {
     let name = Text::from_str(alloc, style)?;
-    match put_rows(alloc, table, &StyleRef::Name(name), from, to, out) {
-        Ok(()) => Ok(()),
-        Err(RowFault::WriteFault) => Err(Status::WriteFault),
-        Err(RowFault::Memory) => Err(Status::Memory),
-    }
+    Ok(put_rows(alloc, table, &StyleRef::Name(name), from, to, out)?)
 }
 
 /// Writes how the values from the one to the other look in a counter style of the sheet of this name. A
@@ -74,7 +71,9 @@ pub fn table<S: Shelf, O: Sink>(
     ensures cause { IsCaused ⊥ (Rose (S.faults shelf.old) (S.faults shelf.new)) (RoseAbove 16777216 (S.taken shelf.old) (S.taken shelf.new))
         (Rose (O.faults out.old) (O.faults out.new)) (ended result) }
     ensures file { ¬ (TellsOfLine (ended result)) }
+    ensures stops { IfErr result IsStop }
     ensures faults { O.faults out.old ≤ O.faults out.new }
+    ensures reads { (files : Files) → S.held shelf.old ≡ Some files → OnOk result (Raises (S.taken shelf.old) (S.taken shelf.new) (size_of files (chars sheet.now))) }
 {
     let text = fetch_text(alloc, shelf, FileAt::Word(1), sheet)?;
     let styles = styles_of(alloc, text.as_str())?;

@@ -1,5 +1,5 @@
 -- What contracts see of the shelves and sinks. A call has a number, from 0 on.
-use Rattle.std.specs.Prelude.{ℕ, List}
+use Rattle.std.specs.Prelude.{ℕ, Bool, List}
 use Rattle.ports.specs.declared.named_file.NamedFile.{NamedFile}
 
 -- of a `MemoryShelf`: its files, the numbers of the calls that fail, the number of the next call, and
@@ -41,3 +41,8 @@ pub record FixedBytes : Type 0 where
 pub record ReadCounts : Type 0 where
   pub faults : ℕ
   pub taken : ℕ
+
+-- of a `StdSink`: how many calls failed, and whether its writer may keep bytes back
+pub record WriteCounts : Type 0 where
+  pub faults : ℕ
+  pub kept : Bool

@@ -1,15 +1,11 @@
 -- Files, and what a read of one gives (our own).
-use Rattle.std.specs.Prelude.{◌≡◌, ◌≢◌, ℕ, ◌-◌, ◌<◌, ◌≤◌, if◌then◌else◌, List, [], ◌∷◌, length, take, drop, AllPairs, Option, Some, None, Result, Ok, Err}
+use Rattle.std.specs.Prelude.{◌≡◌, ℕ, ◌-◌, ◌<◌, ◌≤◌, if◌then◌else◌, List, [], ◌∷◌, length, take, drop, Option, Some, None, Result, Ok, Err}
 use Rattle.std.specs.Str.{bytes_eq}
 use Rattle.ports.specs.declared.named_file.NamedFile.{NamedFile}
 
 -- the bytes of each file, by the characters of its name
 abbrev pub Files : Type 0
 Files = List ℕ → Option (List ℕ)
-
--- no two files have one name
-abbrev pub HasDistinctNames : List NamedFile → Type 0
-HasDistinctNames files = AllPairs (λ one other. one.name ≢ other.name) files
 
 -- the files of a list: under a name, the first of that name
 abbrev pub look_up : List NamedFile → Files

@@ -11,18 +11,22 @@ use crate::shelf::Shelf;
 use plain_types::list::List;
 use plain_types::memory::Memory;
 use std::alloc::Global;
+use thiserror::Error;
 
 /// The most bytes that a fetched file has.
 pub const LONGEST: usize = 16777216;
 
 /// Why a file wasn't fetched.
-#[derive(Clone, Copy, Debug, PartialEq, Eq)]
+#[derive(Clone, Copy, Debug, PartialEq, Eq, Error)]
 pub enum FetchFault {
     /// A read failed.
+    #[error("a read of the file failed")]
     Failed,
     /// More bytes came than `LONGEST`.
+    #[error("the file is larger than {LONGEST} bytes")]
     TooLarge,
     /// Memory was wanting.
+    #[error("out of memory")]
     Memory,
 }
 

@@ -1,6 +1,6 @@
 //! Bytes in memory.
 
-ghost use Rattle.std.specs.Prelude.{◌≡◌, ◌++◌, ◌↔◌, ◌-◌, ◌≤◌, ◌<◌, [], length, take, min, IfOk, OnOk, IsErr, OnErr};
+ghost use Rattle.std.specs.Prelude.{◌≡◌, ◌++◌, ◌↔◌, ◌-◌, ◌≤◌, ◌<◌, [], length, take, min, IfOk, IsOk, OnOk, IsErr, OnErr};
 ghost use Rattle.ports.specs.Causes.{HasCause, one_more};
 
 use crate::failed::Failed;
@@ -49,11 +49,13 @@ impl FixedSink {
 }
 
 impl Sink for FixedSink {
-    ghost use Rattle.std.specs.Prelude.{Some};
+    ghost use Rattle.std.specs.Prelude.{Some, false};
 
     ghost out = { λ sink. Some sink.bytes };
 
     ghost faults = { λ sink. sink.faults };
+
+    ghost kept = { λ sink. false };
 
     fn put(&mut self, bytes: &[u8]) -> Result<usize, Failed>
         ensures bound { IfOk result (λ count. count ≤ length bytes.now) }
@@ -74,5 +76,12 @@ impl Sink for FixedSink {
             return Err(Failed);
         }
         Ok(count)
+    }
+
+    fn flush(&mut self) -> Result<(), Failed>
+        ensures same { self.new ≡ self.old }
+        ensures ok { IsOk result }
+    {
+        Ok(())
     }
 }

@@ -3,7 +3,7 @@
 ghost use Rattle.std.specs.Prelude.{◌≡◌, ◌↔◌, ◌≤◌, length, IfOk, OnOk, IsErr, OnErr, None};
 ghost use Rattle.std.specs.Str.{chars};
 ghost use Rattle.ports.specs.Causes.{HasCause, Raises, one_more};
-ghost use Rattle.ports.specs.Files.{HasDistinctNames, Reads, answered, look_up};
+ghost use Rattle.ports.specs.Files.{Reads, answered, look_up};
 
 use crate::failed::Failed;
 use crate::named_file::{NamedFile, find, read_from};
@@ -28,9 +28,8 @@ impl Model for HonestShelf {
 }
 
 impl HonestShelf {
-    /// A shelf with these files.
+    /// A shelf with these files. Of two files of one name it holds the first.
     pub fn new(files: List<NamedFile>) -> HonestShelf
-        requires distinct { HasDistinctNames files }
         ensures files { result.files ≡ files }
         ensures faults { result.faults ≡ 0 }
         ensures taken { result.taken ≡ 0 }

@@ -4,7 +4,8 @@
 //! proved for whatever stands behind them, and a caller can hand in files and sinks of its own. What a
 //! shelf or a sink is comes as ghost members: `held` are the files of a shelf, and `out` the bytes of a
 //! sink, where it tells them; `faults` is how many calls failed, and `taken` how many bytes were
-//! answered. A shelf is `honest` where it tells its files and fails on none of them.
+//! answered. A shelf is `honest` where it tells its files and fails on none of them. A sink has bytes `kept` back
+//! from when it takes some until a flush answers Ok, if it is one that keeps any.
 //!
 //! | Type | It is | It tells |
 //! |---|---|---|

@@ -3,7 +3,7 @@
 ghost use Rattle.std.specs.Prelude.{◌≡◌, ◌⊎◌, ◌↔◌, ◌≤◌, length, IfOk, OnOk, IsErr, OnErr, None, Contains};
 ghost use Rattle.std.specs.Str.{chars};
 ghost use Rattle.ports.specs.Causes.{HasCause, Raises, one_more};
-ghost use Rattle.ports.specs.Files.{HasDistinctNames, Reads, answered, look_up};
+ghost use Rattle.ports.specs.Files.{Reads, answered, look_up};
 
 use crate::failed::Failed;
 use crate::named_file::{NamedFile, find, read_from};
@@ -30,9 +30,8 @@ impl Model for MemoryShelf {
 }
 
 impl MemoryShelf {
-    /// A shelf with these files. The call whose number is in `failing` fails, counted from 0.
+    /// A shelf with these files; of two files of one name it holds the first. The call whose number is in `failing` fails, counted from 0.
     pub fn new(files: List<NamedFile>, failing: List<u64>) -> MemoryShelf
-        requires distinct { HasDistinctNames files }
         ensures files { result.files ≡ files }
         ensures failing { result.failing ≡ failing }
         ensures calls { result.calls ≡ 0 }

@@ -1,6 +1,6 @@
 //! Bytes in memory, where some calls fail.
 
-ghost use Rattle.std.specs.Prelude.{◌≡◌, ◌++◌, ◌⊎◌, ◌↔◌, ◌-◌, ◌≤◌, ◌<◌, [], length, take, min, IfOk, OnOk, IsErr, OnErr, Contains};
+ghost use Rattle.std.specs.Prelude.{◌≡◌, ◌++◌, ◌⊎◌, ◌↔◌, ◌-◌, ◌≤◌, ◌<◌, [], length, take, min, IfOk, IsOk, OnOk, IsErr, OnErr, Contains};
 ghost use Rattle.ports.specs.Causes.{HasCause, one_more};
 
 use crate::failed::Failed;
@@ -57,11 +57,13 @@ impl MemorySink {
 }
 
 impl Sink for MemorySink {
-    ghost use Rattle.std.specs.Prelude.{Some};
+    ghost use Rattle.std.specs.Prelude.{Some, false};
 
     ghost out = { λ sink. Some sink.bytes };
 
     ghost faults = { λ sink. sink.faults };
+
+    ghost kept = { λ sink. false };
 
     fn put(&mut self, bytes: &[u8]) -> Result<usize, Failed>
         ensures bound { IfOk result (λ count. count ≤ length bytes.now) }
@@ -89,5 +91,13 @@ impl Sink for MemorySink {
         }
         self.faults = self.faults.saturating_add(1);
         Err(Failed)
+    }
+
+    // A flush has no number.
+    fn flush(&mut self) -> Result<(), Failed>
+        ensures same { self.new ≡ self.old }
+        ensures ok { IsOk result }
+    {
+        Ok(())
     }
 }

@@ -1,8 +1,8 @@
 //! Files by their names, in memory.
 
-ghost use Rattle.std.specs.Prelude.{◌≡◌, ◌↔◌, IsTrue, ◌≤◌, length, option_copied, is_some};
+ghost use Rattle.std.specs.Prelude.{◌≡◌, ◌↔◌, IsTrue, ◌≤◌, length, option_copied};
 ghost use Rattle.std.specs.Str.{chars};
-ghost use Rattle.ports.specs.Files.{HasDistinctNames, IsRead, look_up};
+ghost use Rattle.ports.specs.Files.{IsRead, look_up};
 
 use plain_types::list::List;
 use plain_types::text::Text;
@@ -31,28 +31,6 @@ pub(crate) fn find<'a>(files: &'a [NamedFile], name: &str) -> Option<&'a [u8]>
         }
     }
     None
-}
-
-/// Whether a file has that name.
-fn is_held(files: &[NamedFile], name: &str) -> bool
-    ensures held { result ≡ is_some (look_up files.now (chars name.now)) }
-{
-    match find(files, name) {
-        Some(_) => true,
-        None => false,
-    }
-}
-
-/// Whether no two of the files have one name, in time quadratic in their number.
-pub fn has_distinct_names(files: &[NamedFile]) -> bool
-    ensures distinct { IsTrue result ↔ HasDistinctNames files.now }
-{
-    for (place, file) in files.iter().enumerate() {
-        if is_held(&files[place + 1..], file.name.as_str()) {
-            return false;
-        }
-    }
-    true
 }
 
 /// Copies bytes, from the byte `at` on, into a front of the buffer, and answers how many: as many as

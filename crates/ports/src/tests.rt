@@ -1,12 +1,13 @@
 //! Each public call once, over memory and over the system.
 
+use crate::failed::Failed;
 use crate::fetch::{FetchFault, fetch};
 use crate::file_shelf::FileShelf;
 use crate::fixed_sink::FixedSink;
 use crate::honest_shelf::HonestShelf;
 use crate::memory_shelf::MemoryShelf;
 use crate::memory_sink::MemorySink;
-use crate::named_file::{NamedFile, has_distinct_names};
+use crate::named_file::NamedFile;
 use crate::shelf::Shelf;
 use crate::sink::{Sink, put_all};
 use crate::std_sink::StdSink;
@@ -15,7 +16,7 @@ use plain_types::memory::Memory;
 use plain_types::text::Text;
 use std::alloc::Global;
 use std::fs;
-use std::io::{self, Read};
+use std::io::{self, BufWriter, Read};
 use std::test::Fail;
 
 fn named(alloc: Global, name: &str, bytes: &[u8]) -> Result<NamedFile, Memory> {
@@ -38,7 +39,6 @@ fn two_files(alloc: Global) -> Result<List<NamedFile>, Memory> {
 fn an_honest_shelf_gives_whole_files(rt: HostRuntime) -> Result<(), Fail> {
     let alloc = rt.alloc();
     let files = two_files(alloc)?;
-    assert!(rt; has_distinct_names(files.as_slice()));
     let mut shelf = HonestShelf::new(files);
     for (name, want) in [("d.xhtml", "<p/>"), ("s.css", "")] {
         match fetch(alloc, &mut shelf, name) {
@@ -54,7 +54,6 @@ fn an_honest_shelf_gives_whole_files(rt: HostRuntime) -> Result<(), Fail> {
 fn a_memory_shelf_fails_at_its_numbers(rt: HostRuntime) -> Result<(), Fail> {
     let alloc = rt.alloc();
     let files = two_files(alloc)?;
-    assert!(rt; has_distinct_names(files.as_slice()));
     let mut failing = List::new(alloc);
     failing.push(1u64)?;
     let mut shelf = MemoryShelf::new(files, failing);
@@ -119,5 +118,37 @@ fn a_std_sink_writes_to_the_system(rt: HostRuntime) -> Result<(), Fail> {
     let count = reader.read(&mut buf)?;
     assert_eq!(rt; &buf[..count], "/0 ".as_bytes());
     assert!(rt; put_all(&mut StdSink::new(rt.stdout()), b"put on standard output\n").is_ok());
+    Ok(())
+}
+
+#[test]
+fn a_std_sink_hands_on_what_its_writer_keeps_back(rt: HostRuntime) -> Result<(), Fail> {
+    let (mut reader, writer) = io::pipe(&rt)?;
+    let mut sink = StdSink::new(BufWriter::new(rt.alloc(), writer)?);
+    assert!(rt; put_all(&mut sink, b"/0 ").is_ok());
+    assert!(rt; sink.flush().is_ok());
+    let mut buf = [0u8; 8];
+    let count = reader.read(&mut buf)?;
+    assert_eq!(rt; &buf[..count], "/0 ".as_bytes());
+    Ok(())
+}
+
+#[test]
+fn faults_tell_what_failed(rt: HostRuntime) -> Result<(), Fail> {
+    let alloc = rt.alloc();
+    assert_eq!(rt;
+        Failed.to_string(alloc)?.as_str(),
+        "a read or a write failed"
+    );
+    for (fault, want) in [
+        (FetchFault::Failed, "a read of the file failed"),
+        (
+            FetchFault::TooLarge,
+            "the file is larger than 16777216 bytes",
+        ),
+        (FetchFault::Memory, "out of memory"),
+    ] {
+        assert_eq!(rt; fault.to_string(alloc)?.as_str(), want);
+    }
     Ok(())
 }

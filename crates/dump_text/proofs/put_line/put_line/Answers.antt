@@ -2,7 +2,7 @@ use Rattle.std.proofs.Common.{◌∷◌, [], ◌++◌, ◌∙◌, ap, refl, enco
 use Rattle.std.proofs.lemmas.Result.{on_err_weaker, on_ok_weaker}
 use Rattle.ports.specs.Grown.{grown}
 use Rattle.ports.proofs.GrownLemmas.{front_last, front_same, front_step, grown_after, on_err}
-use Rattle.definitions.specs.Dump.{kind_name, quoted}
+use Rattle.dump_definitions.specs.Dump.{kind_name, quoted}
 use Rattle.dump_text.proofs.LineLemmas.{line_bytes}
 use Rattle.dump_text.proofs.put_line.put_line.Goals as goal
 

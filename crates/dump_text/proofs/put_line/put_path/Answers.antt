@@ -4,7 +4,7 @@ use Rattle.std.specs.Fmt.{decimal}
 use Rattle.ports.specs.Grown.{grown}
 use Rattle.ports.proofs.GrownLemmas.{front_same, grown-nil, on_err}
 use Rattle.ports.proofs.PieceLemmas.{pieces_end, pieces_front, pieces_went_out}
-use Rattle.definitions.specs.Dump.{path_text}
+use Rattle.dump_definitions.specs.Dump.{path_text}
 use Rattle.dump_text.proofs.LineLemmas.{path_bytes}
 use Rattle.dump_text.proofs.put_line.put_path.Goals as goal
 

@@ -2,7 +2,7 @@ use Rattle.std.proofs.Common.{◌++◌, ◌∷◌, [], ◌∙◌, ap, append-nil
 use Rattle.std.specs.List.{flat_map}
 use Rattle.std.proofs.lemmas.Result.{on_err_weaker, on_ok_weaker}
 use Rattle.ports.specs.Grown.{grown}
-use Rattle.definitions.specs.Dump.{shown}
+use Rattle.dump_definitions.specs.Dump.{shown}
 use Rattle.ports.proofs.GrownLemmas.{front_after, on_err, grown-grown, grown-nil}
 use Rattle.dump_text.proofs.EncodedLemmas.{quoted_bytes}
 use Rattle.dump_text.proofs.put_quoted.put_quoted.Goals as goal

@@ -1,7 +1,7 @@
 use Rattle.std.proofs.Common.{get_or, [], ◌++◌, ◌-◌, ◌+◌, take, drop, rules, arith, ◌∙◌, sym, ap}
 use Rattle.std.specs.List.{flat_map}
 use Rattle.ports.specs.Grown.{grown}
-use Rattle.definitions.specs.Dump.{shown, escape}
+use Rattle.dump_definitions.specs.Dump.{shown, escape}
 use Rattle.std.proofs.lemmas.Result.{on_err_weaker}
 use Rattle.ports.proofs.GrownLemmas.{front_after, on_err, grown-grown}
 use Rattle.ports.proofs.PieceLemmas.{pieces-parts}

@@ -1,7 +1,7 @@
 use Rattle.std.proofs.Common.{◌≡◌, ◌++◌, ◌-◌, ◌≤◌, take, drop}
 use Rattle.std.specs.List.{flat_map}
 use Rattle.ports.specs.Grown.{grown}
-use Rattle.definitions.specs.Dump.{shown}
+use Rattle.dump_definitions.specs.Dump.{shown}
 use Rattle.dump_text.proofs.put_quoted.put_shown.Given as goal
 
 abbrev pub invariant-loop-place : goal.invariant-loop-place

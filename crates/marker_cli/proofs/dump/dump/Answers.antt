@@ -1,4 +1,4 @@
-use Rattle.std.proofs.Common.{◌≡◌, ◌∙◌, sym, arith}
+use Rattle.std.proofs.Common.{◌≡◌, ◌∙◌, refl, sym, arith}
 use Rattle.std.specs.Prelude.{Ok}
 use Rattle.std.specs.Str.{chars}
 use Rattle.generated_texts.specs.Lines.{fresh_dump}
@@ -8,6 +8,8 @@ use Rattle.marker_cli.specs.Output.{ends, writes}
 use Rattle.marker_cli.specs.Turns.{text_in}
 use Rattle.marker_cli.proofs.EndsLemmas.{at_same, at_start, at_text, at_value, caused_as, caused_within, ended_is, ends_no_text, ends_not_given, ends_put, ends_stopped, reads_after}
 use Rattle.marker_cli.proofs.TreeLemmas.{most_of}
+use Rattle.ports.proofs.CauseLemmas.{raises_more}
+use Rattle.marker_cli.proofs.ReadLemmas.{on_ok}
 use Rattle.marker_cli.proofs.dump.dump.Goals as goal
 
 pub returns-in_err-text-clause-told : goal.returns-in_err-text-clause-told
@@ -50,3 +52,7 @@ returns-clause-steps g c files reading told reads =
     let style : text_in (Word 2) (files (chars c.args.sheet.now)) ≡ Ok c.in_ok-style.style = c.in_ok-style.ensures.told files (c.in_ok-text.ensures.held ∙ told) in
     let most = most_of reading c.in_ok-tree.tree (c.in_ok-tree.ensures.tree reading (rw c.as_str.ensures.characters (reads c.in_ok-text.text c.in_ok-style.style text style))) in
     omega (arith, most, c.put_dump.ensures.steps)
+
+pub returns-clause-reads : goal.returns-clause-reads
+returns-clause-reads g c files told =
+    on_ok c.put_dump.result (raises_more _ _ _ _ _ _ (c.in_ok-text.ensures.came files told) (c.in_ok-style.ensures.came files (c.in_ok-text.ensures.held ∙ told)) refl)

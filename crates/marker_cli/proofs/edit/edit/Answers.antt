@@ -1,4 +1,4 @@
-use Rattle.std.proofs.Common.{◌≡◌, ◌∙◌, arith, refl, sym}
+use Rattle.std.proofs.Common.{◌≡◌, ◌∙◌, ap, arith, refl, sym}
 use Rattle.std.specs.Prelude.{Ok}
 use Rattle.std.specs.Str.{chars}
 use Rattle.marker_cli.specs.declared.status.FileAt.TheVariants.{Word}
@@ -6,6 +6,10 @@ use Rattle.marker_cli.specs.Edit.{play}
 use Rattle.marker_cli.specs.Turns.{text_in}
 use Rattle.marker_cli.proofs.EndsLemmas.{at_same, at_start, at_text, at_value, ends_no_memory, ends_no_text, ends_not_given, ends_part, ends_stopped, reads_after}
 use Rattle.marker_cli.proofs.PlayLemmas.{given_commands}
+use Rattle.std.proofs.lemmas.Result.{on_ok_weaker}
+use Rattle.ports.proofs.CauseLemmas.{raises_more}
+use Rattle.marker_cli.specs.Run.{commands_in, commands_size}
+use Rattle.marker_cli.proofs.ReadLemmas.{raised_as}
 use Rattle.marker_cli.proofs.edit.edit.Goals as goal
 
 pub returns-in_err-text-clause-told : goal.returns-in_err-text-clause-told
@@ -78,3 +82,17 @@ returns-clause-commands g c files read told reads_script tells =
     let style : text_in (Word 2) (files (chars c.args.sheet.now)) ≡ Ok c.in_ok-style.style = c.in_ok-style.ensures.told files (c.in_ok-text.ensures.held ∙ told) in
     let lines : text_in (Word 3) (files (chars c.args.script.now)) ≡ Ok c.in_ok-lines.lines = c.in_ok-lines.ensures.told files (c.in_ok-style.ensures.held ∙ c.in_ok-text.ensures.held ∙ told) in
     given_commands read _ (c.in_ok-commands.ensures.commands read (rw c.as_str-2.ensures.characters (reads_script c.in_ok-text.text c.in_ok-style.style c.in_ok-lines.lines text style lines)))
+
+pub returns-clause-reads : goal.returns-clause-reads
+returns-clause-reads g c files read told reads_script =
+    let text : text_in (Word 1) (files (chars c.args.document.now)) ≡ Ok c.in_ok-text.text = c.in_ok-text.ensures.told files told in
+    let style : text_in (Word 2) (files (chars c.args.sheet.now)) ≡ Ok c.in_ok-style.style = c.in_ok-style.ensures.told files (c.in_ok-text.ensures.held ∙ told) in
+    let held = c.in_ok-style.ensures.held ∙ c.in_ok-text.ensures.held ∙ told in
+    let lines : text_in (Word 3) (files (chars c.args.script.now)) ≡ Ok c.in_ok-lines.lines = c.in_ok-lines.ensures.told files held in
+    let given = given_commands read _ (c.in_ok-commands.ensures.commands read (rw c.as_str-2.ensures.characters (reads_script c.in_ok-text.text c.in_ok-style.style c.in_ok-lines.lines text style lines))) in
+    on_ok_weaker c.play.result
+    (λ played. raises_more _ _ _ _ _ _ (c.in_ok-text.ensures.came files told)
+    (raises_more _ _ _ _ _ _ (c.in_ok-style.ensures.came files (c.in_ok-text.ensures.held ∙ told))
+    (raises_more _ _ _ _ _ _ (c.in_ok-lines.ensures.came files held)
+    (raised_as (ap (λ r. commands_size files (commands_in r)) given ∙ ap (λ cs. commands_size files cs) (sym c.as_slice.ensures.items)) played) refl) refl) refl)
+    (c.play.ensures.reads files (c.in_ok-lines.ensures.held ∙ held))

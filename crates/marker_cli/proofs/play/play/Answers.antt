@@ -1,8 +1,9 @@
-use Rattle.std.proofs.Common.{◌+◌, ◌∙◌, arith, drop}
-use Rattle.ports.proofs.CauseLemmas.{rose_after}
+use Rattle.std.proofs.Common.{◌+◌, ◌∙◌, arith, drop, refl}
+use Rattle.ports.proofs.CauseLemmas.{raises_none, rose_after}
 use Rattle.marker_cli.specs.Edit.{play}
-use Rattle.marker_cli.proofs.EndsLemmas.{at_part, at_same, ends_part, ends_stopped, reads_after}
+use Rattle.marker_cli.proofs.EndsLemmas.{at_part, at_same, at_start, ends_part, ends_stopped, reads_after}
 use Rattle.marker_cli.proofs.PlayLemmas.{play_next}
+use Rattle.marker_cli.proofs.ReadLemmas.{read_all, read_more}
 use Rattle.marker_cli.proofs.play.play.Goals as goal
 
 pub loop-command-preserved : goal.loop-command-preserved
@@ -16,6 +17,8 @@ loop-command-preserved g c =
       faults = omega (arith, now.faults, c.in_ok-play_command.ensures.faults);
       taken = omega (arith, now.taken, c.in_ok-play_command.ensures.taken);
       put_faults = omega (arith, now.put_faults, c.in_ok-play_command.ensures.put_faults);
+      reads = λ files told. read_more files _ _ c.command-item.result _ _ _ c.loop-command-test.true c.command-item.is (now.reads files told)
+          (c.in_ok-play_command.ensures.reads files (now.held ∙ told));
     }
 
 pub returns-in_err-play_command-clause-told : goal.returns-in_err-play_command-clause-told
@@ -25,3 +28,18 @@ returns-in_err-play_command-clause-told g c files told =
     (ends_part _ _ (at_same (play_next files _ _ c.command-item.result _ c.loop-command-test.true c.command-item.is) (now.told files told))
     (c.in_err-play_command.ensures.told files (play files (drop (c.loop-command.command-index + 1) c.args.commands.now)) (now.held ∙ told)).stops
     (λ failed. reads_after now.honest now.faults failed) (λ rose. rose_after _ _ _ now.put_faults rose))
+
+pub loop-command-init : goal.loop-command-init
+loop-command-init g c = record {
+  told = λ files told. at_start _ _;
+  held = refl;
+  honest = refl;
+  faults = omega arith;
+  taken = omega arith;
+  put_faults = omega arith;
+  reads = λ files told. record { so_far = 0; raised = raises_none _ _ refl; parts = omega arith };
+}
+
+pub returns-clause-reads : goal.returns-clause-reads
+returns-clause-reads g c files told =
+    read_all files _ _ _ _ (let end = c.loop-command-test.false in omega arith) (c.loop-command.invariant.reads files told)

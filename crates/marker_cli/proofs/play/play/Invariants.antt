@@ -3,6 +3,7 @@ use Rattle.std.specs.Prelude.{Some}
 use Rattle.ports.specs.Files.{Files}
 use Rattle.marker_cli.specs.Edit.{play}
 use Rattle.marker_cli.specs.Stands.{IsAt}
+use Rattle.marker_cli.proofs.ReadLemmas.{HaveRead}
 use Rattle.marker_cli.proofs.play.play.Given as goal
 
 abbrev pub invariant-loop-command : goal.invariant-loop-command
@@ -14,4 +15,6 @@ invariant-loop-command g l = record {
   faults : g.S.Shelf.faults l.initial.shelf ≤ g.S.Shelf.faults l.shelf;
   taken : g.S.Shelf.taken l.initial.shelf ≤ g.S.Shelf.taken l.shelf;
   put_faults : g.O.Sink.faults l.initial.out ≤ g.O.Sink.faults l.out;
+  reads : (files : Files) → g.S.Shelf.held l.initial.shelf ≡ Some files
+      → HaveRead files l.commands l.command-index (g.S.Shelf.taken l.initial.shelf) (g.S.Shelf.taken l.shelf);
 }

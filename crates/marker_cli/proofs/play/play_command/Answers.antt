@@ -1,5 +1,8 @@
 use Rattle.marker_cli.proofs.EndsLemmas.{at_start}
 use Rattle.marker_cli.proofs.PlayLemmas.{goes_put, goes_weaker}
+use Rattle.std.proofs.Common.{refl}
+use Rattle.ports.proofs.CauseLemmas.{raises_none}
+use Rattle.marker_cli.proofs.ReadLemmas.{on_ok}
 use Rattle.marker_cli.proofs.play.play_command.Goals as goal
 
 pub returns-in-SheetFile-clause-told : goal.returns-in-SheetFile-clause-told
@@ -10,3 +13,12 @@ returns-in-SheetFile-clause-told g c files next told =
 pub returns-in-Show-clause-told : goal.returns-in-Show-clause-told
 returns-in-Show-clause-told g c files next told =
     rw c.in-Show.is (goes_put c.put_shown.result (at_start _ _) c.put_shown.ensures.ok c.put_shown.ensures.failed c.put_shown.ensures.cause)
+
+pub returns-in-Change-clause-reads : goal.returns-in-Change-clause-reads
+returns-in-Change-clause-reads g c files told = rw c.in-Change.is (on_ok c.play_edit.result (raises_none _ _ refl))
+
+pub returns-in-SheetFile-clause-reads : goal.returns-in-SheetFile-clause-reads
+returns-in-SheetFile-clause-reads g c files told = rw c.in-SheetFile.is (rw c.as_str.ensures.characters at c.play_sheet.ensures.reads files told)
+
+pub returns-in-Show-clause-reads : goal.returns-in-Show-clause-reads
+returns-in-Show-clause-reads g c files told = rw c.in-Show.is (on_ok c.put_shown.result (raises_none _ _ refl))

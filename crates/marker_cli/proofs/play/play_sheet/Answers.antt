@@ -1,5 +1,6 @@
 use Rattle.marker_cli.proofs.EndsLemmas.{at_start, at_text, ends_no_text}
 use Rattle.marker_cli.proofs.PlayLemmas.{goes_replaced, goes_stopped}
+use Rattle.marker_cli.proofs.ReadLemmas.{on_ok}
 use Rattle.marker_cli.proofs.play.play_sheet.Goals as goal
 
 pub returns-in_err-text-clause-told : goal.returns-in_err-text-clause-told
@@ -11,3 +12,6 @@ pub returns-clause-told : goal.returns-clause-told
 returns-clause-told g c files before next told =
     goes_replaced next c.replace_sheet.result (at_text files _ _ _ (at_start _ _) (c.in_ok-text.ensures.told files told))
     c.replace_sheet.ensures.ok c.replace_sheet.ensures.cause
+
+pub returns-clause-reads : goal.returns-clause-reads
+returns-clause-reads g c files told = on_ok c.replace_sheet.result (c.in_ok-text.ensures.came files told)

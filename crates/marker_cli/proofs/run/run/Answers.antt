@@ -11,39 +11,39 @@ use Rattle.marker_cli.proofs.run.run.Goals as goal
 
 pub returns-clause-told : goal.returns-clause-told
 returns-clause-told g c files readings told reads =
-    ends_flushed (c.perform-status.ensures.told files readings told reads) c.flushed-status.ensures.outcome c.flushed-status.ensures.kept
+    ends_flushed (c.perform-status.ensures.told files readings told reads) c.flushed-status.ensures.outcome c.flushed-status.ensures.out
     (rose_before _ _ _ c.flushed-status.ensures.faults) (rose_after _ _ _ c.perform-status.ensures.faults)
 
 pub returns-clause-complete : goal.returns-clause-complete
 returns-clause-complete g c files readings told reads quiet written =
-    completes (ends_flushed (c.perform-status.ensures.told files readings told reads) c.flushed-status.ensures.outcome c.flushed-status.ensures.kept
+    completes (ends_flushed (c.perform-status.ensures.told files readings told reads) c.flushed-status.ensures.outcome c.flushed-status.ensures.out
     (rose_before _ _ _ c.flushed-status.ensures.faults) (rose_after _ _ _ c.perform-status.ensures.faults)) (λ failed. quiet failed.rose) written
 
 pub returns-clause-turn : goal.returns-clause-turn
-returns-clause-turn g c files readings file told reads is =
+returns-clause-turn g c files readings told reads file is =
     ends_turn files (name_in c.args.words.now readings) file (turns_run c.args.words.now files readings reads)
     (c.perform-status.ensures.told files readings told reads) (was_before _ _ _ _ c.flushed-status.ensures.outcome is (λ e. cc e))
 
 pub returns-clause-not_held : goal.returns-clause-not_held
-returns-clause-not_held g c files readings file told reads honestly is =
+returns-clause-not_held g c files readings told reads file honestly is =
     ends_not_held files (name_in c.args.words.now readings) file (turns_run c.args.words.now files readings reads)
     (c.perform-status.ensures.told files readings told reads) honestly (was_before _ _ _ _ c.flushed-status.ensures.outcome is (λ e. cc e))
 
 pub returns-clause-missing : goal.returns-clause-missing
-returns-clause-missing g c files readings file told reads honestly comes gone =
+returns-clause-missing g c files readings told reads file honestly comes gone =
     ends_missing files (name_in c.args.words.now readings) file (turns_run c.args.words.now files readings reads)
-    (ends_flushed (c.perform-status.ensures.told files readings told reads) c.flushed-status.ensures.outcome c.flushed-status.ensures.kept
+    (ends_flushed (c.perform-status.ensures.told files readings told reads) c.flushed-status.ensures.outcome c.flushed-status.ensures.out
     (rose_before _ _ _ c.flushed-status.ensures.faults) (rose_after _ _ _ c.perform-status.ensures.faults)) honestly comes gone
 
 pub returns-clause-usage : goal.returns-clause-usage
 returns-clause-usage g c is = cause_as _ _ _ _ _ _ c.perform-status.ensures.cause (was_before _ _ _ _ c.flushed-status.ensures.outcome is (λ e. cc e))
 
 pub returns-clause-no_form : goal.returns-clause-no_form
-returns-clause-no_form g c none = stays _ _ _ _ c.flushed-status.ensures.outcome (c.perform-status.ensures.no_form none) (λ e. cc e)
+returns-clause-no_form g c none = stays _ _ _ _ c.flushed-status.ensures.outcome (c.perform-status.ensures.no_form none) (λ settled. settled)
 
 pub returns-clause-no_output : goal.returns-clause-no_output
 returns-clause-no_output g c is =
-    c.flushed-status.ensures.kept ∙ c.perform-status.ensures.no_output (was_before _ _ _ _ c.flushed-status.ensures.outcome is (λ e. cc e))
+    c.flushed-status.ensures.out ∙ c.perform-status.ensures.no_output (was_before _ _ _ _ c.flushed-status.ensures.outcome is (λ e. cc e))
 
 pub returns-clause-read_fault : goal.returns-clause-read_fault
 returns-clause-read_fault g c file is = cause_as _ _ _ _ _ _ c.perform-status.ensures.cause (was_before _ _ _ _ c.flushed-status.ensures.outcome is (λ e. cc e))
@@ -68,3 +68,7 @@ returns-clause-sheet_line g c files readings told reads tells =
 
 pub returns-clause-any_line : goal.returns-clause-any_line
 returns-clause-any_line g c = (c.as_slice.result.now, c.report.ensures.line)
+
+pub returns-clause-reads : goal.returns-clause-reads
+returns-clause-reads g c files readings told reads is =
+    c.perform-status.ensures.reads files readings told reads (was_before _ _ _ _ c.flushed-status.ensures.outcome is (λ e. cc e))

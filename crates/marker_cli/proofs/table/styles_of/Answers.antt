@@ -1,6 +1,6 @@
 use Rattle.std.proofs.Common.{◌≡◌, Result, subst}
 use Rattle.std.specs.Prelude.{IfOk}
-use Rattle.definitions.specs.CounterStyles.{finished_styles}
+use Rattle.css_definitions.specs.CounterStyles.{finished_styles}
 use Rattle.plain_types.specs.declared.sheet.Sheet.{Sheet}
 use Rattle.marker_cli.proofs.table.styles_of.Goals as goal
 
