@@ -7,7 +7,7 @@ use css_reader::sheet::read_sheet;
 use mini_cascade::agent_sheet::AGENT_SHEET;
 use mini_cascade::style_of::style_of;
 use node_arena::arena::Arena;
-use plain_types::content::Content;
+use plain_types::content::{Content, Item, QuoteKind};
 use plain_types::memory::Memory;
 use plain_types::sheet::Sheet;
 use plain_types::style::{Display, ElementStyle, ListType};
@@ -23,11 +23,26 @@ use steps::Steps;
 /// A document in which each element has one child at most, a sheet, and the style of the innermost element.
 type Styled = (&'static str, &'static str, &'static str);
 
-/// The rules of the user agent.
-static AGENT: [Styled; 15] = [
+/// The rules of the user agent: each name in its sheet, alone and in the lists that count.
+static AGENT: [Styled; 46] = [
     ("<p hidden=\"\"/>", "", "none disc"),
+    ("<area/>", "", "none disc"),
+    ("<base/>", "", "none disc"),
+    ("<datalist/>", "", "none disc"),
+    ("<head/>", "", "none disc"),
+    ("<link/>", "", "none disc"),
+    ("<meta/>", "", "none disc"),
+    ("<noembed/>", "", "none disc"),
+    ("<noframes/>", "", "none disc"),
+    ("<param/>", "", "none disc"),
+    ("<rp/>", "", "none disc"),
+    ("<script/>", "", "none disc"),
+    ("<style/>", "", "none disc"),
+    ("<template/>", "", "none disc"),
+    ("<title/>", "", "none disc"),
     ("<head><title/></head>", "", "none disc"),
     ("<p/>", "", "plain disc"),
+    ("<summary/>", "", "plain disc"),
     ("<li/>", "", "list-item disc"),
     ("<ol/>", "", "plain list-item 0 decimal"),
     ("<ul/>", "", "plain list-item 0 disc"),
@@ -35,15 +50,39 @@ static AGENT: [Styled; 15] = [
     ("<dir/>", "", "plain list-item 0 disc"),
     ("<ol><li/></ol>", "", "list-item decimal"),
     ("<ol><ul/></ol>", "", "plain list-item 0 circle"),
+    ("<ol><menu/></ol>", "", "plain list-item 0 circle"),
+    ("<ol><dir/></ol>", "", "plain list-item 0 circle"),
+    ("<ul><ul/></ul>", "", "plain list-item 0 circle"),
+    ("<ul><menu/></ul>", "", "plain list-item 0 circle"),
+    ("<ul><dir/></ul>", "", "plain list-item 0 circle"),
+    ("<menu><ul/></menu>", "", "plain list-item 0 circle"),
+    ("<menu><menu/></menu>", "", "plain list-item 0 circle"),
+    ("<menu><dir/></menu>", "", "plain list-item 0 circle"),
+    ("<dir><ul/></dir>", "", "plain list-item 0 circle"),
+    ("<dir><menu/></dir>", "", "plain list-item 0 circle"),
+    ("<dir><dir/></dir>", "", "plain list-item 0 circle"),
     ("<ul><li><menu/></li></ul>", "", "plain list-item 0 circle"),
     ("<ul><ol/></ul>", "", "plain list-item 0 decimal"),
+    ("<ul><p/></ul>", "", "plain disc"),
     ("<ul><ol><dir/></ol></ul>", "", "plain list-item 0 square"),
+    ("<ol><ul><menu/></ul></ol>", "", "plain list-item 0 square"),
+    (
+        "<menu><dir><ul/></dir></menu>",
+        "",
+        "plain list-item 0 square",
+    ),
+    (
+        "<dir><menu><dir/></menu></dir>",
+        "",
+        "plain list-item 0 square",
+    ),
+    ("<ol><ol><ul/></ol></ol>", "", "plain list-item 0 square"),
     (
         "<ul><dir><menu><ol/></menu></dir></ul>",
         "",
         "plain list-item 0 decimal",
     ),
-    ("<q/>", "", "plain disc ::before ::after"),
+    ("<q/>", "", "plain disc ::before open ::after close"),
 ];
 
 /// Attributes of lists, and sheets of authors.
@@ -96,7 +135,24 @@ fn innermost_style<L: Ledger>(
     Ok(style)
 }
 
-/// `display`, the counters that are reset, `list-style-type`, and which pseudo-elements have content.
+/// The quotation marks of a pseudo-element, if it has some.
+fn show_quotes(pseudo: &str, content: &Content, out: &mut Text) -> Result<(), Memory> {
+    let Content::Items(items) = content else {
+        return Ok(());
+    };
+    out.push(' ')?;
+    out.push_str(pseudo)?;
+    for item in items.as_slice() {
+        out.push_str(match item {
+            Item::Quote(QuoteKind::Open) => " open",
+            Item::Quote(QuoteKind::Close) => " close",
+            _ => " other",
+        })?;
+    }
+    Ok(())
+}
+
+/// `display`, the counters that are reset, `list-style-type`, and the quotation marks of pseudo-elements.
 fn shown(alloc: Global, style: &ElementStyle) -> Result<Text, Memory> {
     let display = match style.own.display {
         Display::Absent => "none",
@@ -115,12 +171,8 @@ fn shown(alloc: Global, style: &ElementStyle) -> Result<Text, Memory> {
         out.push(' ')?;
         out.push_str(name.as_str())?;
     }
-    if matches!(&style.before.content, Content::Items(_)) {
-        out.push_str(" ::before")?;
-    }
-    if matches!(&style.after.content, Content::Items(_)) {
-        out.push_str(" ::after")?;
-    }
+    show_quotes("::before", &style.before.content, &mut out)?;
+    show_quotes("::after", &style.after.content, &mut out)?;
     Ok(out)
 }
 

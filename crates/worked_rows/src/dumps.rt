@@ -81,7 +81,7 @@ static LIST_ITEMS: Dumps<14> = [
     ("<ol start=\"2\"><li/></ol>", "", "/0 marker \"2. \"\n"),
 ];
 
-static COUNTERS_AND_QUOTES: Dumps<5> = [
+static COUNTERS_AND_QUOTES: Dumps<7> = [
     // a counter that an earlier sibling created goes on
     (
         "<body><h1/><h2/><h2/><h1/><h2/></body>",
@@ -94,11 +94,21 @@ static COUNTERS_AND_QUOTES: Dumps<5> = [
         "p::before{content:counter(c)}",
         "/0 before \"0\"\n/1 before \"0\"\n",
     ),
-    // counters end at the ends of 32 bits
+    // counters go past 32 bits, and end at the ends of 64
     (
         "<p/>",
         "p{counter-reset:c 2147483647;counter-increment:c}p::before{content:counter(c)}",
-        "/ before \"2147483647\"\n",
+        "/ before \"2147483648\"\n",
+    ),
+    (
+        "<p/>",
+        "p{counter-reset:c 9223372036854775807;counter-increment:c}p::before{content:counter(c)}",
+        "/ before \"9223372036854775807\"\n",
+    ),
+    (
+        "<p/>",
+        "p{counter-reset:c -9223372036854775809;counter-increment:c -1}p::before{content:counter(c)}",
+        "/ before \"-9223372036854775808\"\n",
     ),
     // quotes in quotes; a closing at depth 0 writes nothing, and the rest is still written
     (

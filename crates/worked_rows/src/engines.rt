@@ -5,7 +5,9 @@ ghost use Rattle.node_arena.specs.Document.{HasElementRoot};
 
 use crate::trees::tree_of;
 use marker_engine::census::Census;
+use marker_engine::edit_fault::EditFault;
 use marker_engine::engine::Engine;
+use marker_engine::show_fault::ShowFault;
 use plain_types::memory::Memory;
 use plain_types::text::Text;
 use plain_types::tree::Tree;
@@ -79,6 +81,26 @@ fn elements_boxes_and_lines(rt: HostRuntime) -> Result<(), Fail> {
             lines: *lines,
         };
         assert!(rt; has_numbers(&rt, document, sheet, census)?, "row {place}");
+    }
+    Ok(())
+}
+
+#[test]
+fn messages(rt: HostRuntime) -> Result<(), Fail> {
+    for (fault, message) in [
+        (EditFault::NoPlace, "the edit has no place in the document"),
+        (EditFault::IntoItself, "a node can't be moved into itself"),
+        (EditFault::Memory, "out of memory"),
+    ] {
+        let told = format!(in rt.alloc(); "{fault}")?;
+        assert_eq!(rt; told.as_str(), message);
+    }
+    for (fault, message) in [
+        (ShowFault::WriteFault, "a write failed"),
+        (ShowFault::Memory, "out of memory"),
+    ] {
+        let told = format!(in rt.alloc(); "{fault}")?;
+        assert_eq!(rt; told.as_str(), message);
     }
     Ok(())
 }

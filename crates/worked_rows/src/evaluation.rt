@@ -87,23 +87,23 @@ static COUNTERS: [Evaluated; 10] = [
     // sums end at the ends of counts
     (
         "<p/>",
-        "p{counter-reset:c 2147483647;counter-increment:c}p::before{content:counter(c)}",
-        "(c 2147483647) before '2147483647' 0",
+        "p{counter-reset:c 9223372036854775807;counter-increment:c}p::before{content:counter(c)}",
+        "(c 9223372036854775807) before '9223372036854775807' 0",
     ),
     (
         "<p/>",
-        "p{counter-reset:c -2147483648;counter-increment:c -1}",
-        "(c -2147483648) 0",
+        "p{counter-reset:c -9223372036854775808;counter-increment:c -1}",
+        "(c -9223372036854775808) 0",
     ),
     (
         "<p/>",
-        "p{counter-increment:c 2147483647 c 2147483647 c -1}",
-        "(c 2147483646) 0",
+        "p{counter-increment:c 9223372036854775807 c 9223372036854775807 c -1}",
+        "(c 9223372036854775806) 0",
     ),
     (
         "<li/>",
-        "li{list-style:none;counter-reset:list-item 2147483647}",
-        "(list-item 2147483647) 0",
+        "li{list-style:none;counter-reset:list-item 9223372036854775807}",
+        "(list-item 9223372036854775807) 0",
     ),
     // names that come again
     ("<p/>", "p{counter-reset:a 1 b 2 a 3}", "(b 2, a 3) 0"),

@@ -13,7 +13,9 @@ use std::test::Fail;
 type Value = (&'static str, &'static str, &'static str);
 
 /// Ranges without an end, so that the ends are those of counts.
-static NUMERIC: [Value; 13] = [
+static NUMERIC: [Value; 15] = [
+    ("decimal", "-9223372036854775808", "-9223372036854775808"),
+    ("decimal", "9223372036854775807", "9223372036854775807"),
     ("decimal", "-2147483648", "-2147483648"),
     ("decimal", "-1", "-1"),
     ("decimal", "0", "0"),
@@ -112,9 +114,9 @@ static GREEK: [Value; 6] = [
 
 /// A sign for every number.
 static SIGNS: [Value; 7] = [
-    ("disc", "-2147483648", "•"),
+    ("disc", "-9223372036854775808", "•"),
     ("disc", "0", "•"),
-    ("disc", "2147483647", "•"),
+    ("disc", "9223372036854775807", "•"),
     ("circle", "1", "◦"),
     ("square", "1", "▪"),
     ("disclosure-open", "1", "▾"),

@@ -8,7 +8,7 @@ use plain_types::memory::Memory;
 use plain_types::text::Text;
 use ports::fixed_sink::FixedSink;
 use ports::honest_shelf::HonestShelf;
-use ports::named_file::{NamedFile, has_distinct_names};
+use ports::named_file::NamedFile;
 use ports::sink::Sink;
 use std::alloc::Global;
 use std::sync::ledger::{Blank, Ledger};
@@ -134,9 +134,6 @@ pub fn code_of<O: Sink, L: Ledger>(
     files.push(named(alloc, "s.css", row.sheet)?)?;
     files.push(named(alloc, "t.txt", row.script)?)?;
     files.push(named(alloc, "n.css", row.other_sheet)?)?;
-    if !has_distinct_names(files.as_slice()) {
-        return Err(Memory);
-    }
     let mut shelf = HonestShelf::new(files);
     let mut steps = Steps::<L>::open(rt, blank);
     Ok(run(alloc, words.as_slice(), &mut shelf, out, err, &mut steps).code())

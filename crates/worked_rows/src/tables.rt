@@ -95,9 +95,31 @@ fn long_texts(rt: HostRuntime) -> Result<(), Fail> {
             "2147483647 \"2147483647\"\n",
         ),
         tabled(
+            "@counter-style st{symbols:\"*\"}",
+            &[
+                "table",
+                "s.css",
+                "st",
+                "9223372036854775807",
+                "9223372036854775807",
+            ],
+            "9223372036854775807 \"9223372036854775807\"\n",
+        ),
+        tabled(
             "@counter-style e{symbols:\"\"}",
             &["table", "s.css", "e", "2147483647", "2147483647"],
             "2147483647 \"\"\n",
+        ),
+        tabled(
+            "@counter-style e{symbols:\"\"}",
+            &[
+                "table",
+                "s.css",
+                "e",
+                "9223372036854775807",
+                "9223372036854775807",
+            ],
+            "9223372036854775807 \"\"\n",
         ),
         tabled(
             "@counter-style p{system:numeric;symbols:\"0\" \"1\";pad:2147483647 \"x\"}",

@@ -30,7 +30,29 @@ fn bad_words(rt: HostRuntime) -> Result<(), Fail> {
         ended(&["table", "s.css", "decimal", "1", "0"], USAGE, 2),
         ended(&["table", "s.css", "decimal", "00", "1"], USAGE, 2),
         ended(&["table", "s.css", "decimal", "-0", "1"], USAGE, 2),
-        ended(&["table", "s.css", "decimal", "0", "2147483648"], USAGE, 2),
+        ended(
+            &[
+                "table",
+                "s.css",
+                "decimal",
+                "9223372036854775808",
+                "9223372036854775808",
+            ],
+            USAGE,
+            2,
+        ),
+        // the difference of the two does not fit 64 bits
+        ended(
+            &[
+                "table",
+                "s.css",
+                "decimal",
+                "-9223372036854775808",
+                "9223372036854775807",
+            ],
+            USAGE,
+            2,
+        ),
         ended(&["gen", "1", "0"], USAGE, 2),
         ended(&["gen", "1", "100001"], USAGE, 2),
         ended(&["gen", "2147483648", "1"], USAGE, 2),
