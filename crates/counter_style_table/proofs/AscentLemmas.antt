@@ -11,7 +11,7 @@ use Rattle.plain_types.specs.declared.counter_style.CounterStyle.{CounterStyle}
 use Rattle.plain_types.specs.declared.counter_style.StyleDef.{StyleDef}
 use Rattle.plain_types.specs.Table.{decimal_style}
 use Rattle.css_definitions.specs.CounterStyles.{over}
-use Rattle.counter_style_table.specs.Extends.{AreBelow, AreReady, AreSettled, IsDescent, base, finished_at, is_covered, is_done, is_in, over_at, style_from}
+use Rattle.counter_style_table.specs.Extends.{AreBelow, AreReady, AreSettled, IsDescent, base, finished_at, is_covered, is_done, is_on_path, over_at, style_from}
 use Rattle.counter_style_table.proofs.CycleLemmas.{none_some}
 use Rattle.counter_style_table.proofs.PathLemmas.{turn_plain, turn_head, turn_cycle}
 use Rattle.counter_style_table.proofs.SettledLemmas.{finished_on_cycle, finished_off_cycle}
@@ -74,12 +74,12 @@ module _ (rules : List StyleDef) where
     unfolding now
     covered_now p = elim (cases_eq p place) [
       | inl same ↦
-          ap (λ found. is_some found || is_in p rest) (get_or-set_at styles place p (Some style) None same inside)
-          ∙ sym (or_right (is_done styles p) (is_in p (place ∷ rest)) (or_left (place == p) (is_in p rest) (eq-eqb place p (sym same))))
+          ap (λ found. is_some found || is_on_path p rest) (get_or-set_at styles place p (Some style) None same inside)
+          ∙ sym (or_right (is_done styles p) (is_on_path p (place ∷ rest)) (or_left (place == p) (is_on_path p rest) (eq-eqb place p (sym same))))
           ∙ ap (λ places. is_covered styles places p) (sym popped) ∙ up.covered p
       | inr away ↦
-          ap (λ found. is_some found || is_in p rest) (get_or-set_other styles place p (Some style) None away)
-          ∙ ap (λ b. is_done styles p || (b || is_in p rest)) (sym (ne_eqb place p (λ same. away (sym same))))
+          ap (λ found. is_some found || is_on_path p rest) (get_or-set_other styles place p (Some style) None away)
+          ∙ ap (λ b. is_done styles p || (b || is_on_path p rest)) (sym (ne_eqb place p (λ same. away (sym same))))
           ∙ ap (λ places. is_covered styles places p) (sym popped) ∙ up.covered p
     ]
 
@@ -138,11 +138,11 @@ module _ (rules : List StyleDef) where
       right = up.right;
       closed = λ place other h e.
           done_at_end other
-          ∙ elim (or_cases (is_done first place) (is_in place whole) (sym (done_at_end place) ∙ h)) [
-            | inl done ↦ or_left (is_done first other) (is_in other whole) (s.closed place other done e)
+          ∙ elim (or_cases (is_done first place) (is_on_path place whole) (sym (done_at_end place) ∙ h)) [
+            | inl done ↦ or_left (is_done first other) (is_on_path other whole) (s.closed place other done e)
             | inr there ↦ d.covered place other there e
           ];
-      plain = λ place h e. done_at_end place ∙ or_left (is_done first place) (is_in place whole) (s.plain place h e);
+      plain = λ place h e. done_at_end place ∙ or_left (is_done first place) (is_on_path place whole) (s.plain place h e);
     }
 
 pub over_by : (rules : List StyleDef) (place : ℕ) (rule : StyleDef) (style extended from : CounterStyle) → slice_get rules place ≡ Some rule → style ≡ over rule extended → extended ≡ from → style ≡ over_at rules place from

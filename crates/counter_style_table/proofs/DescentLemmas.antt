@@ -9,7 +9,7 @@ use Rattle.plain_types.specs.declared.counter_style.CounterStyle.{CounterStyle}
 use Rattle.plain_types.specs.declared.counter_style.StyleDef.{StyleDef}
 use Rattle.plain_types.specs.Table.{decimal_style}
 use Rattle.css_definitions.proofs.Chains.{cases_option}
-use Rattle.counter_style_table.specs.Extends.{AreBelow, AreSettled, IsDescent, base, finished_at, is_covered, is_done, is_in, over_at, style_from}
+use Rattle.counter_style_table.specs.Extends.{AreBelow, AreSettled, IsDescent, base, finished_at, is_covered, is_done, is_on_path, over_at, style_from}
 use Rattle.counter_style_table.proofs.CycleLemmas.{none_some}
 use Rattle.counter_style_table.proofs.PathLemmas.{AreDistinct, AreLinked, linked_next, ready_at_finished, ready_at_cycle}
 use Rattle.counter_style_table.proofs.SettledLemmas.{base_within, finished_on_cycle, finished_off_cycle}
@@ -23,7 +23,7 @@ module _ (rules : List StyleDef) (styles : List (Option CounterStyle)) (start : 
     pub linked : AreLinked (base rules) (Some at) path
     pub distinct : AreDistinct path
     pub marked : (p : ℕ) → get_or begun p false ≡ is_covered styles path p
-    pub unfinished : (p : ℕ) → is_in p path ≡ true → is_done styles p ≡ false
+    pub unfinished : (p : ℕ) → is_on_path p path ≡ true → is_done styles p ≡ false
     pub started : (at ≡ start) ⊎ (is_covered styles path start ≡ true)
 
   pub sets_out : (begun : List Bool) → length begun ≡ length rules → start < length rules → ((p : ℕ) → get_or begun p false ≡ is_done styles p) → Descends begun start []
@@ -42,20 +42,20 @@ module _ (rules : List StyleDef) (styles : List (Option CounterStyle)) (start : 
     or_nothing false = refl
 
   -- a place that is not marked is neither finished nor on the path, and extends another
-  unmarked : (begun : List Bool) (at : ℕ) (path : List ℕ) → Descends begun at path → get_or begun at false ≡ false → (is_done styles at ≡ false) × (is_in at path ≡ false)
-  unmarked begun at path d h = or_parts (is_done styles at) (is_in at path) (sym (d.marked at) ∙ h)
+  unmarked : (begun : List Bool) (at : ℕ) (path : List ℕ) → Descends begun at path → get_or begun at false ≡ false → (is_done styles at ≡ false) × (is_on_path at path ≡ false)
+  unmarked begun at path d h = or_parts (is_done styles at) (is_on_path at path) (sym (d.marked at) ∙ h)
 
   pub goes_on : (begun : List Bool) (at : ℕ) (path : List ℕ) → Descends begun at path → AreSettled rules styles → get_or begun at false ≡ false → base rules at ≡ None → ⊥
   goes_on begun at path d s h e = both_ways _ (unmarked begun at path d h).0 (s.plain at d.here e)
 
   covered_more : (at p : ℕ) (path : List ℕ) → is_covered styles path p ≡ true → is_covered styles (at ∷ path) p ≡ true
-  covered_more at p path h = elim (or_cases (is_done styles p) (is_in p path) h) [
-    | inl i ↦ or_left (is_done styles p) (is_in p (at ∷ path)) i
-    | inr i ↦ or_right (is_done styles p) (is_in p (at ∷ path)) (or_right (at == p) (is_in p path) i)
+  covered_more at p path h = elim (or_cases (is_done styles p) (is_on_path p path) h) [
+    | inl i ↦ or_left (is_done styles p) (is_on_path p (at ∷ path)) i
+    | inr i ↦ or_right (is_done styles p) (is_on_path p (at ∷ path)) (or_right (at == p) (is_on_path p path) i)
   ]
 
   covered_here : (at : ℕ) (path : List ℕ) → is_covered styles (at ∷ path) at ≡ true
-  covered_here at path = or_right (is_done styles at) (is_in at (at ∷ path)) (or_left (at == at) (is_in at path) (eq-eqb at at refl))
+  covered_here at path = or_right (is_done styles at) (is_on_path at (at ∷ path)) (or_left (at == at) (is_on_path at path) (eq-eqb at at refl))
 
   pub goes_down : (begun : List Bool) (at next : ℕ) (path : List ℕ) → Descends begun at path → get_or begun at false ≡ false → base rules at ≡ Some next → Descends (set begun at true) next (at ∷ path)
   goes_down begun at next path d h e =
@@ -71,9 +71,9 @@ module _ (rules : List StyleDef) (styles : List (Option CounterStyle)) (start : 
           | inl i ↦ get_or-set_at begun at p true false i inside ∙ sym (ap (is_covered styles (at ∷ path)) i ∙ covered_here at path)
           | inr n ↦
               get_or-set_other begun at p true false n ∙ d.marked p
-              ∙ ap (λ b. is_done styles p || (b || is_in p path)) (sym (ne_eqb at p (λ i. n (sym i))))
+              ∙ ap (λ b. is_done styles p || (b || is_on_path p path)) (sym (ne_eqb at p (λ i. n (sym i))))
         ];
-        unfinished = λ p i. elim (or_cases (at == p) (is_in p path) i) [
+        unfinished = λ p i. elim (or_cases (at == p) (is_on_path p path) i) [
           | inl here ↦ ap (is_done styles) (sym (eqb-true at p here)) ∙ off.0
           | inr there ↦ d.unfinished p there
         ];
@@ -84,10 +84,10 @@ module _ (rules : List StyleDef) (styles : List (Option CounterStyle)) (start : 
       }
 
   -- The end of the way down.
-  covered_next : (begun : List Bool) (at : ℕ) (path : List ℕ) → Descends begun at path → is_covered styles path at ≡ true → (p q : ℕ) → is_in p path ≡ true → base rules p ≡ Some q → is_covered styles path q ≡ true
+  covered_next : (begun : List Bool) (at : ℕ) (path : List ℕ) → Descends begun at path → is_covered styles path at ≡ true → (p q : ℕ) → is_on_path p path ≡ true → base rules p ≡ Some q → is_covered styles path q ≡ true
   covered_next begun at path d h p q i e = elim (linked_next (base rules) (Some at) path p q d.linked i e) [
     | inl same ↦ let here : q ≡ at = cc in ap (is_covered styles path) here ∙ h
-    | inr there ↦ or_right (is_done styles q) (is_in q path) there
+    | inr there ↦ or_right (is_done styles q) (is_on_path q path) there
   ]
 
   pub covers_start : (begun : List Bool) (at : ℕ) (path : List ℕ) → Descends begun at path → get_or begun at false ≡ true → is_covered styles path start ≡ true
@@ -116,7 +116,7 @@ module _ (rules : List StyleDef) (styles : List (Option CounterStyle)) (start : 
   pub ends_on_cycle : (begun : List Bool) (at : ℕ) (path : List ℕ) → Descends begun at path → get_or begun at false ≡ true → is_done styles at ≡ false → IsDescent rules styles path (Some at) None
   ends_on_cycle begun at path d h f =
       let covered : is_covered styles path at ≡ true = sym (d.marked at) ∙ h in
-      let here : is_in at path ≡ true = elim (or_cases (is_done styles at) (is_in at path) covered) [ inl g ↦ absurd (both_ways _ f g) | inr i ↦ i ] in
+      let here : is_on_path at path ≡ true = elim (or_cases (is_done styles at) (is_on_path at path) covered) [ inl g ↦ absurd (both_ways _ f g) | inr i ↦ i ] in
       record {
         below = d.below;
         ready =

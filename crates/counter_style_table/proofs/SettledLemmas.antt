@@ -15,7 +15,7 @@ use Rattle.plain_types.specs.StyleNames.{style_name}
 use Rattle.plain_types.specs.Table.{decimal_style}
 use Rattle.css_definitions.specs.CounterStyles.{extended_by, system_of}
 use Rattle.css_definitions.proofs.Chains.{cases_option}
-use Rattle.counter_style_table.specs.Extends.{AreSettled, OnCycle, base, base_of, finished_at, is_covered, is_done, is_in, own, over_at}
+use Rattle.counter_style_table.specs.Extends.{AreSettled, OnCycle, base, base_of, finished_at, is_covered, is_done, is_on_path, own, over_at}
 use Rattle.counter_style_table.specs.Rules.{is_named}
 use Rattle.counter_style_table.proofs.CycleLemmas.{none_some, finished-plain, finished-cyclic, finished-extends}
 
@@ -137,7 +137,7 @@ module _ (rules : List StyleDef) where
     marked = λ p. marked p ∙ sym (covered p);
     done = λ p h. elim (cases_eq p place) [
       | inl same ↦ covered p ∙ ap (is_covered styles path) same ∙ here
-      | inr away ↦ covered p ∙ or_left (is_done styles p) (is_in p path) (f.done p (omega (arith, h, away)))
+      | inr away ↦ covered p ∙ or_left (is_done styles p) (is_on_path p path) (f.done p (omega (arith, h, away)))
     ];
   }
 

@@ -1,6 +1,6 @@
 -- Rules by their places, what they extend, and how far their styles are finished.
 use Rattle.std.specs.Prelude.{◌≡◌, ℕ, zero, suc, ◌<◌, ◌==◌, ◌||◌, Bool, true, false, cond, List, [], ◌∷◌, Option, Some, None, is_some, length, slice_index_or, unwrap_or}
-use Rattle.std.specs.List.{position, slice_get}
+use Rattle.std.specs.List.{list_any, position, slice_get}
 use Rattle.std.specs.Option.{option_and_then, option_map_or}
 use Rattle.plain_types.specs.declared.counter_style.CounterStyle.{CounterStyle}
 use Rattle.plain_types.specs.declared.counter_style.StyleDef.{StyleDef}
@@ -61,9 +61,9 @@ module _ (rules : List StyleDef) where
   abbrev pub finished_at : ℕ → CounterStyle
   finished_at place = finished_within base own over_at (length rules) (length rules) place
 
-abbrev pub is_in : ℕ → List ℕ → Bool
-is_in place [] = false
-is_in place (first ∷ places) = (first == place) || is_in place places
+-- the place is one of a path
+abbrev pub is_on_path : ℕ → List ℕ → Bool
+is_on_path place path = list_any (λ other. other == place) path
 
 abbrev pub AreBelow : ℕ → List ℕ → Type 0
 AreBelow count [] = Unit {0}
@@ -73,9 +73,9 @@ AreBelow count (place ∷ places) = (place < count) × AreBelow count places
 abbrev pub is_done : List (Option CounterStyle) → ℕ → Bool
 is_done styles place = is_some (slice_index_or styles place None)
 
--- it is finished, or its place is among those of a path
+-- it is finished, or its place is one of a path
 abbrev pub is_covered : List (Option CounterStyle) → List ℕ → ℕ → Bool
-is_covered styles path place = is_done styles place || is_in place path
+is_covered styles path place = is_done styles place || is_on_path place path
 
 abbrev pub EitherFact : Bool → Type 0 → Type 0 → Type 0
 EitherFact true first second = first
@@ -110,4 +110,4 @@ pub record IsDescent (rules : List StyleDef) (styles : List (Option CounterStyle
   pub below : AreBelow (length rules) path
   pub ready : AreReady (base rules) (over_at rules) (finished_at rules) cycle (style_from styles from) path
   pub decimal_first : (head : ℕ) → cycle ≡ Some head → from ≡ None
-  pub covered : (place other : ℕ) → is_in place path ≡ true → base rules place ≡ Some other → is_covered styles path other ≡ true
+  pub covered : (place other : ℕ) → is_on_path place path ≡ true → base rules place ≡ Some other → is_covered styles path other ≡ true

@@ -11,7 +11,7 @@ use plain_types::counter_style::{Descriptor, StyleDef};
 use plain_types::style_name::first_equal;
 use plain_types::style_ref::System;
 
-/// Names that no style has (CSS Counter Styles 3, 2 and CSS Values 4, 4.2), and names of styles that no
+/// Names that no style has (CSS Counter Styles 3, 3 and CSS Values 4, 4.2), and names of styles that no
 /// rule replaces (CSS Counter Styles 3, 3).
 static RESERVED: [&str; 14] = [
     "",

@@ -1,5 +1,5 @@
 -- `decimal` writes every value, and as programs write numbers.
-use Rattle.std.proofs.Common.{◌≡◌, ◌+◌, ◌-◌, ◌<◌, ◌≤◌, ◌^◌, ℕ, zero, suc, ℤ, pos, negsuc, List, [], ◌∷◌, ◌++◌, Option, Some, None, Bool, true, false, cond, map, flat_map, length, ◌==◌, refl, sym, ap, ◌∙◌, arith, inl, inr, append-nil, unsigned_abs, lit<, lit≤}
+use Rattle.std.proofs.Common.{◌≡◌, ◌+◌, ◌<◌, ◌≤◌, ◌^◌, ℕ, zero, suc, ℤ, pos, negsuc, List, [], ◌∷◌, ◌++◌, Some, cond, map, flat_map, length, refl, sym, ap, ◌∙◌, arith, append-nil, unsigned_abs, lit<, lit≤}
 use Rattle.std.specs.Fmt.{decimal, signed_decimal}
 use Rattle.std.specs.Int.Digits.{digits_of}
 use Rattle.std.specs.List.{AllByRecursion, repeat}
@@ -8,7 +8,7 @@ use Rattle.std.proofs.lemmas.Bool.{ne_eqb, le-leb, le-ltb}
 use Rattle.std.proofs.lemmas.Fmt.{decimal-digits_of, decimal_digit, length-decimal-le}
 use Rattle.std.proofs.lemmas.Int.Digits.{all_below_base_digits_of}
 use Rattle.plain_types.specs.Table.{decimal_style}
-use Rattle.css_definitions.specs.Representation.{symbol, positional_digits, numeric_text, limited, padded, signed, written, missing_count}
+use Rattle.css_definitions.specs.Representation.{symbol, numeric_text, limited, padded, signed, written, missing_count}
 
 abbrev digits : List (List ℕ)
 digits = decimal_style.symbols

@@ -1,7 +1,7 @@
 -- Finished counter styles from `@counter-style` rules: CSS Counter Styles 3, 3.
-use Rattle.std.specs.Prelude.{ℕ, zero, suc, ◌+◌, Bool, true, false, not, ◌&&◌, ◌||◌, pos, List, [], ◌∷◌, ◌++◌, Option, Some, None, is_some, length, map, filter, cond, codes, unwrap_or}
+use Rattle.std.specs.Prelude.{ℕ, zero, suc, Bool, true, false, not, ◌&&◌, ◌||◌, pos, List, [], ◌∷◌, ◌++◌, Option, Some, None, is_some, length, map, filter, cond, codes}
 use Rattle.std.specs.List.{fold, list_any}
-use Rattle.std.specs.Option.{option_map, option_map_or}
+use Rattle.std.specs.Option.{option_map_or}
 use Rattle.std.specs.Str.{bytes_eq}
 use Rattle.plain_types.specs.declared.counter_style.Bounds.{Bounds}
 use Rattle.plain_types.specs.declared.counter_style.CounterStyle.{CounterStyle}
@@ -9,7 +9,7 @@ use Rattle.plain_types.specs.declared.counter_style.Descriptor.{Descriptor}
 use Rattle.plain_types.specs.declared.counter_style.Descriptor.TheVariants as descriptor
 use Rattle.plain_types.specs.declared.counter_style.StyleDef.{StyleDef}
 use Rattle.plain_types.specs.declared.style_ref.System.{System}
-use Rattle.plain_types.specs.declared.style_ref.System.TheVariants.{Cyclic, Numeric, Alphabetic, Symbolic, Additive, Fixed, Extends}
+use Rattle.plain_types.specs.declared.style_ref.System.TheVariants.{Alphabetic, Symbolic, Additive, Extends}
 use Rattle.plain_types.specs.StyleNames.{lower_case, style_name}
 use Rattle.plain_types.specs.Table.{decimal_style, has_its_symbols}
 use Rattle.css_definitions.specs.PredefinedStyles.{predefined}
@@ -77,7 +77,7 @@ own_style rule = over rule (initial_style (system_of rule))
 
 -- Which rules define a style.
 
--- 2 and CSS Values 4, 4.2: names that no style has
+-- 3 and CSS Values 4, 4.2: names that no style has
 abbrev pub excluded_names : List (List ℕ)
 excluded_names =
     [] ∷ codes "none" ∷ codes "inherit" ∷ codes "initial" ∷ codes "unset" ∷ codes "revert" ∷ codes "revert-layer" ∷ codes "default" ∷ []

@@ -1,7 +1,6 @@
 -- The predefined counter styles, as rules: CSS Counter Styles 3, 6.
-use Rattle.std.specs.Prelude.{ℕ, ◌+◌, ◌*◌, ◌/◌, ◌%◌, ◌^◌, pos, List, [], ◌∷◌, ◌++◌, Some, None, codes, map, reverse}
+use Rattle.std.specs.Prelude.{ℕ, ◌+◌, ◌*◌, ◌/◌, ◌%◌, ◌^◌, pos, List, [], ◌∷◌, Some, None, codes, map, reverse}
 use Rattle.std.specs.List.{range_with_len}
-use Rattle.plain_types.specs.declared.counter_style.Bounds.{Bounds}
 use Rattle.plain_types.specs.declared.counter_style.Descriptor.{Descriptor}
 use Rattle.plain_types.specs.declared.counter_style.Descriptor.TheVariants as descriptor
 use Rattle.plain_types.specs.declared.counter_style.StyleDef.{StyleDef}

@@ -1,5 +1,5 @@
 -- Counter values as texts: CSS Counter Styles 3, 2 and 3.
-use Rattle.std.specs.Prelude.{◌≡◌, ℕ, zero, suc, ◌+◌, ◌-◌, ◌*◌, ◌/◌, ◌%◌, Bool, true, false, ◌&&◌, ◌||◌, ◌==◌, nat_le, nat_lt, ℤ, pos, negsuc, ◌-ℤ◌, int_le, List, [], ◌∷◌, ◌++◌, Option, Some, None, length, cond, codes, unwrap_or, unsigned_abs, option_and_then, encode_utf8_all, slice_index_or}
+use Rattle.std.specs.Prelude.{ℕ, zero, suc, ◌+◌, ◌-◌, ◌/◌, ◌%◌, Bool, true, false, ◌&&◌, ◌==◌, nat_le, nat_lt, ℤ, pos, negsuc, ◌-ℤ◌, int_le, List, [], ◌∷◌, ◌++◌, Option, Some, None, length, cond, codes, unwrap_or, unsigned_abs, option_and_then, encode_utf8_all, slice_index_or}
 use Rattle.std.specs.Ordering.{int_eq}
 use Rattle.std.specs.Fmt.{signed_decimal}
 use Rattle.std.specs.Int.{int_rem_euclid, is_negative}
@@ -170,7 +170,7 @@ module _ (table : List CounterStyle) where
   abbrev pub represented : CounterStyle → ℤ → List ℕ
   represented style value = represented_within (length table + 1) [] style value
 
-  -- 5: the style that is meant; an unknown name means `decimal`, and so do too few symbols (our own)
+  -- 2, step 1: the style that is meant; an unknown name means `decimal`, and so do too few symbols (our own)
   abbrev pub chosen_style : StyleRef → CounterStyle
   chosen_style Nothing = decimal_style
   chosen_style (Name name) = unwrap_or (style_named table name) decimal_style

@@ -1,11 +1,10 @@
 -- The number of digits, counted in 64 bits.
-use Rattle.std.proofs.Common.{◌≡◌, ℕ, zero, suc, ◌+◌, ◌*◌, ◌-◌, ◌^◌, ◌<◌, min, Bool, true, false, cond, List, [], ◌∷◌, Option, Some, None, is_some, refl, sym, ap, ◌∙◌, arith}
+use Rattle.std.proofs.Common.{◌≡◌, ℕ, zero, suc, ◌+◌, ◌*◌, ◌-◌, ◌^◌, ◌<◌, min, Bool, true, false, List, [], ◌∷◌, refl, sym, ap, ◌∙◌, arith}
 use Rattle.std.specs.Char.{digit_value}
 use Rattle.std.specs.Str.Parse.{digits_value, digits_value_after}
-use Rattle.std.proofs.Math.IntN.{ℤ, pos}
 use Rattle.std.proofs.lemmas.Int.{ints, clamps}
 use Rattle.reading.specs.Characters.{is_digit, is_hexadecimal_digit}
-use Rattle.reading.specs.Reading.{◌then◌, ◌otherwise◌, span, span_of}
+use Rattle.reading.specs.Reading.{span, span_of}
 use Rattle.css_tokens.specs.Numbers.{saturated}
 
 -- The loop has counted the digits before these: of `all` the digits `here` are left.

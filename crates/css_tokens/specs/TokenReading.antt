@@ -76,15 +76,3 @@ past_close bracket (first ∷ rest) = if is_sign bracket first.kind then Some re
 abbrev pub skip_whitespace : List Token → List Token
 skip_whitespace [] = []
 skip_whitespace (first ∷ rest) = if is_whitespace first.kind then skip_whitespace rest else first ∷ rest
-
--- Combinations.
-
--- what was read, where nothing is left after it
-abbrev pub only : {X E : Type 0} → X → List E → Option X
-only x [] = Some x
-only x (_ ∷ _) = None
-
--- a part that may be missing
-abbrev pub optional : {X E : Type 0} → Option (X × List E) → List E → Option X × List E
-optional None whole = (None, whole)
-optional (Some read) whole = (Some read.0, read.1)

@@ -1,31 +1,14 @@
 //! Characters at the front of a text, and their classes.
 
-ghost use Rattle.std.specs.Prelude.{◌≡◌, ◌∷◌, ◌++◌, [], MatchOption, IfSome};
-ghost use Rattle.std.specs.Char.{encode_utf8};
+ghost use Rattle.std.specs.Prelude.{◌≡◌, IfSome};
 ghost use Rattle.std.specs.Str.{chars, IsUtf8};
-ghost use Rattle.reading.specs.Characters.{is_blank, is_digit, is_hexadecimal_digit, is_quote};
-ghost use Rattle.reading.specs.Reading.{Reads, begins, past_character, past_one};
+ghost use Rattle.reading.specs.Characters.{is_digit, is_hexadecimal_digit};
+ghost use Rattle.reading.specs.Reading.{Reads, begins, past_one};
 ghost use Rattle.css_definitions.specs.SheetCharacters.{is_ident_start, is_ident_character};
 ghost use Rattle.css_tokens.specs.Tokens.{blanks_at};
 ghost use Rattle.css_tokens.specs.Urls.{past_blanks};
 
-/// The first character and the text after it, or `None` at the end of the text.
-pub fn first_char(text: &str) -> Option<(char, &str)>
-    ensures bytes { MatchOption result (text.now ≡ []) (λ x. text.now ≡ encode_utf8 x.0 ++ x.1.now) }
-    ensures chars { MatchOption result (chars text.now ≡ []) (λ x. chars text.now ≡ x.0 ∷ chars x.1.now) }
-    ensures text { IfSome result (λ x. IsUtf8 x.1.now) }
-{
-    let mut characters = text.chars();
-    let first = characters.next()?;
-    Some((first, characters.as_str()))
-}
-
-/// Whether the character is whitespace of a prepared text (CSS Syntax 3, 4.2).
-pub fn is_blank(c: char) -> bool
-    ensures blank { result ≡ is_blank c }
-{
-    c == ' ' || c == '\t' || c == '\n'
-}
+use reading::characters::{first_char, is_blank};
 
 /// Whether the character is an ASCII digit.
 pub fn is_digit(c: char) -> bool
@@ -50,21 +33,6 @@ pub(crate) fn is_ident_character(c: char) -> bool
     ensures { result ≡ is_ident_character c }
 {
     is_ident_start(c) || is_digit(c) || c == '-'
-}
-
-pub(crate) fn is_quote(c: char) -> bool
-    ensures { result ≡ is_quote c }
-{
-    c == '"' || c == '\''
-}
-
-/// The text after this character, where it stands at the front.
-pub fn past_character(wanted: char, text: &str) -> Option<&str>
-    ensures gives { Reads (λ x. chars x.now) result (past_character wanted (chars text.now)) }
-    ensures text { IfSome result (λ x. IsUtf8 x.now) }
-{
-    let (first, rest) = first_char(text)?;
-    if first == wanted { Some(rest) } else { None }
 }
 
 /// Whether this character stands at the front.

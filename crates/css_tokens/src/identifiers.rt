@@ -9,11 +9,11 @@ ghost use Rattle.reading.specs.Characters.{is_hexadecimal_digit};
 ghost use Rattle.css_definitions.specs.Identifiers.{character_of, past_blank, escape_at, is_escape, ident_character_at, ident_sequence_at, starts_letter, starts_identifier, identifier_at};
 
 use crate::characters::{
-    begins, first_char, is_blank, is_digit, is_hexadecimal_digit, is_ident_character,
-    is_ident_start,
+    begins, is_digit, is_hexadecimal_digit, is_ident_character, is_ident_start,
 };
 use plain_types::memory::Memory;
 use plain_types::text::Text;
+use reading::characters::{first_char, is_blank};
 use std::alloc::Global;
 
 /// The number of a hexadecimal digit.

@@ -7,7 +7,7 @@ ghost use Rattle.css_definitions.specs.SheetText.{IsPrepared};
 ghost use Rattle.css_tokens.specs.Tokens.{past_comment_end, comment_at, hash_at, token_at, piece_at, token_from, tokens};
 ghost use Rattle.css_tokens.specs.Spans.{AreSpans};
 
-use crate::characters::{begins, blanks, first_char, past_character, past_one};
+use crate::characters::{begins, blanks, past_one};
 use crate::identifiers::{ident_character, ident_sequence, starts_identifier};
 use crate::numbers::number;
 use crate::strings::string;
@@ -15,6 +15,7 @@ use crate::token::{Token, TokenKind};
 use crate::urls::{at_keyword, named};
 use plain_types::list::List;
 use plain_types::memory::Memory;
+use reading::characters::{first_char, past_character};
 use std::alloc::Global;
 
 /// The text after the first `*/`.

@@ -7,10 +7,11 @@ ghost use Rattle.reading.specs.Characters.{is_digit};
 ghost use Rattle.reading.specs.Reading.{Reads, span};
 ghost use Rattle.css_tokens.specs.Numbers.{sign_at, saturated, saturated_at, integer_at, fraction_at, exponent_at, number_end, after_fraction, after_digits, number_at};
 
-use crate::characters::{begins, first_char, is_digit, past_character, past_one};
+use crate::characters::{begins, is_digit, past_one};
 use crate::identifiers::{digit_value, past_ident_sequence, starts_identifier};
 use crate::token::TokenKind;
 use plain_types::count::{COUNT_HIGH, COUNT_LOW, Count};
+use reading::characters::{first_char, past_character};
 
 /// Whether a `-` stands at the front, and the text after an optional sign.
 pub fn sign(text: &str) -> (bool, &str)

@@ -4,9 +4,10 @@ ghost use Rattle.std.specs.Prelude.{◌≡◌, ◌++◌, IfOk, OnOk};
 ghost use Rattle.std.specs.Str.{chars, IsUtf8};
 ghost use Rattle.css_definitions.specs.SheetText.{filtered_character, left_before, past_mark, prepared, IsPrepared};
 
-use crate::characters::{begins, first_char};
+use crate::characters::begins;
 use plain_types::memory::Memory;
 use plain_types::text::Text;
+use reading::characters::first_char;
 use std::alloc::Global;
 
 fn past_mark(text: &str) -> &str

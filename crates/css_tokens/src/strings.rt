@@ -5,11 +5,11 @@ ghost use Rattle.std.specs.Str.{chars, IsUtf8};
 ghost use Rattle.reading.specs.Reading.{Reads, run_at};
 ghost use Rattle.css_tokens.specs.Strings.{string_escape_at, string_piece_at, string_at, string_end, kept};
 
-use crate::characters::{first_char, is_quote};
 use crate::identifiers::escape;
 use crate::token::TokenKind;
 use plain_types::memory::Memory;
 use plain_types::text::Text;
+use reading::characters::{first_char, is_quote};
 use std::alloc::Global;
 
 /// The character that a `\` before this text leaves in a string, if it leaves one, and the text after it.

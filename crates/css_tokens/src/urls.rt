@@ -6,14 +6,13 @@ ghost use Rattle.reading.specs.Reading.{Reads, run_at};
 ghost use Rattle.css_definitions.specs.SheetCharacters.{is_non_printable};
 ghost use Rattle.css_tokens.specs.Urls.{is_url_character, url_character_at, bad_url_character_at, past_bad_url, url_end, url_at, begins_quote, function_or_url, named_of, named_at, at_keyword_at};
 
-use crate::characters::{
-    begins, first_char, is_blank, is_quote, past_blanks, past_character, past_one,
-};
+use crate::characters::{begins, past_blanks, past_one};
 use crate::identifiers::{escape, identifier};
 use crate::token::TokenKind;
 use crate::words::is_word;
 use plain_types::memory::Memory;
 use plain_types::text::Text;
+use reading::characters::{first_char, is_blank, is_quote, past_character};
 use std::alloc::Global;
 
 fn is_non_printable(c: char) -> bool

@@ -2,10 +2,10 @@
 use Rattle.std.proofs.Common.{ℕ, Bool, List, [], ◌∷◌, Option, Some, None, refl, ℤ}
 use Rattle.std.specs.Prelude.{codes}
 use Rattle.plain_types.specs.declared.style_ref.System.{System}
-use Rattle.reading.specs.Reading.{◌then◌, run_at}
+use Rattle.reading.specs.Reading.{◌then◌, optional, run_at}
 use Rattle.reading.proofs.Following.{Follows, here, later, left, nothing, ended, none_ends, Follows-trans, Leaves, Ends, leave_if, end_if, leave_otherwise, leave_then, end_then, leave_more, end_more, leave_within, TakesOne, takes_leaves, run_follows}
 use Rattle.css_tokens.specs.declared.token.TokenKind.{TokenKind}
-use Rattle.css_tokens.specs.TokenReading.{is_sign, is_function, is_keyword, ident_of, string_of, integer_of, optional}
+use Rattle.css_tokens.specs.TokenReading.{is_sign, is_function, is_keyword, ident_of, string_of, integer_of}
 use Rattle.css_values.specs.Parts.{one_at, past_one_that, past_comma, past_keyword, past_function, past_close, string_at, integer_at, natural_of, natural_at, name_of, name_at, style_name_at, symbol_of, symbol_at, after_comma_at}
 use Rattle.css_values.specs.Styles.{symbols_type_of, symbols_system_at, anonymous, strings_at, symbols_at, style_at, last_style_at, list_type_at}
 use Rattle.css_values.specs.Lists.{reversed_at, reset_at, counter_op_at, part_at}

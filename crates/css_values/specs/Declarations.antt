@@ -8,10 +8,10 @@ use Rattle.plain_types.specs.declared.style.Display.{Display}
 use Rattle.plain_types.specs.declared.style.Display.TheVariants as display
 use Rattle.plain_types.specs.declared.style.ListType.{ListType}
 use Rattle.reading.specs.Reading.{◌then◌, ◌otherwise◌}
-use Rattle.css_definitions.specs.Words.{is_word}
+use Rattle.css_definitions.specs.Words.{is_word, is_among}
 use Rattle.css_tokens.specs.declared.token.TokenKind.{TokenKind}
 use Rattle.css_tokens.specs.TokenReading.{ident_of}
-use Rattle.css_values.specs.Parts.{one_at, is_among, is_alone, alone}
+use Rattle.css_values.specs.Parts.{one_at, is_alone, alone}
 use Rattle.css_values.specs.Styles.{list_type_at}
 use Rattle.css_values.specs.Lists.{resets, increments, assigns, list_style}
 use Rattle.css_values.specs.Contents.{quotes_value, content_value}

@@ -6,10 +6,10 @@ use Rattle.plain_types.specs.declared.counter_style.Descriptor.TheVariants as de
 use Rattle.plain_types.specs.declared.counter_style.Weight.{Weight}
 use Rattle.plain_types.specs.declared.style_ref.System.{System}
 use Rattle.plain_types.specs.declared.style_ref.System.TheVariants as system
-use Rattle.reading.specs.Reading.{◌then◌, ◌otherwise◌}
+use Rattle.reading.specs.Reading.{◌then◌, ◌otherwise◌, only, optional}
 use Rattle.css_definitions.specs.Words.{is_word}
 use Rattle.css_tokens.specs.declared.token.TokenKind.{TokenKind}
-use Rattle.css_tokens.specs.TokenReading.{ident_of, optional, only}
+use Rattle.css_tokens.specs.TokenReading.{ident_of}
 use Rattle.css_values.specs.Parts.{one_at, is_alone, past_keyword, integer_at, natural_at, symbol_at, style_name_at, alone, all_of, comma_list}
 
 -- 3.1: `cyclic | numeric | alphabetic | symbolic | additive`

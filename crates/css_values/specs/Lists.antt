@@ -6,9 +6,8 @@ use Rattle.plain_types.specs.declared.style.ListType.{ListType}
 use Rattle.plain_types.specs.declared.style.ListType.TheVariants as list_type
 use Rattle.plain_types.specs.declared.style.ResetOp.{ResetOp}
 use Rattle.plain_types.specs.declared.style_ref.StyleRef.TheVariants as style_ref
-use Rattle.reading.specs.Reading.{◌then◌, ◌otherwise◌}
+use Rattle.reading.specs.Reading.{◌then◌, ◌otherwise◌, optional}
 use Rattle.css_tokens.specs.declared.token.TokenKind.{TokenKind}
-use Rattle.css_tokens.specs.TokenReading.{optional}
 use Rattle.css_values.specs.Parts.{is_alone, past_keyword, past_function, past_close, name_at, integer_at, all_of}
 use Rattle.css_values.specs.Styles.{list_type_at}
 use Rattle.css_values.specs.declared.list_style.ListStylePart.{ListStylePart}

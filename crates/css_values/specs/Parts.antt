@@ -1,12 +1,11 @@
 -- The parts of which values are made: CSS Values 4. By its section 2.5 Blanks may stand between all of them
 -- and mean nothing, so values are read from the kinds of the tokens without Blanks.
 use Rattle.std.specs.Prelude.{ℕ, Bool, true, false, ◌&&◌, not, if◌then◌else◌, List, [], ◌∷◌, Option, Some, None, codes, ℤ, pos, int_lt}
-use Rattle.std.specs.List.{list_any}
 use Rattle.plain_types.specs.StyleNames.{style_name}
 use Rattle.reading.specs.Punctuation.{comma, right_parenthesis}
-use Rattle.reading.specs.Reading.{◌then◌, run_at}
-use Rattle.css_definitions.specs.Words.{is_word}
-use Rattle.css_tokens.specs.TokenReading.{is_whitespace, is_sign, is_keyword, is_function, ident_of, string_of, integer_of, only}
+use Rattle.reading.specs.Reading.{◌then◌, only, run_at}
+use Rattle.css_definitions.specs.Words.{is_word, is_among}
+use Rattle.css_tokens.specs.TokenReading.{is_whitespace, is_sign, is_keyword, is_function, ident_of, string_of, integer_of}
 use Rattle.css_tokens.specs.declared.token.Token.{Token}
 use Rattle.css_tokens.specs.declared.token.TokenKind.{TokenKind}
 use Rattle.css_tokens.specs.declared.token.TokenKind.TheVariants as kind
@@ -59,10 +58,6 @@ natural_of kind = integer_of kind then λ value. if int_lt value (pos 0) then No
 
 abbrev pub natural_at : List TokenKind → Option (ℤ × List TokenKind)
 natural_at kinds = one_at natural_of kinds
-
--- the name is one of these words
-abbrev pub is_among : List (List ℕ) → List ℕ → Bool
-is_among words name = list_any (λ word. is_word name word) words
 
 -- 4.2: the words that no custom-ident is: the CSS-wide keywords (CSS Cascade 5, 7.3) and `default`
 abbrev pub wide_words : List (List ℕ)

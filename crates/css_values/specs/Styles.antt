@@ -8,10 +8,10 @@ use Rattle.plain_types.specs.declared.style_ref.StyleRef.{StyleRef}
 use Rattle.plain_types.specs.declared.style_ref.StyleRef.TheVariants as style_ref
 use Rattle.plain_types.specs.declared.style_ref.System.{System}
 use Rattle.plain_types.specs.declared.style_ref.System.TheVariants as system
-use Rattle.reading.specs.Reading.{◌then◌, ◌otherwise◌, run_at}
+use Rattle.reading.specs.Reading.{◌then◌, ◌otherwise◌, optional, run_at}
 use Rattle.css_definitions.specs.Words.{is_word}
 use Rattle.css_tokens.specs.declared.token.TokenKind.{TokenKind}
-use Rattle.css_tokens.specs.TokenReading.{ident_of, optional}
+use Rattle.css_tokens.specs.TokenReading.{ident_of}
 use Rattle.css_values.specs.Parts.{one_at, string_at, past_keyword, past_function, past_comma, past_close, style_name_at}
 
 -- CSS Counter Styles 3, 4, `<symbols-type>`: `cyclic | numeric | alphabetic | symbolic | fixed`; `fixed`

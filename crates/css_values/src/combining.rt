@@ -1,7 +1,7 @@
 //! What values of every kind have in common.
 
 ghost use Rattle.std.specs.Prelude.{◌≡◌};
-ghost use Rattle.css_tokens.specs.TokenReading.{only};
+ghost use Rattle.reading.specs.Reading.{only};
 ghost use Rattle.css_values.specs.Parts.{solid, some_of, alone};
 
 use crate::parts::is_nothing_left;

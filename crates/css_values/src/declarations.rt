@@ -3,7 +3,8 @@
 ghost use Rattle.std.specs.Prelude.{◌≡◌, IfOk, List, ℕ};
 ghost use Rattle.std.specs.Borrow.{Bor};
 ghost use Rattle.std.specs.Str.{chars};
-ghost use Rattle.css_values.specs.Parts.{solid, is_among};
+ghost use Rattle.css_definitions.specs.Words.{is_among};
+ghost use Rattle.css_values.specs.Parts.{solid};
 ghost use Rattle.css_values.specs.Declarations.{plain_displays, display_word, display_value, list_type_value, css_wide, said_of, declared};
 
 use crate::combining::only;

@@ -5,10 +5,10 @@ ghost use Rattle.std.specs.Prelude.{◌≡◌, ◌∷◌, [], List, ℕ, map, Ma
 ghost use Rattle.std.specs.Borrow.{Bor};
 ghost use Rattle.std.specs.List.{list_all};
 ghost use Rattle.std.specs.Str.{chars};
-ghost use Rattle.reading.specs.Reading.{Reads};
-ghost use Rattle.css_definitions.specs.Words.{is_ascii};
-ghost use Rattle.css_tokens.specs.TokenReading.{is_sign, is_keyword, is_function, optional};
-ghost use Rattle.css_values.specs.Parts.{solid, past_comma, past_keyword, past_function, past_close, word_at, string_at, integer_at, natural_at, is_among, wide_words, is_counter_name, name_at, symbol_at, is_nothing_left, is_alone};
+ghost use Rattle.reading.specs.Reading.{Reads, optional};
+ghost use Rattle.css_definitions.specs.Words.{is_ascii, is_among};
+ghost use Rattle.css_tokens.specs.TokenReading.{is_sign, is_keyword, is_function};
+ghost use Rattle.css_values.specs.Parts.{solid, past_comma, past_keyword, past_function, past_close, word_at, string_at, integer_at, natural_at, wide_words, is_counter_name, name_at, symbol_at, is_nothing_left, is_alone};
 
 use css_tokens::token::{Token, TokenKind};
 use css_tokens::token_reading::{is_function, is_keyword, is_sign, skip_whitespace};

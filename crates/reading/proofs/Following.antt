@@ -1,5 +1,5 @@
 -- What is left after reading is an end of what was there.
-use Rattle.std.proofs.Common.{◌≡◌, ℕ, zero, suc, ◌+◌, ◌<◌, ◌≤◌, Bool, true, false, cond, List, [], ◌∷◌, ◌++◌, length, Option, Some, None, refl, sym, ap, ◌∙◌, arith}
+use Rattle.std.proofs.Common.{◌≡◌, ℕ, zero, suc, ◌<◌, ◌≤◌, Bool, true, false, cond, List, [], ◌∷◌, ◌++◌, length, Option, Some, None, refl, ap, arith}
 use Rattle.reading.specs.Reading.{◌then◌, ◌otherwise◌, span, span_of, past_character, past_text, past_one, run_at, run_with, run_next}
 use Rattle.reading.proofs.Runs.{Run, stop, more}
 

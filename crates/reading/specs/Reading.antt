@@ -18,6 +18,16 @@ abbrev pub ◌otherwise◌ : {X : Type 0} → Option X → Option X → Option X
 (Some x) otherwise other = Some x
 None otherwise other = other
 
+-- what was read, where nothing is left after it
+abbrev pub only : {X E : Type 0} → X → List E → Option X
+only x [] = Some x
+only x (_ ∷ _) = None
+
+-- a part that may be missing
+abbrev pub optional : {X E : Type 0} → Option (X × List E) → List E → Option X × List E
+optional None whole = (None, whole)
+optional (Some read) whole = (Some read.0, read.1)
+
 -- the character stands at the front
 abbrev pub begins : ℕ → List ℕ → Bool
 begins wanted [] = false

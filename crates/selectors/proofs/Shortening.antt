@@ -2,12 +2,12 @@
 use Rattle.std.proofs.Common.{ℕ, zero, suc, Bool, true, false, cond, List, [], ◌∷◌, Option, Some, None, refl}
 use Rattle.plain_types.specs.declared.selector.Compound.{Compound}
 use Rattle.plain_types.specs.declared.selector.Simple.{Simple}
-use Rattle.reading.specs.Reading.{◌then◌, run_at}
+use Rattle.reading.specs.Reading.{◌then◌, optional, run_at}
 use Rattle.reading.proofs.Following.{Follows, here, later, left, nothing, ended, none_ends, Follows-trans, Leaves, Ends, rest_if, leave_if, end_if, leave_otherwise, leave_then, end_then, leave_more, end_more, leave_within, TakesOne, takes_leaves, takes_shorter, run_follows}
 use Rattle.reading.proofs.Runs.{Shortens}
 use Rattle.css_tokens.specs.declared.token.Token.{Token}
 use Rattle.css_tokens.specs.declared.token.TokenKind.{TokenKind}
-use Rattle.css_tokens.specs.TokenReading.{is_sign, is_whitespace, ident_of, held_at, ident_at, function_of, function_at, past_delimiter, past_close, skip_whitespace, optional}
+use Rattle.css_tokens.specs.TokenReading.{is_sign, is_whitespace, ident_of, held_at, ident_at, function_of, function_at, past_delimiter, past_close, skip_whitespace}
 use Rattle.selectors.specs.Parts.{spaced_at, after_comma_at, comma_list_at}
 use Rattle.selectors.specs.AnPlusB.{source_value, source, argument_token_at, an_plus_b_at}
 use Rattle.selectors.specs.Simples.{type_of, type_at, id_of, id_at, class_at, test_of, test_at, value_of, flag_of, flag_at, bracket_end, present, tested_at, attribute_at, plain_class, nth_class}

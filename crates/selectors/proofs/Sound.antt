@@ -7,11 +7,11 @@ use Rattle.plain_types.specs.declared.selector_parts.Join.{Join}
 use Rattle.plain_types.specs.declared.selector_parts.Join.TheVariants as join
 use Rattle.plain_types.specs.declared.selector_parts.PseudoElement.{PseudoElement}
 use Rattle.plain_types.specs.declared.selector_parts.PseudoElement.TheVariants as pseudo
-use Rattle.reading.specs.Reading.{◌then◌, ◌otherwise◌, run_at}
+use Rattle.reading.specs.Reading.{◌then◌, ◌otherwise◌, only, run_at}
 use Rattle.reading.proofs.Following.{run_Run}
 use Rattle.reading.proofs.Runs.{Run, stop, more, then_some, chosen}
 use Rattle.css_tokens.specs.declared.token.Token.{Token}
-use Rattle.css_tokens.specs.TokenReading.{is_whitespace, function_at, held_at, past_delimiter, past_close, skip_whitespace, only}
+use Rattle.css_tokens.specs.TokenReading.{is_whitespace, function_at, held_at, past_delimiter, past_close, skip_whitespace}
 use Rattle.selectors.specs.Parts.{spaced_at, after_comma_at, comma_list_at}
 use Rattle.selectors.specs.AnPlusB.{an_plus_b_at}
 use Rattle.selectors.specs.Simples.{type_at, id_at, class_at, attribute_at, nth_class, nth}

@@ -5,20 +5,20 @@ use Rattle.std.specs.Int.{int_max, int_min}
 use Rattle.std.specs.Str.Parse.{digits_value}
 use Rattle.plain_types.specs.StyleNames.{lower_case}
 use Rattle.reading.specs.Punctuation.{plus_sign, hyphen_minus, right_parenthesis}
-use Rattle.reading.specs.Reading.{◌then◌, ◌otherwise◌, past_character, past_text, run_at}
+use Rattle.reading.specs.Reading.{◌then◌, ◌otherwise◌, only, past_character, past_text, run_at}
 use Rattle.css_tokens.specs.Numbers.{sign_at, digits_at, signed}
 use Rattle.css_tokens.specs.Urls.{past_blanks}
 use Rattle.css_tokens.specs.declared.token.Token.{Token}
 use Rattle.css_definitions.specs.Words.{is_ascii}
-use Rattle.css_tokens.specs.TokenReading.{is_sign, past_close, only}
+use Rattle.css_tokens.specs.TokenReading.{is_sign, past_close}
 use Rattle.selectors.specs.declared.an_plus_b.AnPlusB.{AnPlusB}
 
 abbrev pub an_plus_b : ℤ → ℤ → AnPlusB
 an_plus_b a b = record { a = a; b = b }
 
 -- what was read, where nothing but blanks is left
-abbrev pub ended : {X : Type 0} → X → List ℕ → Option X
-ended x text = only x (past_blanks text)
+abbrev pub only_blanks_after : {X : Type 0} → X → List ℕ → Option X
+only_blanks_after x text = only x (past_blanks text)
 
 -- a sign that may not be missing: whether it is `-`
 abbrev pub written_sign_at : List ℕ → Option (Bool × List ℕ)
@@ -53,17 +53,17 @@ offset_at text = written_sign_at (past_blanks text) then λ sign. signed_at (sig
 -- `odd | even`
 abbrev pub odd_or_even : List ℕ → Option AnPlusB
 odd_or_even text =
-    (past_text (codes "odd") text then λ rest. ended (an_plus_b (pos 2) (pos 1)) rest)
-    otherwise (past_text (codes "even") text then λ rest. ended (an_plus_b (pos 2) (pos 0)) rest)
+    (past_text (codes "odd") text then λ rest. only_blanks_after (an_plus_b (pos 2) (pos 1)) rest)
+    otherwise (past_text (codes "even") text then λ rest. only_blanks_after (an_plus_b (pos 2) (pos 0)) rest)
 
 -- `<integer>`
 abbrev pub b_alone : List ℕ → Option AnPlusB
-b_alone text = signed_at (sign_at text) then λ b. ended (an_plus_b (pos 0) b.0) b.1
+b_alone text = signed_at (sign_at text) then λ b. only_blanks_after (an_plus_b (pos 0) b.0) b.1
 
 -- `<n-dimension> [ ['+' | '-'] <signless-integer> ]?`
 abbrev pub a_and_b : List ℕ → Option AnPlusB
 a_and_b text =
-    n_at (sign_at text) then λ a. ended (an_plus_b a.0 (pos 0)) a.1 otherwise (offset_at a.1 then λ b. ended (an_plus_b a.0 b.0) b.1)
+    n_at (sign_at text) then λ a. only_blanks_after (an_plus_b a.0 (pos 0)) a.1 otherwise (offset_at a.1 then λ b. only_blanks_after (an_plus_b a.0 b.0) b.1)
 
 abbrev pub an_plus_b_of : List ℕ → Option AnPlusB
 an_plus_b_of text = odd_or_even text otherwise b_alone text otherwise a_and_b text

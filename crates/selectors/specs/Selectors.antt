@@ -7,12 +7,12 @@ use Rattle.plain_types.specs.declared.selector_parts.Join.TheVariants as join
 use Rattle.plain_types.specs.declared.selector_parts.PseudoElement.{PseudoElement}
 use Rattle.plain_types.specs.declared.selector_parts.PseudoElement.TheVariants as pseudo
 use Rattle.reading.specs.Punctuation.{plus_sign, greater_than_sign}
-use Rattle.reading.specs.Reading.{◌then◌, ◌otherwise◌, run_at}
+use Rattle.reading.specs.Reading.{◌then◌, ◌otherwise◌, only, run_at}
 use Rattle.css_definitions.specs.Words.{is_word}
 use Rattle.css_tokens.specs.declared.token.Token.{Token}
 use Rattle.css_tokens.specs.declared.token.TokenKind.{TokenKind}
 use Rattle.css_tokens.specs.declared.token.TokenKind.TheVariants as kind
-use Rattle.css_tokens.specs.TokenReading.{is_whitespace, held_at, ident_at, past_delimiter, skip_whitespace, only}
+use Rattle.css_tokens.specs.TokenReading.{is_whitespace, held_at, ident_at, past_delimiter, skip_whitespace}
 use Rattle.selectors.specs.Parts.{comma_list_at}
 use Rattle.selectors.specs.declared.selector_list.Sequence.{Sequence}
 use Rattle.selectors.specs.Compounds.{colon, compound, compound_at, choices_at}

@@ -6,13 +6,12 @@ use Rattle.plain_types.specs.declared.selector.Simple.TheVariants as simple
 use Rattle.plain_types.specs.declared.selector_parts.AttrTest.{AttrTest}
 use Rattle.plain_types.specs.declared.selector_parts.AttrTest.TheVariants as test
 use Rattle.reading.specs.Punctuation.{asterisk, full_stop}
-use Rattle.reading.specs.Reading.{◌then◌, ◌otherwise◌}
-use Rattle.css_definitions.specs.Words.{is_word}
+use Rattle.reading.specs.Reading.{◌then◌, ◌otherwise◌, optional}
+use Rattle.css_definitions.specs.Words.{is_word, is_among}
 use Rattle.css_tokens.specs.declared.token.Token.{Token}
 use Rattle.css_tokens.specs.declared.token.TokenKind.{TokenKind}
 use Rattle.css_tokens.specs.declared.token.TokenKind.TheVariants as kind
-use Rattle.css_tokens.specs.TokenReading.{held_at, ident_at, past_delimiter, past_close, skip_whitespace, optional}
-use Rattle.css_values.specs.Parts.{is_among}
+use Rattle.css_tokens.specs.TokenReading.{held_at, ident_at, past_delimiter, past_close, skip_whitespace}
 use Rattle.selectors.specs.declared.an_plus_b.AnPlusB.{AnPlusB}
 use Rattle.selectors.specs.declared.pseudo_classes.Siblings.{Siblings}
 use Rattle.selectors.specs.AnPlusB.{an_plus_b}

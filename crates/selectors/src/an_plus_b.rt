@@ -4,14 +4,15 @@ ghost use Rattle.std.specs.Prelude.{◌≡◌, ◌∷◌, true, false, MatchOpti
 ghost use Rattle.std.specs.Str.{chars, IsUtf8};
 ghost use Rattle.reading.specs.Reading.{Reads, past_text, run_at};
 ghost use Rattle.css_definitions.specs.Words.{is_ascii};
-ghost use Rattle.selectors.specs.AnPlusB.{ended, written_sign_at, nearest_i32, signed_at, or_one, n_at, offset_at, odd_or_even, b_alone, a_and_b, an_plus_b_value, source_value, slice, argument_token_at, an_plus_b_at};
+ghost use Rattle.selectors.specs.AnPlusB.{only_blanks_after, written_sign_at, nearest_i32, signed_at, or_one, n_at, offset_at, odd_or_even, b_alone, a_and_b, an_plus_b_value, source_value, slice, argument_token_at, an_plus_b_at};
 
-use css_tokens::characters::{first_char, past_blanks, past_character};
+use css_tokens::characters::past_blanks;
 use css_tokens::numbers::{digits, sign};
 use css_tokens::token::{Token, TokenKind};
 use css_tokens::token_reading::close;
 use plain_types::count::Count;
 use plain_types::memory::Memory;
+use reading::characters::{first_char, past_character};
 use std::alloc::Global;
 
 /// The positions `a` times k plus `b`, for k from 0.
@@ -22,8 +23,8 @@ pub(crate) struct AnPlusB {
 }
 
 /// What was read, where nothing but blanks is left.
-fn ended(a: i32, b: i32, text: &str) -> Option<AnPlusB>
-    ensures { result ≡ ended (record { a = a; b = b }) (chars text.now) }
+fn only_blanks_after(a: i32, b: i32, text: &str) -> Option<AnPlusB>
+    ensures { result ≡ only_blanks_after (record { a = a; b = b }) (chars text.now) }
 {
     match first_char(past_blanks(text)) {
         None => Some(AnPlusB { a, b }),
@@ -115,10 +116,10 @@ fn odd_or_even(text: &str) -> Option<AnPlusB>
     ensures { result ≡ odd_or_even (chars text.now) }
 {
     if let Some(rest) = past_odd(text) {
-        return ended(2, 1, rest);
+        return only_blanks_after(2, 1, rest);
     }
     let rest = past_even(text)?;
-    ended(2, 0, rest)
+    only_blanks_after(2, 0, rest)
 }
 
 /// `<integer>`
@@ -127,7 +128,7 @@ fn b_alone(text: &str) -> Option<AnPlusB>
 {
     let (negative, start) = sign(text);
     let (b, rest) = signed(negative, start)?;
-    ended(0, b, rest)
+    only_blanks_after(0, b, rest)
 }
 
 /// `<n-dimension> [ ['+' | '-'] <signless-integer> ]?`
@@ -136,11 +137,11 @@ fn a_and_b(text: &str) -> Option<AnPlusB>
 {
     let (negative, start) = sign(text);
     let (a, rest) = n(negative, start)?;
-    if let Some(found) = ended(a, 0, rest) {
+    if let Some(found) = only_blanks_after(a, 0, rest) {
         return Some(found);
     }
     let (b, rest) = offset(rest)?;
-    ended(a, b, rest)
+    only_blanks_after(a, b, rest)
 }
 
 /// The meaning of the text, blanks at its ends left out.

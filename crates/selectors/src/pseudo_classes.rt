@@ -2,7 +2,7 @@
 
 ghost use Rattle.std.specs.Prelude.{◌≡◌};
 ghost use Rattle.std.specs.Str.{chars};
-ghost use Rattle.css_values.specs.Parts.{is_among};
+ghost use Rattle.css_definitions.specs.Words.{is_among};
 ghost use Rattle.selectors.specs.Simples.{never_classes, siblings, nth, first_of, plain_class, nth_class};
 ghost use Rattle.selectors.specs.Compounds.{nesting_class, nested};
 

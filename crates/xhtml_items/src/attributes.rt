@@ -7,14 +7,15 @@ ghost use Rattle.reading.specs.Reading.{run_at, Reads};
 ghost use Rattle.xhtml_items.specs.Machinery.Items.{value_part_at, quoted_at, attribute_at, are_distinct};
 ghost use Rattle.xhtml_items.specs.Tokens.{character_view, value_view, attribute_view, attributes_view};
 
-use crate::characters::{as_read, is_plain, is_quote};
+use crate::characters::{as_read, is_plain};
 use crate::passing::{split_at_stop, value_stops};
 use crate::references::reference;
-use crate::text::{first_char, past, past_some_blanks, skip_blanks, split_name};
+use crate::text::{past_some_blanks, skip_blanks, split_name};
 use plain_types::attr::Attr;
 use plain_types::list::List;
 use plain_types::memory::Memory;
 use plain_types::text::Text;
+use reading::characters::{first_char, is_quote, past_character};
 use std::alloc::Global;
 use std::collections::BTreeSet;
 
@@ -67,7 +68,7 @@ fn quoted(alloc: Global, text: &str) -> Result<Option<(Text, &str)>, Memory>
         return Ok(None);
     }
     let (value, rest) = value(alloc, quote, after)?;
-    match past(quote, rest) {
+    match past_character(quote, rest) {
         Some(rest) => Ok(Some((value, rest))),
         None => Ok(None),
     }
@@ -85,7 +86,7 @@ fn first_attribute(alloc: Global, text: &str) -> Result<Option<(Attr, &str)>, Me
     let Some((name, rest)) = split_name(start) else {
         return Ok(None);
     };
-    let Some(rest) = past('=', skip_blanks(rest)) else {
+    let Some(rest) = past_character('=', skip_blanks(rest)) else {
         return Ok(None);
     };
     let Some((value, rest)) = quoted(alloc, skip_blanks(rest))? else {

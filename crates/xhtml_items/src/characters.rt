@@ -1,17 +1,11 @@
 //! Classes of characters.
 
 ghost use Rattle.std.specs.Prelude.{◌≡◌};
-ghost use Rattle.reading.specs.Characters.{is_blank, is_quote};
 ghost use Rattle.xml_definitions.specs.Characters.{is_character, is_plain, is_name_start, is_name_character};
 ghost use Rattle.xml_definitions.specs.Spelling.{is_legal, as_read};
 ghost use Rattle.xhtml_items.specs.Classes.{is_of_class};
 
-/// A space, a tab or a line feed.
-pub fn is_blank(c: char) -> bool
-    ensures { result ≡ is_blank c }
-{
-    c == ' ' || c == '\t' || c == '\n'
-}
+use reading::characters::is_blank;
 
 pub(crate) fn is_character(c: char) -> bool
     ensures { result ≡ is_character c }
@@ -23,12 +17,6 @@ pub(crate) fn is_plain(c: char) -> bool
     ensures { result ≡ is_plain c }
 {
     is_character(c) && c != '<' && c != '&'
-}
-
-pub(crate) fn is_quote(c: char) -> bool
-    ensures { result ≡ is_quote c }
-{
-    c == '"' || c == '\''
 }
 
 pub(crate) fn is_legal(c: char) -> bool

@@ -11,9 +11,9 @@ use crate::characters::is_plain;
 use crate::markup::{declaration, instruction};
 use crate::references::reference;
 use crate::tags::{end_tag, tag};
-use crate::text::first_char;
 use crate::token::Token;
 use plain_types::memory::Memory;
+use reading::characters::first_char;
 use std::alloc::Global;
 
 /// What stands behind a `<`.

@@ -6,12 +6,12 @@ ghost use Rattle.reading.specs.Reading.{Reads};
 ghost use Rattle.xhtml_items.specs.Machinery.Items.{past_literal, past_second, past_system, past_public, past_identifier, past_external, doctype_at, instruction_text_at, instruction_at, comment_at, section_at, declaration_at};
 ghost use Rattle.xhtml_items.specs.Tokens.{text_view, token_view, IsText};
 
-use crate::characters::{Class, is_blank, is_quote};
+use crate::characters::Class;
 use crate::text::{
-    first_char, past, past_capitals, past_some_blanks, past_word, skip_blanks, split_name,
-    split_while, up_to,
+    past_capitals, past_some_blanks, past_word, skip_blanks, split_name, split_while, up_to,
 };
 use crate::token::Token;
+use reading::characters::{first_char, is_blank, is_quote, past_character};
 
 /// What stands behind the target of an instruction, if more than its end does.
 #[tactic(auto, unfolding(crate::specs::Machinery::Items::instruction_text_at))]
@@ -52,7 +52,7 @@ fn past_literal(text: &str) -> Option<&str>
     let (quote, after) = first_char(text)?;
     if is_quote(quote) {
         let (_, rest) = split_while(Class::Literal(quote), after);
-        past(quote, rest)
+        past_character(quote, rest)
     } else {
         None
     }
@@ -125,7 +125,7 @@ fn doctype(text: &str) -> Option<(Token<'_>, &str)>
 {
     let word = past_capitals(b"DOCTYPE", text)?;
     let (_, rest) = split_name(past_some_blanks(word)?)?;
-    let rest = past('>', skip_blanks(past_external(rest)?))?;
+    let rest = past_character('>', skip_blanks(past_external(rest)?))?;
     Some((Token::Doctype, rest))
 }
 

@@ -14,8 +14,8 @@ ghost use Rattle.xhtml_items.specs.Machinery.StopBytes.{has_stop, is_straight, T
 ghost use Rattle.xhtml_items.specs.Tokens.{two_texts};
 
 use crate::characters::{Class, is_plain};
-use crate::text::first_char;
 use lane_class::{ByteClass, first_in};
+use reading::characters::first_char;
 
 /// Stops in content: control characters, `&`, `<` and 0xef.
 fn plain_stops() -> ByteClass

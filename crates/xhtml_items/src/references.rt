@@ -11,7 +11,8 @@ ghost use Rattle.xhtml_items.specs.Machinery.Items.{numbered, number_at, numeric
 ghost use Rattle.xhtml_items.specs.Tokens.{character_view, entry};
 
 use crate::characters::{Class, is_legal};
-use crate::text::{past, split_name, split_while};
+use crate::text::{split_name, split_while};
+use reading::characters::past_character;
 
 /// The entities that are declared, each with its character.
 static ENTITIES: [(&str, char); 20] = [
@@ -65,7 +66,7 @@ fn number(digits: Class, base: u32, text: &str) -> Option<(char, &str)>
     ensures text { IfSome result (λ x. IsUtf8 x.1.now) }
 {
     let (digits, rest) = split_while(digits, text);
-    let rest = past(';', rest)?;
+    let rest = past_character(';', rest)?;
     let character = numbered(base, digits)?;
     Some((character, rest))
 }
@@ -76,7 +77,7 @@ fn numeric(text: &str) -> Option<(char, &str)>
     ensures reads { Reads character_view result (numeric_at (chars text.now)) }
     ensures text { IfSome result (λ x. IsUtf8 x.1.now) }
 {
-    match past('x', text) {
+    match past_character('x', text) {
         Some(rest) => number(Class::HexadecimalDigit, 16, rest),
         None => number(Class::Digit, 10, text),
     }
@@ -108,7 +109,7 @@ fn named(text: &str) -> Option<(char, &str)>
     ensures text { IfSome result (λ x. IsUtf8 x.1.now) }
 {
     let (name, rest) = split_name(text)?;
-    let rest = past(';', rest)?;
+    let rest = past_character(';', rest)?;
     let character = entity(name)?;
     Some((character, rest))
 }
@@ -119,7 +120,7 @@ pub(crate) fn reference(text: &str) -> Option<(char, &str)>
     ensures reads { Reads character_view result (reference_at (chars text.now)) }
     ensures text { IfSome result (λ x. IsUtf8 x.1.now) }
 {
-    match past('#', text) {
+    match past_character('#', text) {
         Some(rest) => numeric(rest),
         None => named(text),
     }

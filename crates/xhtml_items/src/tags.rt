@@ -7,11 +7,12 @@ ghost use Rattle.xhtml_items.specs.Machinery.Items.{tag_end_at, attributes_at, t
 ghost use Rattle.xhtml_items.specs.Tokens.{token_view, IsText};
 
 use crate::attributes::{are_distinct, attributes};
-use crate::text::{past, past_word, skip_blanks, split_name};
+use crate::text::{past_word, skip_blanks, split_name};
 use crate::token::Token;
 use plain_types::attr::Attr;
 use plain_types::list::List;
 use plain_types::memory::Memory;
+use reading::characters::past_character;
 use std::alloc::Global;
 
 /// The end of a tag.
@@ -24,7 +25,7 @@ fn tag_end<'a>(name: &'a str, attrs: List<Attr>, text: &'a str) -> Option<(Token
     if let Some(rest) = past_word("/>", text) {
         return Some((Token::EmptyTag { name, attrs }, rest));
     }
-    match past('>', text) {
+    match past_character('>', text) {
         Some(rest) => Some((Token::StartTag { name, attrs }, rest)),
         None => None,
     }
@@ -70,6 +71,6 @@ pub(crate) fn end_tag(text: &str) -> Option<(Token<'_>, &str)>
     ensures rest { IfSome result (λ x. IsUtf8 x.1.now) }
 {
     let (name, rest) = split_name(text)?;
-    let rest = past('>', skip_blanks(rest))?;
+    let rest = past_character('>', skip_blanks(rest))?;
     Some((Token::EndTag { name }, rest))
 }

@@ -1,37 +1,16 @@
 //! What stands at the front of a text.
 
-ghost use Rattle.std.specs.Prelude.{◌≡◌, ◌≢◌, ◌∷◌, ◌++◌, [], IsTrue, MatchOption, IfSome};
-ghost use Rattle.std.specs.Char.{encode_utf8};
+ghost use Rattle.std.specs.Prelude.{◌≡◌, ◌≢◌, [], IsTrue, IfSome};
 ghost use Rattle.std.specs.Str.{chars, IsUtf8};
-ghost use Rattle.reading.specs.Reading.{span, Reads};
+ghost use Rattle.reading.specs.Reading.{Reads, past_text, span};
 ghost use Rattle.xhtml_items.specs.Classes.{is_of_class, is_ascii};
-ghost use Rattle.reading.specs.Reading.{past_character, past_text};
 ghost use Rattle.xhtml_items.specs.Reading.{name_at, split_once};
 ghost use Rattle.xhtml_items.specs.Machinery.Items.{past_capital, past_capitals, skip_blanks, past_some_blanks, up_to};
 ghost use Rattle.xhtml_items.specs.Tokens.{text_view, two_texts};
 
-use crate::characters::{Class, is_blank, is_name_start};
+use crate::characters::{Class, is_name_start};
 use crate::passing::are_characters;
-
-/// The first character, and the text after it; None where there is none. It takes constant time.
-pub fn first_char(text: &str) -> Option<(char, &str)>
-    ensures bytes { MatchOption result (text.now ≡ []) (λ x. text.now ≡ encode_utf8 x.0 ++ x.1.now) }
-    ensures chars { MatchOption result (chars text.now ≡ []) (λ x. chars text.now ≡ x.0 ∷ chars x.1.now) }
-    ensures text { IfSome result (λ x. IsUtf8 x.1.now) }
-{
-    let mut characters = text.chars();
-    let first = characters.next()?;
-    Some((first, characters.as_str()))
-}
-
-/// The text after this character.
-pub(crate) fn past(wanted: char, text: &str) -> Option<&str>
-    ensures reads { Reads text_view result (past_character wanted (chars text.now)) }
-    ensures text { IfSome result (λ rest. IsUtf8 rest.now) }
-{
-    let (c, after) = first_char(text)?;
-    if c == wanted { Some(after) } else { None }
-}
+use reading::characters::{first_char, is_blank};
 
 /// The text after this word; None where the word does not stand at the front. It takes time linear in the word.
 pub fn past_word<'a>(word: &str, text: &'a str) -> Option<&'a str>

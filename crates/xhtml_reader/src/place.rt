@@ -6,7 +6,7 @@ ghost use Rattle.xml_definitions.specs.Faults.{line_feeds, last_line};
 ghost use Rattle.xhtml_reader.specs.declared.fault.DocFault.TheVariants.{Malformed};
 
 use crate::fault::DocFault;
-use xhtml_items::text::first_char;
+use reading::characters::first_char;
 
 fn char_count(text: &str) -> usize
     ensures { result ≡ length (chars text.now) }

@@ -8,8 +8,8 @@ ghost use Rattle.std.specs.Option.{option_to_list};
 
 use plain_types::memory::Memory;
 use plain_types::text::Text;
+use reading::characters::first_char;
 use std::alloc::Global;
-use xhtml_items::text::first_char;
 
 /// The text without a byte order mark at its front, which is no part of it. It takes no memory.
 pub fn without_mark(text: &str) -> &str

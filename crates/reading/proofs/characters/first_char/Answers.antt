@@ -2,7 +2,7 @@ use Rattle.std.proofs.Common.{◌≡◌, ◌++◌, arith}
 use Rattle.std.specs.Char.{encode_utf8}
 use Rattle.std.proofs.lemmas.Grind.{common_steps}
 use Rattle.std.proofs.lemmas.Str.{chars_past_char}
-use Rattle.xhtml_items.proofs.text.first_char.Goals as goal
+use Rattle.reading.proofs.characters.first_char.Goals as goal
 
 pub returns-clause-chars : goal.returns-clause-chars
 returns-clause-chars c =
