@@ -7,7 +7,7 @@ use Rattle.plain_types.specs.declared.attr.Attr.{Attr}
 use Rattle.plain_types.specs.declared.node.Node.{Node}
 use Rattle.plain_types.specs.declared.node.Node.TheVariants.{Element}
 use Rattle.plain_types.specs.declared.row.Row.{Row}
-use Rattle.edit_script.specs.Generator.{element}
+use Rattle.edit_script.specs.Generator.{element_node}
 use Rattle.edit_script.specs.Machinery.Putting.{with_trees}
 
 abbrev built : List Row → ℕ → Building
@@ -23,7 +23,7 @@ with_start building name attrs = record { rows = building.rows ++ row building.i
 -- an element is begun, trees are put into it, and it ends
 pub put-inside : (before begun filled ended : Building) (name : List ℕ) (attrs : List Attr) (children : Forest Node)
     → begun ≡ with_start before name attrs → filled ≡ with_trees begun children
-    → ended ≡ record { rows = filled.rows; inside = filled.inside - 1 } → ended ≡ with_trees before (element name attrs children Empty)
+    → ended ≡ record { rows = filled.rows; inside = filled.inside - 1 } → ended ≡ with_trees before (element_node name attrs children Empty)
 put-inside before begun filled ended name attrs children begins fills ends =
     let first : Row = row before.inside (Element name attrs) in
     let inner : List Row = rows (before.inside + 1) children in

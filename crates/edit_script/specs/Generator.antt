@@ -18,30 +18,31 @@ section_count edits = edits / 10 + 1
 abbrev pub attr : List ℕ → List ℕ → Attr
 attr name value = record { name = name; value = value }
 
-abbrev pub element : List ℕ → List Attr → Forest Node → Forest Node → Forest Node
-element name attrs children after = Tree (Element name attrs) children after
+-- an element with its children, and the trees after it
+abbrev pub element_node : List ℕ → List Attr → Forest Node → Forest Node → Forest Node
+element_node name attrs children after = Tree (Element name attrs) children after
 
 -- `<li/>`
 abbrev pub item : Forest Node → Forest Node
-item after = element (codes "li") [] Empty after
+item after = element_node (codes "li") [] Empty after
 
 -- `<h2>k</h2>`
 abbrev pub heading : ℕ → Forest Node → Forest Node
-heading number after = element (codes "h2") [] (Tree (Text (decimal number)) Empty Empty) after
+heading number after = element_node (codes "h2") [] (Tree (Text (decimal number)) Empty Empty) after
 
 -- `<ol><li/><li/><li/></ol>`
 abbrev pub item_list : Forest Node → Forest Node
-item_list after = element (codes "ol") [] (item (item (item Empty))) after
+item_list after = element_node (codes "ol") [] (item (item (item Empty))) after
 
 -- `<p><a href="#sj"/></p>`
 abbrev pub link : ℕ → Forest Node → Forest Node
 link target after =
-    element (codes "p") [] (element (codes "a") (attr (codes "href") (codes "#s" ++ decimal target) ∷ []) Empty Empty) after
+    element_node (codes "p") [] (element_node (codes "a") (attr (codes "href") (codes "#s" ++ decimal target) ∷ []) Empty Empty) after
 
 -- `<section id="sk">`, and in it these three
 unfoldable pub section : ℕ → ℕ → Forest Node → Forest Node
 section number target after =
-    element (codes "section") (attr (codes "id") (codes "s" ++ decimal number) ∷ []) (heading number (item_list (link target Empty))) after
+    element_node (codes "section") (attr (codes "id") (codes "s" ++ decimal number) ∷ []) (heading number (item_list (link target Empty))) after
 
 -- so many sections from this number on, of so many in all; each links to one that is drawn
 unfoldable pub sections : ℕ → ℕ → ℕ → ℕ → Forest Node
@@ -51,7 +52,7 @@ sections all (suc left) number state =
 
 -- `<body>`, and in it so many sections
 abbrev pub document_of : ℕ → ℕ → Forest Node
-document_of all state = element (codes "body") [] (sections all all 0 state) Empty
+document_of all state = element_node (codes "body") [] (sections all all 0 state) Empty
 
 unfoldable pub document : ℕ → ℕ → Forest Node
 document seed edits = document_of (section_count edits) seed

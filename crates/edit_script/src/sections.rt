@@ -6,7 +6,7 @@ ghost use Rattle.plain_types.specs.Building.{is_inside};
 ghost use Rattle.plain_types.specs.Tree.{HasDistinctNames};
 ghost use Rattle.xhtml_items.specs.Classes.{is_ascii};
 ghost use Rattle.edit_script.specs.Draws.{state_after};
-ghost use Rattle.edit_script.specs.Generator.{attr, element, heading, item_list, link, section, sections};
+ghost use Rattle.edit_script.specs.Generator.{attr, element_node, heading, item_list, link, section, sections};
 ghost use Rattle.edit_script.specs.Machinery.Putting.{with_trees};
 
 use crate::draws::Draws;
@@ -39,7 +39,7 @@ fn put_empty(
     requires inside { IsTrue (is_inside builder.old) }
     requires ascii { IsTrue (is_ascii name.now) }
     requires distinct { HasDistinctNames attrs }
-    ensures ok { OnOk result (builder.new ≡ with_trees builder.old (element name.now attrs Empty Empty)) }
+    ensures ok { OnOk result (builder.new ≡ with_trees builder.old (element_node name.now attrs Empty Empty)) }
 {
     builder.start(copied(alloc, name)?, attrs)?;
     builder.end();

@@ -1,10 +1,8 @@
-use Rattle.std.proofs.Common.{◌≤◌, ◌-◌, ◌⊎◌, inl, inr, length-drop, get_or-drop, ◌≡◌, ◌≢◌, ℕ, zero, suc, arith, rules, [], ◌∷◌, Bool, true, false, List, sym, ◌∙◌, ap, refl, encode_utf8_all, if◌then◌else◌, Option, ◌<◌, ◌+◌, length, get_or, drop, add-one, drop-cons}
-use Rattle.std.specs.Prelude.{Some, None, is_some}
+use Rattle.std.proofs.Common.{◌≡◌, ℕ, Bool, true, false, List, sym, ◌∙◌, ap, refl, encode_utf8_all, if◌then◌else◌, ◌<◌, ◌+◌, length, get_or, drop, add-one, drop-cons}
+use Rattle.std.specs.Prelude.{Some}
 use Rattle.std.specs.Bool.{Decides}
 use Rattle.std.specs.Str.{IsUtf8, bytes_eq, chars}
 use Rattle.ports.specs.Files.{look_up}
-use Rattle.std.proofs.lemmas.List.{get_or_default}
-use Rattle.std.proofs.lemmas.Bool.{cases_lt}
 use Rattle.ports.specs.declared.named_file.NamedFile.{NamedFile}
 use Rattle.std.proofs.lemmas.Str.{encodes-chars}
 use Rattle.std.proofs.lemmas.Bool.Decides.{Decides-at, Decides-like, same_from_decides}

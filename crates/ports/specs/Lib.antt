@@ -3,3 +3,4 @@ pub mod Devices
 pub mod Fetches
 pub mod Files
 pub mod Grown
+pub mod Puts

@@ -21,7 +21,8 @@
 //!
 //! No public standard speaks of these: all is our own. The layers above know this crate by `Files`,
 //! `Fetches`, `grown` and `GrowsByFront` for bytes, and by `Rose`, `RoseAbove` and `HasCause` for
-//! counts. A function that puts several pieces has the three clauses of `put_all` again:
+//! counts. A function that puts several pieces has the three clauses of `put_all` again, or `HasPutCause`
+//! in place of the last where it takes memory too:
 //!
 //! ```
 //! fn put_pair<O: Sink>(left: &[u8], right: &[u8], out: &mut O) -> Result<(), Failed>
@@ -43,6 +44,7 @@ pub mod honest_shelf;
 pub mod memory_shelf;
 pub mod memory_sink;
 pub mod named_file;
+pub mod put_fault;
 mod room;
 pub mod shelf;
 pub mod sink;

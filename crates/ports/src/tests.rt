@@ -8,6 +8,7 @@ use crate::honest_shelf::HonestShelf;
 use crate::memory_shelf::MemoryShelf;
 use crate::memory_sink::MemorySink;
 use crate::named_file::NamedFile;
+use crate::put_fault::PutFault;
 use crate::shelf::Shelf;
 use crate::sink::{Sink, put_all};
 use crate::std_sink::StdSink;
@@ -147,6 +148,12 @@ fn faults_tell_what_failed(rt: HostRuntime) -> Result<(), Fail> {
             "the file is larger than 16777216 bytes",
         ),
         (FetchFault::Memory, "out of memory"),
+    ] {
+        assert_eq!(rt; fault.to_string(alloc)?.as_str(), want);
+    }
+    for (fault, want) in [
+        (PutFault::WriteFault, "a write failed"),
+        (PutFault::Memory, "out of memory"),
     ] {
         assert_eq!(rt; fault.to_string(alloc)?.as_str(), want);
     }

@@ -1,3 +1,4 @@
+mod Lookups
 mod TextLaws
 mod SeatLaws
 mod StandingLaws
@@ -6,6 +7,6 @@ mod FoldLaws
 mod Encoding
 mod AttributeLaws
 mod PositionLaws
-mod Chains
-mod RunLaws
-mod TurnLaws
+mod ChainLaws
+mod StepLaws
+mod WalkLaws

@@ -14,8 +14,8 @@ use Rattle.forest.proofs.StandLaws.{stands, as_root, under, or_none}
 use Rattle.plain_types.specs.Tree.{AreSound}
 use Rattle.plain_types.specs.declared.node.Node.{Node}
 use Rattle.plain_types.specs.declared.node.Node.TheVariants as node
-use Rattle.selector_match.specs.Elements.{Element, Level, Standing, element, elements, level_of, standing_in, standing_of}
-use Rattle.selector_match.specs.Lookups.{beside_of}
+use Rattle.selector_match.specs.Elements.{Element, Level, Standing, element_with, elements, level_of, standing_in, standing_of}
+use Rattle.selector_match.proofs.Lookups.{beside_of}
 
 -- a node with what is around it: its children, the trees after it, its ancestors that are elements, each
 -- among its siblings, and the elements before it, the nearest first
@@ -31,7 +31,7 @@ the_seat n c r above earlier = record { node = n; children = c; after = r; above
 
 -- the element that a node is; a text is none
 abbrev pub own : Node → Forest (Keyed Node) → List Element
-own (node.Element name attrs) children = element name attrs (without_keys children) ∷ []
+own (node.Element name attrs) children = element_with name attrs (without_keys children) ∷ []
 own (node.Text characters) children = []
 
 abbrev pub own_levels : Seat → List Level
@@ -46,7 +46,7 @@ seated above earlier (Tree n c r) =
 
 -- where an element with this seat stands
 abbrev pub stand_as : Node → Seat → Option Standing
-stand_as (node.Element name attrs) seat = Some (record { level = level_of seat.earlier (element name attrs (without_keys seat.children)) seat.after; above = seat.above })
+stand_as (node.Element name attrs) seat = Some (record { level = level_of seat.earlier (element_with name attrs (without_keys seat.children)) seat.after; above = seat.above })
 stand_as (node.Text characters) seat = None
 
 abbrev pub stand : Seat → Option Standing
@@ -103,7 +103,7 @@ standing-absent (Tree n c r) above earlier q h = absent-step n.key n.label c r a
         → times q (Tree (keyed k l) c r) ≡ 0 → standing_in above earlier (Tree (keyed k l) c r) q ≡ None
     absent-step k (node.Text characters) c r above earlier q below beside h = beside above earlier q (omega arith)
     absent-step k (node.Element name attrs) c r above earlier q below beside h =
-        let here : Element = element name attrs (without_keys c) in
+        let here : Element = element_with name attrs (without_keys c) in
         elim (k == q) as (λ b. cond b 1 0 + (times q c + times q r) ≡ 0 → cond b (Some (record { level = level_of earlier here r; above = above })) (option_or (standing_in (level_of earlier here r ∷ above) [] c q) (standing_in above (here ∷ earlier) r q)) ≡ None) [
           | true ↦ λ h. absurd (omega arith)
           | false ↦ λ h. rw (below (level_of earlier here r ∷ above) [] q (omega arith), beside above (here ∷ earlier) q (omega arith)) refl
@@ -138,7 +138,7 @@ by-seat-step k (node.Text characters) c r below beside above earlier p e q t d s
     ]
 by-seat-step k (node.Element name attrs) c r below beside above earlier p e q t d sound is =
     let seat : Seat = the_seat (node.Element name attrs) c r above earlier in
-    let here : Element = element name attrs (without_keys c) in
+    let here : Element = element_with name attrs (without_keys c) in
     let level : Level = level_of earlier here r in
     let parts = distinct-parts (keyed k (node.Element name attrs)) c r d in
     elim (chosen (k == q) _ _ _ is) [

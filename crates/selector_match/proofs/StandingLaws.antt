@@ -17,9 +17,9 @@ use Rattle.plain_types.specs.declared.node.Node.TheVariants as node
 use Rattle.node_arena.specs.Document.{IsKeyedDocument}
 use Rattle.node_arena.specs.Nodes.{node_name, node_attrs, name_of, attrs_of}
 use Rattle.node_arena.proofs.EntryLaws.{one-tree}
-use Rattle.selector_match.specs.Elements.{Element, Level, Standing, element, elements, are_nothing, level_of, standing_of, ancestors, ancestors_in, is_root}
+use Rattle.selector_match.specs.Elements.{Element, Level, Standing, element_with, elements, are_nothing, level_of, standing_of, ancestors, ancestors_in, is_root}
 use Rattle.selector_match.specs.Positions.{siblings}
-use Rattle.selector_match.specs.Lookups.{IsElement, nowhere, standing_at, beside_of, IsBeside, IsElementBeside}
+use Rattle.selector_match.proofs.Lookups.{IsElement, nowhere, standing_at, beside_of, IsBeside, IsElementBeside}
 use Rattle.selector_match.proofs.SeatLaws.{Seat, the_seat, seated, times-seated, elements-own, HasSeat, seat-live, seat-stands, seat-child, seat-root, stand, stand_as, own, own_levels, onward, left_beside, IsSeatBeside, seat-beside, seat-alone, leaf-texts}
 
 -- what was looked up has a name, or none
@@ -30,6 +30,14 @@ is-named (Some name) named is some = (chars name.now, sym is)
 pub is-unnamed : (r : Option (Bor (List ℕ))) (named : Option (List ℕ)) → option_map chars (option_copied r) ≡ named → is_some r ≡ false → named ≡ None
 is-unnamed None named is none = sym is
 is-unnamed (Some name) named is none = absurd (cc)
+
+-- where an element stands is where it was found
+pub stands-there : (f : Forest (Keyed Node)) (q : ℕ) → IsElement f q → Some (standing_at f q) ≡ standing_of f q
+stands-there f q some = found (standing_of f q) some
+  where
+    found : (o : Option Standing) → IsSome o → Some (unwrap_or o nowhere) ≡ o
+    found None none = absurd (cc)
+    found (Some standing) some = refl
 
 -- From seat to seat, among siblings.
 
@@ -67,7 +75,7 @@ module _ (f : Forest (Keyed Node)) (doc : IsKeyedDocument f) where
     pub seat : Seat
     pub has : HasSeat f q seat
     pub node_is : seat.node ≡ node.Element name attrs
-    pub stands : standing_of f q ≡ Some (record { level = level_of seat.earlier (element name attrs (without_keys seat.children)) seat.after; above = seat.above })
+    pub stands : standing_of f q ≡ Some (record { level = level_of seat.earlier (element_with name attrs (without_keys seat.children)) seat.after; above = seat.above })
 
   stand-some : (seat : Seat) (n : Node) (o : Option Standing) → seat.node ≡ n → o ≡ stand seat → IsSome o
       → (name : List ℕ) × (attrs : List Attr) × (seat.node ≡ node.Element name attrs) × (o ≡ stand_as (node.Element name attrs) seat)
@@ -105,7 +113,7 @@ module _ (f : Forest (Keyed Node)) (doc : IsKeyedDocument f) where
       by-node (node.Text characters) seat is says = ap (λ m. stand_as m seat) is
 
   -- where the element of a seat stands
-  pub element-at : (q : ℕ) (e : ElementSeat q) → standing_at f q ≡ record { level = level_of e.seat.earlier (element e.name e.attrs (without_keys e.seat.children)) e.seat.after; above = e.seat.above }
+  pub element-at : (q : ℕ) (e : ElementSeat q) → standing_at f q ≡ record { level = level_of e.seat.earlier (element_with e.name e.attrs (without_keys e.seat.children)) e.seat.after; above = e.seat.above }
   element-at q e = ap (λ (o : Option Standing). unwrap_or o nowhere) e.stands
 
   pub element-name : (q : ℕ) → IsLive f q → IsElement f q → name_of f q ≡ Some (standing_at f q).level.element.name
@@ -154,7 +162,7 @@ module _ (f : Forest (Keyed Node)) (doc : IsKeyedDocument f) where
       let e = element-seat q live some in
       let t = element-seat x live_x (parent-element q x live up) in
       let above = (seat-child f doc.distinct q x e.seat t.seat live live_x e.has.is t.has.is up).0 in
-      let level : own_levels t.seat ≡ level_of t.seat.earlier (element t.name t.attrs (without_keys t.seat.children)) t.seat.after ∷ [] = ap (λ n. map (λ here. level_of t.seat.earlier here t.seat.after) (own n t.seat.children)) t.node_is in
+      let level : own_levels t.seat ≡ level_of t.seat.earlier (element_with t.name t.attrs (without_keys t.seat.children)) t.seat.after ∷ [] = ap (λ n. map (λ here. level_of t.seat.earlier here t.seat.after) (own n t.seat.children)) t.node_is in
       ap ancestors (element-at q e) ∙ ap ancestors_in (above ∙ ap (λ levels. levels ++ t.seat.above) level) ∙ sym (ap (λ (s : Standing). s ∷ ancestors s) (element-at x t))
 
   -- The siblings of an element, by the seats between.
@@ -164,7 +172,7 @@ module _ (f : Forest (Keyed Node)) (doc : IsKeyedDocument f) where
   siblings-level false earlier here seat is = sym is
 
   siblings-at : (after : Bool) (q : ℕ) (e : ElementSeat q) → siblings after (standing_at f q).level ≡ onward after e.seat
-  siblings-at after q e = ap (λ (s : Standing). siblings after s.level) (element-at q e) ∙ siblings-level after e.seat.earlier (element e.name e.attrs (without_keys e.seat.children)) e.seat refl
+  siblings-at after q e = ap (λ (s : Standing). siblings after s.level) (element-at q e) ∙ siblings-level after e.seat.earlier (element_with e.name e.attrs (without_keys e.seat.children)) e.seat refl
 
   -- an element is reached
   pub reached : (after : Bool) (q k : ℕ) (second : Seat) (e : ElementSeat q) (t : ElementSeat k) → Passes after e.seat second → IsSeatBeside after second t.seat → IsBeside after (standing_at f q) (standing_at f k)

@@ -22,13 +22,13 @@ are_nothing (Tree (node.Element name attrs) children after) = false
 are_nothing (Tree (node.Text characters) children after) = (length characters == 0) && are_nothing after
 
 -- the element of this name, with these attributes and children
-abbrev pub element : List ℕ → List Attr → Forest Node → Element
-element name attrs children = record { name = name; attrs = attrs; is_empty = are_nothing children }
+abbrev pub element_with : List ℕ → List Attr → Forest Node → Element
+element_with name attrs children = record { name = name; attrs = attrs; is_empty = are_nothing children }
 
 -- the elements among the roots, from the first
 abbrev pub elements : Forest Node → List Element
 elements Empty = []
-elements (Tree (node.Element name attrs) children after) = element name attrs children ∷ elements after
+elements (Tree (node.Element name attrs) children after) = element_with name attrs children ∷ elements after
 elements (Tree (node.Text characters) children after) = elements after
 
 -- an element with its element siblings: those before it from the nearest, and those after it from the nearest
@@ -78,7 +78,7 @@ abbrev pub standing_in : List Level → List Element → Forest (Keyed Node) →
 standing_in above earlier Empty key = None
 standing_in above earlier (Tree first children after) key = elim first.label [
   | node.Element name attrs ↦
-      let here : Element = element name attrs (without_keys children) in
+      let here : Element = element_with name attrs (without_keys children) in
       let level : Level = level_of earlier here after in
       if first.key == key then Some (record { level = level; above = above })
       else option_or (standing_in (level ∷ above) [] children key) (standing_in above (here ∷ earlier) after key)

@@ -19,17 +19,17 @@ abbrev pub siblings : Bool → Level → List Element
 siblings after level = if after then level.later else level.earlier
 
 -- a sibling counts: any does, or one of the same name, compared as written
-abbrev pub counts : Bool → Element → Element → Bool
-counts same_type element sibling = not same_type || bytes_eq sibling.name element.name
+abbrev pub is_counted : Bool → Element → Element → Bool
+is_counted same_type element sibling = not same_type || bytes_eq sibling.name element.name
 
 -- so many of the siblings after an element, or before it, count
-abbrev pub counted : Bool → Bool → Level → ℕ
-counted after same_type level = count_by (counts same_type level.element) (siblings after level)
+abbrev pub sibling_count : Bool → Bool → Level → ℕ
+sibling_count after same_type level = count_by (is_counted same_type level.element) (siblings after level)
 
 -- the position of an element among those that count, from 1
 abbrev pub position_of : Bool → Bool → Level → ℕ
-position_of from_end same_type level = counted from_end same_type level + 1
+position_of from_end same_type level = sibling_count from_end same_type level + 1
 
 -- no sibling counts
 abbrev pub is_only : Bool → Level → Bool
-is_only same_type level = (counted false same_type level == 0) && (counted true same_type level == 0)
+is_only same_type level = (sibling_count false same_type level == 0) && (sibling_count true same_type level == 0)

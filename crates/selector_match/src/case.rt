@@ -1,7 +1,7 @@
 //! Whether ASCII case counts (Selectors 4, 6.3).
 
 ghost use Rattle.std.specs.Prelude.{◌≡◌};
-ghost use Rattle.selector_match.specs.Sides.{is_aside};
+ghost use Rattle.selector_match.specs.Machinery.Sides.{is_aside};
 
 /// Whether ASCII case counts, or is put aside.
 #[derive(Clone, Copy)]

@@ -13,7 +13,7 @@
 //! No call takes memory, and none recurses on the document; recursion follows `:is()`, `:where()` and
 //! `:not()` alone. At a descendant or subsequent-sibling combinator the nearest element is taken from which
 //! the nearer combinators before it hold, and no other is ever tried again: no other could do better, which
-//! `proofs/Chains.antt` proves. So each element of a chain is looked at once.
+//! `proofs/ChainLaws.antt` proves. So each element of a chain is looked at once.
 //!
 //! ```text
 //! let selector = ..;                                  // ol > li:first-child
@@ -24,6 +24,7 @@
 mod attributes;
 mod case;
 mod compounds;
+mod element;
 pub mod matching;
 mod neighbours;
 mod positions;

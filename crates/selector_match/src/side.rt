@@ -1,7 +1,7 @@
 //! The two sides of an element among its siblings.
 
 ghost use Rattle.std.specs.Prelude.{◌≡◌};
-ghost use Rattle.selector_match.specs.Sides.{is_later};
+ghost use Rattle.selector_match.specs.Machinery.Sides.{is_later};
 
 /// The siblings before an element, or those after it.
 #[derive(Clone, Copy)]

@@ -13,5 +13,3 @@
 #![tactic(auto)]
 
 pub mod put_rows;
-#[cfg(test)]
-mod tests;

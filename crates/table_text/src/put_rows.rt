@@ -1,50 +1,20 @@
 //! Rows of values in a counter style.
 
-ghost use Rattle.std.specs.Prelude.{◌≡◌, ◌≤◌, ◌⊎◌, IfErr, OnOk, OnErr, encode_utf8_all};
-ghost use Rattle.ports.specs.Causes.{Rose};
+ghost use Rattle.std.specs.Prelude.{◌≡◌, OnOk, OnErr, encode_utf8_all};
 ghost use Rattle.ports.specs.Grown.{grown, GrowsByFront};
+ghost use Rattle.ports.specs.Puts.{HasPutCause};
 ghost use Rattle.table_text.specs.Rows.{row_text, rows, values_between};
-ghost use Rattle.table_text.specs.declared.put_rows.RowFault.TheVariants as fault;
 
 use dump_text::put_quoted::put_quoted;
 use itoa::Buffer;
 use plain_types::count::Count;
-use plain_types::memory::Memory;
 use plain_types::style_ref::StyleRef;
 use plain_types::table::Table;
 use plain_types::text::Text;
-use ports::failed::Failed;
+use ports::put_fault::PutFault;
 use ports::sink::{Sink, put_all};
 use representation::represent::represent;
 use std::alloc::Global;
-use thiserror::Error;
-
-/// Why rows were not put, or not all of them.
-#[derive(Clone, Copy, Debug, PartialEq, Eq, Error)]
-pub enum RowFault {
-    /// A write failed.
-    #[error("a write failed")]
-    WriteFault,
-    /// Memory was wanting.
-    #[error("out of memory")]
-    Memory,
-}
-
-impl From<Memory> for RowFault {
-    ghost from_gives = { λ _ e. e ≡ fault.Memory };
-
-    fn from(_error: Memory) -> RowFault {
-        RowFault::Memory
-    }
-}
-
-impl From<Failed> for RowFault {
-    ghost from_gives = { λ _ e. e ≡ fault.WriteFault };
-
-    fn from(_error: Failed) -> RowFault {
-        RowFault::WriteFault
-    }
-}
 
 /// Puts the row of a value.
 fn put_row<O: Sink>(
@@ -53,11 +23,10 @@ fn put_row<O: Sink>(
     style: &StyleRef,
     value: Count,
     out: &mut O,
-) -> Result<(), RowFault>
+) -> Result<(), PutFault>
     ensures ok { OnOk result (O.out out.new ≡ grown (O.out out.old) (encode_utf8_all (row_text table.now style.now value))) }
     ensures err { OnErr result (GrowsByFront (O.out out.old) (O.out out.new) (encode_utf8_all (row_text table.now style.now value))) }
-    ensures cause { IfErr result (λ error. (error ≡ fault.Memory) ⊎ ((error ≡ fault.WriteFault) × Rose (O.faults out.old) (O.faults out.new))) }
-    ensures faults { O.faults out.old ≤ O.faults out.new }
+    ensures cause { HasPutCause (O.faults out.old) (O.faults out.new) result }
 {
     let mut text = Text::new(alloc);
     represent(alloc, table, style, value, &mut text)?;
@@ -80,11 +49,10 @@ pub fn put_rows<O: Sink>(
     from: Count,
     to: Count,
     out: &mut O,
-) -> Result<(), RowFault>
+) -> Result<(), PutFault>
     ensures ok { OnOk result (O.out out.new ≡ grown (O.out out.old) (rows table.now style.now (values_between from to))) }
     ensures err { OnErr result (GrowsByFront (O.out out.old) (O.out out.new) (rows table.now style.now (values_between from to))) }
-    ensures cause { IfErr result (λ error. (error ≡ fault.Memory) ⊎ ((error ≡ fault.WriteFault) × Rose (O.faults out.old) (O.faults out.new))) }
-    ensures faults { O.faults out.old ≤ O.faults out.new }
+    ensures cause { HasPutCause (O.faults out.old) (O.faults out.new) result }
 {
     for value in from..=to {
         put_row(alloc, table, style, value, out)?;

@@ -26,9 +26,6 @@ returns-in_err-put_row-clause-cause g c =
     let earlier : g.O.Sink.faults c.args.out.now ≤ g.O.Sink.faults c.loop-value.out = c.loop-value.invariant.later in
     search rules
 
-pub returns-in_err-put_row-clause-faults : goal.returns-in_err-put_row-clause-faults
-returns-in_err-put_row-clause-faults g c = omega (arith, c.loop-value.invariant.later, c.in_err-put_row.ensures.faults)
-
 pub loop-value-preserved : goal.loop-value-preserved
 loop-value-preserved g c =
     let value : ℤ = to_z w64 c.loop-value.value-bits in
@@ -43,7 +40,7 @@ loop-value-preserved g c =
           ++ rows c.args.table.now c.args.style.now (values_between next (to_z w64 (of_z w64 c.args.to))))) more
           ∙ ap (λ bs. c.loop-value.invariant.done ++ bs) (sym (rows-first c.args.table.now c.args.style.now value (to_z w64 (of_z w64 c.args.to)) below))
           ∙ c.loop-value.invariant.parts;
-      later = omega (arith, c.loop-value.invariant.later, c.in_ok-put_row.ensures.faults);
+      later = omega (arith, c.loop-value.invariant.later, c.in_ok-put_row.ensures.cause.later);
     }
 
 pub returns-clause-ok : goal.returns-clause-ok
@@ -56,9 +53,6 @@ returns-clause-ok g c =
     ∙ ap (λ bs. c.loop-value.invariant.done ++ bs) (sym (rows-none c.args.table.now c.args.style.now value (to_z w64 (of_z w64 c.args.to)) above))
     ∙ c.loop-value.invariant.parts
     ∙ (λ i. rows c.args.table.now c.args.style.now (values_between (to_z-of_z w64 c.args.from c.ranges.from i) (to_z-of_z w64 c.args.to c.ranges.to i))))
-
-pub returns-clause-faults : goal.returns-clause-faults
-returns-clause-faults g c = c.loop-value.invariant.later
 
 pub returns-in_ok-put_row-clause-ok : goal.returns-in_ok-put_row-clause-ok
 returns-in_ok-put_row-clause-ok g c =
@@ -73,6 +67,3 @@ returns-in_ok-put_row-clause-ok g c =
     (ap (λ bs. c.loop-value.invariant.done ++ bs) (sym last)
     ∙ c.loop-value.invariant.parts
     ∙ (λ i. rows c.args.table.now c.args.style.now (values_between (to_z-of_z w64 c.args.from c.ranges.from i) (to_z-of_z w64 c.args.to c.ranges.to i))))
-
-pub returns-in_ok-put_row-clause-faults : goal.returns-in_ok-put_row-clause-faults
-returns-in_ok-put_row-clause-faults g c = omega (arith, c.loop-value.invariant.later, c.in_ok-put_row.ensures.faults)

@@ -1,5 +1,6 @@
 -- Where the element of a key stands. Of a key that no element has this says nothing.
-use Rattle.std.specs.Prelude.{◌≡◌, ℕ, Bool, true, false, not, Option, [], ◌∷◌, IsSome, unwrap_or}
+use Rattle.std.proofs.Common.{◌≡◌, ℕ, Bool, true, not, Option, [], ◌∷◌, IsSome}
+use Rattle.std.specs.Prelude.{unwrap_or, if◌then◌else◌}
 use Rattle.forest.specs.Forest.{Forest}
 use Rattle.forest.specs.Keys.{Keyed}
 use Rattle.forest.specs.Spots.{IsLive, next_sibling_of, previous_sibling_of}
@@ -19,8 +20,7 @@ standing_at tree key = unwrap_or (standing_of tree key) nowhere
 
 -- the sibling after a node, or before it
 abbrev pub beside_of : Forest (Keyed Node) → Bool → ℕ → Option ℕ
-beside_of tree true key = next_sibling_of tree key
-beside_of tree false key = previous_sibling_of tree key
+beside_of tree after key = if after then next_sibling_of tree key else previous_sibling_of tree key
 
 -- the second element stands beside the first, after it or before it, and no element stands between
 pub record IsBeside (after : Bool) (first second : Standing) : Type 0 where
