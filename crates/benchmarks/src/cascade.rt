@@ -2,6 +2,7 @@
 
 ghost use Rattle.std.specs.Prelude.{◌≡◌, ◌<◌};
 
+use mini_cascade::style_attributes::inline_declarations;
 use mini_cascade::style_of::style_of;
 use node_arena::arena::{Arena, has_element_root};
 use plain_types::attr::Attr;
@@ -108,12 +109,18 @@ fn style_all<L: Ledger>(
     let mut steps = Steps::<L>::open(rt, blank);
     let agent = sheet_of(alloc, 0)?;
     let root = arena.root();
-    let above = style_of(alloc, arena, &agent, author, None, root, &mut steps)?;
+    let inline = inline_declarations(alloc, arena, root)?;
+    let inline = inline.as_slice();
+    let above = style_of(alloc, arena, &agent, author, inline, None, root, &mut steps)?;
     let count = arena.child_count(root);
     for index in 0..count {
         if let Some(key) = arena.child(root, index) {
             let parent = Some(&above.own);
-            let _style = style_of(alloc, arena, &agent, author, parent, key, &mut steps)?;
+            let inline = inline_declarations(alloc, arena, key)?;
+            let inline = inline.as_slice();
+            let _style = style_of(
+                alloc, arena, &agent, author, inline, parent, key, &mut steps,
+            )?;
         }
     }
     Ok(count)

@@ -41,19 +41,19 @@ module _ (last : Descriptor) where
 -- the loop has come to the rest, and keeps of each descriptor the last
 pub record Keeps (whole : List Token) (kept : List Descriptor) (rest : List Token) : Type 0 where
   pub found : List Descriptor
-  pub gathers : Gathers part_at descriptor_in whole found rest
+  pub gathers : Gathers part_at descriptor_in [] whole found rest
   pub kept_is : kept ≡ last_of_each found
 
 pub Keeps-start : (whole : List Token) (kept : List Descriptor) → kept ≡ [] → Keeps whole kept whole
-Keeps-start whole kept none = record { found = []; gathers = Gathers-start part_at descriptor_in whole [] refl; kept_is = none }
+Keeps-start whole kept none = record { found = []; gathers = Gathers-start part_at descriptor_in [] whole [] refl; kept_is = none }
 
 pub Keeps-more : (whole : List Token) (kept next : List Descriptor) (rest : List Token) (entry : Option (List Token)) (after : List Token) → Keeps whole kept rest → part_at rest ≡ Some (entry, after)
     → ((found : List Descriptor) → kept ≡ last_of_each found → next ≡ last_of_each (found ++ filter_map descriptor_in (filter_map (λ x. x) (entry ∷ [])))) → Keeps whole next after
 Keeps-more whole kept next rest entry after k e n = record {
   found = k.found ++ filter_map descriptor_in (filter_map (λ x. x) (entry ∷ []));
-  gathers = Gathers-more part_at descriptor_in whole k.found _ rest entry after k.gathers e refl;
+  gathers = Gathers-more part_at descriptor_in [] whole k.found _ rest entry after k.gathers e refl;
   kept_is = n k.found k.kept_is;
 }
 
 pub Keeps-read : (whole : List Token) (kept : List Descriptor) (rest : List Token) → Keeps whole kept rest → part_at rest ≡ None → kept ≡ last_of_each (filter_map descriptor_in (filter_map (λ x. x) (run_at part_at whole).0))
-Keeps-read whole kept rest k e = k.kept_is ∙ ap last_of_each (Gathers-read part_at descriptor_in (takes_shorter part_at part_takes) whole k.found rest k.gathers e)
+Keeps-read whole kept rest k e = k.kept_is ∙ ap last_of_each (Gathers-read part_at descriptor_in (takes_shorter part_at part_takes) [] whole k.found rest k.gathers e)

@@ -1,4 +1,4 @@
--- What the selectors of a sheet look at: Selectors 4, 4, 13 and 14.
+-- What the selectors of a sheet look at: Selectors 4, 4, "Tree-Structural pseudo-classes" and "Combinators".
 use Rattle.std.specs.Prelude.{Bool, true, false, List, map}
 use Rattle.std.specs.List.{list_any}
 use Rattle.plain_types.specs.declared.selector.Compound.{Compound}

@@ -1,15 +1,17 @@
--- The sheet of a text. Every text has one: CSS Syntax 3, 5.3.3.
-use Rattle.std.specs.Prelude.{ℕ, encode_utf8_all, if◌then◌else◌, List, Option, Some, None, codes}
+-- The sheet of a text, and the declarations of a `style` attribute. Every text has both: CSS Syntax 3, 5.3.3, and CSS
+-- Style Attributes, 3.
+use Rattle.std.specs.Prelude.{ℕ, encode_utf8_all, if◌then◌else◌, List, Option, Some, None, codes, flat_map}
 use Rattle.std.specs.List.{filter_map}
 use Rattle.plain_types.specs.declared.counter_style.StyleDef.{StyleDef}
+use Rattle.plain_types.specs.declared.declaration.Declared.{Declared}
 use Rattle.plain_types.specs.declared.sheet.Sheet.{Sheet}
 use Rattle.plain_types.specs.declared.sheet.StyleRule.{StyleRule}
-use Rattle.reading.specs.Reading.{◌then◌}
+use Rattle.reading.specs.Reading.{◌then◌, only}
 use Rattle.css_definitions.specs.SheetText.{prepared}
 use Rattle.css_definitions.specs.Words.{is_word}
 use Rattle.css_tokens.specs.Tokens.{tokens}
 use Rattle.css_tokens.specs.declared.token.Token.{Token}
-use Rattle.css_tokens.specs.TokenReading.{ident_at, skip_whitespace, only}
+use Rattle.css_tokens.specs.TokenReading.{ident_at, skip_whitespace}
 use Rattle.selectors.specs.Selectors.{selector_list}
 use Rattle.css_reader.specs.Declarations.{declarations, descriptors}
 use Rattle.css_reader.specs.Rules.{Rule, style_rule, at_rule, rules}
@@ -38,3 +40,16 @@ sheet_of text found = record { rules = filter_map (style_rule_of text) found; st
 -- the sheet of a text
 unfoldable pub sheet : List ℕ → Sheet
 sheet text = sheet_of (encode_utf8_all (prepared text)) (rules (tokens (prepared text)))
+
+-- CSS Cascade 5, 6.1 "Order of Appearance": sheets one after the other act as one, with the rules of all in this order
+unfoldable pub sheets : List (List ℕ) → Sheet
+sheets texts = record {
+  rules = flat_map (λ (text : List ℕ). (sheet text).rules) texts;
+  styles = flat_map (λ (text : List ℕ). (sheet text).styles) texts;
+}
+
+-- CSS Style Attributes, 3 "Syntax and Parsing": the declarations of a `style` attribute whose value is this text; it
+-- is the content of a block, in which a `}` without a `{` before it closes nothing. Our own: the value is prepared as
+-- the text of a sheet is, so that a byte order mark at its front goes
+unfoldable pub inline_declarations : List ℕ → List Declared
+inline_declarations text = declarations (tokens (prepared text))

@@ -1,4 +1,4 @@
-//! The sheet of a text.
+//! The sheet of a text, and that of several texts.
 
 ghost use Rattle.std.specs.Prelude.{◌≡◌, ◌++◌, ◌∷◌, [], option_map, IfOk, OnOk};
 ghost use Rattle.std.specs.List.{filter_map};
@@ -6,7 +6,7 @@ ghost use Rattle.std.specs.Str.{chars};
 ghost use Rattle.reading.specs.Reading.{Reads};
 ghost use Rattle.css_reader.specs.Rules.{style_rule, at_rule, rules};
 ghost use Rattle.css_reader.specs.FoundRules.{rule_found};
-ghost use Rattle.css_reader.specs.Sheets.{lone_name, style_rule_of, style_def_of, sheet_of, sheet};
+ghost use Rattle.css_reader.specs.Sheets.{lone_name, style_rule_of, style_def_of, sheet, sheets};
 
 use crate::declarations::{declarations, descriptors};
 use crate::rules::{FoundRule, rule};
@@ -102,29 +102,63 @@ fn push_rule(
     }
 }
 
-/// The sheet of these tokens of the text.
-fn sheet_of(alloc: Global, text: &str, tokens: &[Token]) -> Result<Sheet, Memory>
-    ensures { IfOk result (λ r. r ≡ sheet_of text.now (rules tokens.now)) }
+/// Adds what the rules of these tokens of the text give to the sheet.
+fn push_rules(alloc: Global, text: &str, tokens: &[Token], sheet: &mut Sheet) -> Result<(), Memory>
+    ensures rules { OnOk result (sheet.new.rules ≡ sheet.old.rules ++ filter_map (style_rule_of text.now) (rules tokens.now)) }
+    ensures styles { OnOk result (sheet.new.styles ≡ sheet.old.styles ++ filter_map style_def_of (rules tokens.now)) }
 {
-    let mut sheet = Sheet {
-        rules: List::new(alloc),
-        styles: List::new(alloc),
-    };
     let mut rest = tokens;
     'rules: while let Some((found, after)) = rule(alloc, rest)? {
-        push_rule(alloc, text, found, &mut sheet)?;
+        push_rule(alloc, text, found, sheet)?;
         rest = after;
     }
-    Ok(sheet)
+    Ok(())
+}
+
+/// Adds the rules and the counter styles of the text to the sheet, behind those that it has.
+#[tactic(auto, unfolding(crate::specs::Sheets::sheet))]
+fn push_text(alloc: Global, text: &str, found: &mut Sheet) -> Result<(), Memory>
+    ensures rules { OnOk result (found.new.rules ≡ found.old.rules ++ (sheet (chars text.now)).rules) }
+    ensures styles { OnOk result (found.new.styles ≡ found.old.styles ++ (sheet (chars text.now)).styles) }
+{
+    let text = prepare_text(alloc, text)?;
+    let tokens = tokens(alloc, text.as_str())?;
+    push_rules(alloc, text.as_str(), tokens.as_slice(), found)
+}
+
+/// The sheet without rules.
+fn empty_sheet(alloc: Global) -> Sheet
+    ensures rules { result.rules ≡ [] }
+    ensures styles { result.styles ≡ [] }
+{
+    Sheet {
+        rules: List::new(alloc),
+        styles: List::new(alloc),
+    }
 }
 
 /// The style sheet of a text, which every text has (CSS Syntax 3, 5.3.3): its style rules and its counter
 /// styles, without what is not understood. Time and memory are linear in the length of the text.
-#[tactic(auto, unfolding(crate::specs::Sheets::sheet))]
 pub fn read_sheet(alloc: Global, text: &str) -> Result<Sheet, Memory>
     ensures sheet { IfOk result (λ found. found ≡ sheet (chars text.now)) }
 {
-    let text = prepare_text(alloc, text)?;
-    let tokens = tokens(alloc, text.as_str())?;
-    sheet_of(alloc, text.as_str(), tokens.as_slice())
+    let mut sheet = empty_sheet(alloc);
+    push_text(alloc, text, &mut sheet)?;
+    Ok(sheet)
+}
+
+/// The style sheets of the texts as one (CSS Cascade 5, 6.1 "Order of Appearance"): the style rules of all
+/// and the counter styles of all, those of the first text first. Each text is a sheet of its own, as in
+/// [`read_sheet`]: what it leaves open does not reach into the next. Without texts there are no rules.
+/// `Memory` where memory is wanting. Time and memory are linear in the lengths of the texts: each is read
+/// once, and its rules go straight into the sheet that is returned.
+#[tactic(auto, unfolding(crate::specs::Sheets::sheets))]
+pub fn read_sheets(alloc: Global, texts: &[Text]) -> Result<Sheet, Memory>
+    ensures sheet { IfOk result (λ found. found ≡ sheets texts.now) }
+{
+    let mut sheet = empty_sheet(alloc);
+    for text in texts {
+        push_text(alloc, text.as_str(), &mut sheet)?;
+    }
+    Ok(sheet)
 }

@@ -1,13 +1,17 @@
-//! Sheets, worked out by hand from the rules of CSS Syntax.
+//! Sheets and declarations, worked out by hand from the rules of CSS Syntax.
 
 use crate::features::features;
-use crate::sheet::read_sheet;
+use crate::inline::read_inline;
+use crate::sheet::{read_sheet, read_sheets};
 use plain_types::content::{Content, Item};
 use plain_types::counter_style::{Descriptor, StyleDef};
 use plain_types::declaration::{Declaration, Declared, Said};
+use plain_types::list::List;
+use plain_types::memory::Memory;
 use plain_types::selector::{Compound, Selector, Simple};
 use plain_types::selector_parts::{Join, PseudoElement};
 use plain_types::sheet::{Sheet, StyleRule};
+use plain_types::text::Text;
 use selectors::counting::specificity;
 use std::alloc::{AllocError, Global};
 use std::test::Fail;
@@ -186,6 +190,96 @@ static STYLES: [(&str, &str); 20] = [
     ("@media x{@counter-style x{}}", ""),
 ];
 
+/// Texts, and the one sheet that they are together.
+static TOGETHER: [(&'static [&'static str], &str); 12] = [
+    (&[], ""),
+    (
+        &["a{content:none}@counter-style x{symbols:b}"],
+        "a{content none}@x{symbols 1}",
+    ),
+    // all stay, in the order of their texts
+    (
+        &[
+            "b{}@counter-style y{symbols:c}",
+            "a{content:none}@counter-style x{}",
+        ],
+        "b{}a{content none}@y{symbols 1}@x{}",
+    ),
+    (
+        &[
+            "a{}@counter-style x{}",
+            "@counter-style x{suffix:b}a{}",
+            "c{}",
+        ],
+        "a{}a{}c{}@x{}@x{suffix}",
+    ),
+    (&["", "a{}", "<!--", "b{}"], "a{}b{}"),
+    (&["\u{feff}a{}", "\u{feff}b{}"], "a{}b{}"),
+    // what a text leaves open
+    (&["a{content:none", "b{}"], "a{content none}b{}"),
+    (&["a{}/*", "b{}"], "a{}b{}"),
+    (&["a{content:\"b", "c{}"], "a{content 'b'}c{}"),
+    (&["@media x{", "a{}"], "a{}"),
+    (&["@x", "a{}"], "a{}"),
+    (&["a", "b{}"], "b{}"),
+];
+
+/// Values of `style` attributes, and their declarations.
+static INLINE: [(&str, &str); 33] = [
+    ("", ""),
+    (" ;; ", ""),
+    ("content:none", "content none"),
+    (" content : none ; ", "content none"),
+    (
+        "counter-reset:x;counter-increment:y;content:\"a\"",
+        "counter-reset;counter-increment;content 'a'",
+    ),
+    ("content:none;content:normal", "content none;content normal"),
+    ("content:none!important", "content none!"),
+    ("list-style:\"y\"!important", "list-style!"),
+    (
+        "content:none ! IMPORTANT;content:normal",
+        "content none!;content normal",
+    ),
+    // what is not understood
+    ("color:red;;content:\"a\" b ! important", ""),
+    (
+        "color:red;;content:\"a\" ! important;x;content:none",
+        "content 'a'!;content none",
+    ),
+    ("content:none content:normal;content:none", "content none"),
+    ("content:none!x;content:normal", "content normal"),
+    ("<!--content:none-->;content:normal", "content normal"),
+    ("content:\"a\n;content:none", "content none"),
+    // at-rules
+    ("@x", ""),
+    ("@x;content:none", "content none"),
+    ("@x{content:normal}content:none", "content none"),
+    (
+        "content:none;@x b{;};content:normal",
+        "content none;content normal",
+    ),
+    // brackets
+    ("content:\"a\"}content:\"b\"", ""),
+    ("content:\"a\"}content:\"b\";content:none", "content none"),
+    ("}content:none", ""),
+    ("};content:none}", ""),
+    ("x:]);content:none", "content none"),
+    ("a{content:none}", ""),
+    ("{content:none}content:normal", ""),
+    ("a{content:none;};content:normal", "content normal"),
+    ("x:(;content:none", ""),
+    // the ends of the text, and comments
+    ("\u{feff}content:none", "content none"),
+    ("\u{feff}\u{feff}content:none", ""),
+    ("content:\"a", "content 'a'"),
+    (
+        "/*;*/content/**/:/*;*/none/*;content:normal",
+        "content none",
+    ),
+    ("content:none;/*", "content none"),
+];
+
 /// Selectors, and what they look at: siblings, positions, emptiness.
 static FEATURES: [(&str, bool, bool, bool); 16] = [
     ("a b > c.d[e]:root:hover::before", false, false, false),
@@ -289,6 +383,18 @@ fn shown_declaration(alloc: Global, declared: &Declared) -> Result<String, Alloc
     format!(in alloc; "{}{important}", what.as_str())
 }
 
+fn shown_declarations(alloc: Global, all_declared: &[Declared]) -> Result<String, AllocError> {
+    let mut all = String::new(alloc);
+    let mut between = "";
+    for declared in all_declared {
+        let one = shown_declaration(alloc, declared)?;
+        all.push_str(between)?;
+        all.push_str(one.as_str())?;
+        between = ";";
+    }
+    Ok(all)
+}
+
 fn shown_descriptor(alloc: Global, descriptor: &Descriptor) -> Result<String, AllocError> {
     match descriptor {
         Descriptor::System(_) => format!(in alloc; "system"),
@@ -313,14 +419,10 @@ fn shown_rule(alloc: Global, rule: &StyleRule) -> Result<String, AllocError> {
         all.push_str(one.as_str())?;
         between = ",";
     }
-    between = "{";
-    for declared in rule.declared.as_slice() {
-        let one = shown_declaration(alloc, declared)?;
-        all.push_str(between)?;
-        all.push_str(one.as_str())?;
-        between = ";";
-    }
-    all.push_str(if between == "{" { "{}" } else { "}" })?;
+    let declarations = shown_declarations(alloc, rule.declared.as_slice())?;
+    all.push_str("{")?;
+    all.push_str(declarations.as_str())?;
+    all.push_str("}")?;
     Ok(all)
 }
 
@@ -356,6 +458,37 @@ fn sheets_recover_as_css_does(rt: HostRuntime) -> Result<(), Fail> {
     for (text, expected) in &SHEETS {
         let sheet = read_sheet(alloc, text)?;
         let shown = shown_sheet(alloc, &sheet)?;
+        assert_eq!(rt; shown.as_str(), *expected, "{text}");
+    }
+    Ok(())
+}
+
+fn texts_of(alloc: Global, texts: &[&str]) -> Result<List<Text>, Memory> {
+    let mut list = List::new(alloc);
+    for text in texts {
+        list.push(Text::from_str(alloc, text)?)?;
+    }
+    Ok(list)
+}
+
+#[test]
+fn several_texts_are_one_sheet(rt: HostRuntime) -> Result<(), Fail> {
+    let alloc = rt.alloc();
+    for (texts, expected) in &TOGETHER {
+        let list = texts_of(alloc, texts)?;
+        let sheet = read_sheets(alloc, list.as_slice())?;
+        let shown = shown_sheet(alloc, &sheet)?;
+        assert_eq!(rt; shown.as_str(), *expected);
+    }
+    Ok(())
+}
+
+#[test]
+fn style_attributes_have_declarations(rt: HostRuntime) -> Result<(), Fail> {
+    let alloc = rt.alloc();
+    for (text, expected) in &INLINE {
+        let found = read_inline(alloc, text)?;
+        let shown = shown_declarations(alloc, found.as_slice())?;
         assert_eq!(rt; shown.as_str(), *expected, "{text}");
     }
     Ok(())

@@ -6,3 +6,6 @@ pub mod IdLemmas
 pub mod KeptLemmas
 pub mod KnownLemmas
 pub mod PlanLemmas
+pub mod StyleLemmas
+pub mod StyleElementLemmas
+pub mod WalkLemmas

@@ -5,13 +5,17 @@ use Rattle.std.specs.HashMap.{HashMap, get}
 use Rattle.forest.specs.Forest.{Forest, coded_forest}
 use Rattle.forest.specs.Keys.{Keyed, coded_keyed}
 use Rattle.plain_types.specs.declared.node.Node.{Node}
-use Rattle.css_reader.specs.Sheets.{sheet}
+use Rattle.plain_types.specs.declared.sheet.Sheet.{Sheet}
+use Rattle.generated_texts.specs.StyleElements.{author_sheet}
 use Rattle.node_arena.specs.declared.reversal.Reversal.{Reversal}
 use Rattle.node_arena.specs.Document.{Document}
 use Rattle.node_arena.specs.Reversals.{IsCommitted, IsReversal, IsSettled}
 use Rattle.generated_texts.specs.declared.entry.NodeEntry.{NodeEntry}
+use Rattle.generated_texts.specs.Documents.{agent_sheet}
 use Rattle.generated_texts.specs.Entries.{document_entries}
 use Rattle.generated_texts.specs.References.{kept_at}
+use Rattle.dirty_walk.specs.declared.document_styles.DocumentStyles.{DocumentStyles}
+use Rattle.dirty_walk.specs.DocumentStyles.{document_styles}
 
 -- a document whose nodes have keys, the text of its style sheet, and whether they are settled: no edit is planned
 pub record StyledDocument : Type 0 where
@@ -29,7 +33,7 @@ settled_on document text = record { tree = document; sheet = text; settled = tru
 
 -- what a fresh evaluation keeps of the element of this key; nothing of a text
 abbrev pub fresh_entry : StyledDocument → ℕ → Option NodeEntry
-fresh_entry styled key = kept_at (document_entries (sheet styled.sheet) styled.tree) key
+fresh_entry styled key = kept_at (document_entries (author_sheet styled.sheet styled.tree) styled.tree) key
 
 -- the entries are those of a fresh evaluation
 abbrev pub Keeps : {S : Type 0} → HashMap ℕ NodeEntry S → StyledDocument → Type 0
@@ -40,8 +44,12 @@ abbrev pub UsesItsKeys : Document → Option Reversal → Type 0
 UsesItsKeys arena None = IsSettled arena
 UsesItsKeys arena (Some reversal) = IsCommitted arena reversal
 
--- a settled book keeps what a fresh evaluation does, and uses no key that no node has; an edit that is planned can be taken back
-pub record IsBook (arena : Document) (planned : Option Reversal) {S : Type 0} (entries : HashMap ℕ NodeEntry S) (styled : StyledDocument) : Type 0 where
+-- A book stands for its arena's tree, its sheet's text, and whether no edit is planned. It has the user agent's sheet and
+-- that document's styles. A settled one keeps what a fresh evaluation does, and uses no key that no node has; an edit that
+-- is planned can be taken back.
+pub record IsBook (arena : Document) (agent : Sheet) (styles : DocumentStyles) (planned : Option Reversal) {S : Type 0} (entries : HashMap ℕ NodeEntry S) (styled : StyledDocument) : Type 0 where
+  pub agent_is : agent ≡ agent_sheet
+  pub styles_are : styles ≡ document_styles styled.sheet styled.tree
   pub kept : styled.settled ≡ true → Keeps entries styled
   pub back : IfSome planned (λ reversal. IsReversal arena reversal)
   pub keys : UsesItsKeys arena planned

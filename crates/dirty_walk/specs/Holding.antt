@@ -1,14 +1,11 @@
--- The index of a document: which elements hold an id (DOM, 4.9). How it is filled is our own.
-use Rattle.std.specs.Prelude.{◌≡◌, ℕ, Bool, false, List, [], ◌∷◌, codes, flat_map}
+-- The index of a document: which elements hold an id (DOM, 4.9).
+use Rattle.std.specs.Prelude.{◌≡◌, ℕ, Bool, false, List}
 use Rattle.std.specs.Option.{option_map_or}
 use Rattle.forest.specs.Forest.{Forest}
-use Rattle.forest.specs.Keys.{Keyed, keys}
+use Rattle.forest.specs.Keys.{Keyed}
 use Rattle.forest.specs.Spots.{label_of}
 use Rattle.plain_types.specs.declared.node.Node.{Node}
-use Rattle.node_arena.specs.Nodes.{attr_of}
 use Rattle.generated_texts.specs.References.{has_id}
-use Rattle.target_index.specs.declared.change.IndexChange.{IndexChange}
-use Rattle.target_index.specs.declared.change.IndexChange.TheVariants.{Hold}
 use Rattle.target_index.specs.declared.index.Index.{Index}
 use Rattle.target_index.specs.Holders.{is_holder}
 
@@ -19,11 +16,3 @@ holds_id document id key = option_map_or (has_id id) (label_of document key) fal
 -- the index has the document's elements as holders of their ids, and no others
 abbrev pub IsIndexOf : Index → Forest (Keyed Node) → Type 0
 IsIndexOf index document = (id : List ℕ) (key : ℕ) → is_holder index id key ≡ holds_id document id key
-
--- of an element that has an id, that it holds it
-abbrev pub id_change : Forest (Keyed Node) → ℕ → List IndexChange
-id_change document key = option_map_or (λ id. Hold id key ∷ []) (attr_of document key (codes "id")) []
-
--- the same of all, in tree order
-abbrev pub id_changes : Forest (Keyed Node) → List IndexChange
-id_changes document = flat_map (id_change document) (keys document)

@@ -1,4 +1,5 @@
 pub mod Books
+pub mod DocumentStyles
 pub mod Holding
 pub mod Known
 pub mod Plans

@@ -8,11 +8,17 @@ ghost use Rattle.node_arena.specs.Document.{HasElementRoot};
 ghost use Rattle.node_arena.specs.Edits.{place_fault, edited, edited_sheet, IsEdited};
 ghost use Rattle.node_arena.specs.Nodes.{name_of};
 ghost use Rattle.node_arena.specs.Reversals.{IsSettled};
-ghost use Rattle.dirty_walk.specs.Books.{fresh_entry};
+ghost use Rattle.css_reader.specs.Features.{features};
+ghost use Rattle.generated_texts.specs.Documents.{agent_sheet};
+ghost use Rattle.generated_texts.specs.StyleElements.{author_sheet};
+ghost use Rattle.dirty_walk.specs.Books.{fresh_entry, settled_on, Keeps};
+ghost use Rattle.dirty_walk.specs.DocumentStyles.{document_styles, read_styles};
 ghost use Rattle.dirty_walk.specs.Plans.{settled_after, IsPlannedBy};
 
-use crate::fresh::fresh_entries;
+use crate::document_styles::DocumentStyles;
+use crate::fresh::{agent_sheet, fresh_entries};
 use crate::plan::Plan;
+use crate::style_elements::style_texts;
 use generated_texts::entry::NodeEntry;
 use generated_texts::laws::elements_have_entries;
 use node_arena::arena::Arena;
@@ -21,6 +27,7 @@ use node_arena::reversal::Reversal;
 use plain_types::duplicate::Duplicate;
 use plain_types::edit::Edit;
 use plain_types::memory::Memory;
+use plain_types::sheet::{Features, Sheet};
 use plain_types::text::Text;
 use plain_types::tree::Tree;
 use std::alloc::Global;
@@ -29,13 +36,16 @@ use std::marker::Model;
 use std::sync::ledger::Ledger;
 use steps::Steps;
 
-/// A document and the text of its sheet, with what a fresh evaluation keeps of each element.
+/// A document and the text of its sheet, with what they say of styles, and what a fresh evaluation keeps of each
+/// element. Each sheet is read once.
 ///
-/// Where an edit is planned the document is the edited one already, and only `commit` may follow.
+/// Where an edit is planned the document and the styles are the edited ones already, and only `commit` may follow.
 #[derive(Drop)]
 pub struct Book {
     arena: Arena,
-    sheet: Text,
+    /// The user agent's sheet.
+    agent: Sheet,
+    styles: DocumentStyles,
     entries: HashMap<usize, NodeEntry>,
     /// The way back from an edit that is planned.
     planned: Option<Reversal>,
@@ -50,9 +60,9 @@ impl Model for Book {
 
     ghost coded = { coded_styled_document node.the_row.coded };
 
-    ghost view = { λ book. record { tree = book.arena.tree; sheet = book.sheet; settled = is_none book.planned } };
+    ghost view = { λ book. record { tree = book.arena.tree; sheet = book.styles.sheet; settled = is_none book.planned } };
 
-    ghost invariant = { λ book. IsBook book.arena book.planned book.entries (record { tree = book.arena.tree; sheet = book.sheet; settled = is_none book.planned }) };
+    ghost invariant = { λ book. IsBook book.arena book.agent book.styles book.planned book.entries (record { tree = book.arena.tree; sheet = book.styles.sheet; settled = is_none book.planned }) };
 }
 
 /// The text to which an edit replaces the sheet.
@@ -65,12 +75,35 @@ fn new_sheet(alloc: Global, edit: &Edit) -> Result<Option<Text>, Memory>
     }
 }
 
-fn replace_sheet(sheet: &mut Text, new: Option<Text>)
-    ensures { sheet.new ≡ unwrap_or new sheet.old }
+fn replace_styles(styles: &mut DocumentStyles, new: Option<DocumentStyles>)
+    ensures { styles.new ≡ unwrap_or new styles.old }
 {
     if let Some(new) = new {
-        *sheet = new;
+        *styles = new;
     }
+}
+
+/// What an edit makes of the styles of a document, where it makes others of them, and what is kept of the elements
+/// then. The document is the edited one already, and the sheet is this one, or else the one before. No sheet is read
+/// where no text of the author is another.
+fn evaluated<L: Ledger>(
+    alloc: Global,
+    arena: &Arena,
+    agent: &Sheet,
+    styles: &DocumentStyles,
+    sheet: Option<Text>,
+    steps: &mut Steps<L>,
+) -> Result<(Option<DocumentStyles>, HashMap<usize, NodeEntry>), Memory>
+    requires agent { agent.now ≡ agent_sheet }
+    requires read { styles.now ≡ read_styles styles.now.sheet styles.now.texts }
+    ensures styles { IfOk result (λ made. unwrap_or made.0 styles.now ≡ document_styles (unwrap_or sheet styles.now.sheet) arena.now.tree) }
+    ensures entries { IfOk result (λ made. Keeps made.1 (settled_on arena.now.tree (unwrap_or sheet styles.now.sheet))) }
+    ensures steps { steps.new ≤ steps.old + 6 * size arena.now.tree }
+{
+    let texts = style_texts(alloc, arena)?;
+    let new = styles.renewed(alloc, sheet, texts)?;
+    let entries = fresh_entries(alloc, arena, agent, new.as_ref().unwrap_or(styles), steps)?;
+    Ok((new, entries))
 }
 
 impl Book {
@@ -92,21 +125,25 @@ impl Book {
         ensures steps { steps.new ≤ steps.old + 6 * size document.now }
     {
         let arena = Arena::from_tree(alloc, document)?;
-        let entries = fresh_entries(alloc, &arena, sheet, steps)?;
         let sheet = Text::from_str(alloc, sheet)?;
+        let texts = style_texts(alloc, &arena)?;
+        let styles = DocumentStyles::read(alloc, sheet, texts)?;
+        let agent = agent_sheet(alloc)?;
+        let entries = fresh_entries(alloc, &arena, &agent, &styles, steps)?;
         Ok(Book {
             arena,
-            sheet,
+            agent,
+            styles,
             entries,
             planned: None,
         })
     }
 
-    /// Makes ready for an edit that the document allows. The document is then the edited one, and all memory is
-    /// taken that `commit` needs; `Memory` where that is wanting, and then the book is as before.
+    /// Makes ready for an edit that the document allows. The document and its styles are then the edited ones, and all
+    /// memory is taken that `commit` needs; `Memory` where that is wanting, and then the book is as before.
     ///
     /// The edited document is evaluated whole, which costs what `begin` costs, beside what the arena's `prepare` and
-    /// `commit` cost.
+    /// `commit` cost. Where the texts of the sheet and of the style elements are as before, none is read.
     pub fn plan<L: Ledger>(
         &mut self,
         alloc: Global,
@@ -124,11 +161,11 @@ impl Book {
         let sheet = new_sheet(alloc, edit)?;
         let prepared = self.arena.prepare(alloc, edit)?;
         let reversal = self.arena.commit(prepared);
-        let text = sheet.as_ref().unwrap_or(&self.sheet);
-        match fresh_entries(alloc, &self.arena, text.as_str(), steps) {
-            Ok(entries) => {
+        match evaluated(alloc, &self.arena, &self.agent, &self.styles, sheet, steps) {
+            Ok((styles, entries)) => {
+                replace_styles(&mut self.styles, styles);
                 self.planned = Some(reversal);
-                Ok(Plan { entries, sheet })
+                Ok(Plan { entries })
             }
             Err(memory) => {
                 self.arena.revert(reversal);
@@ -144,9 +181,8 @@ impl Book {
         ensures settled { self.new ≡ settled_after self.old plan }
         ensures steps { steps.new ≡ steps.old }
     {
-        let Plan { entries, sheet } = plan;
+        let Plan { entries } = plan;
         self.entries = entries;
-        replace_sheet(&mut self.sheet, sheet);
         if let Some(reversal) = self.planned.take() {
             self.arena.settle(reversal);
         }
@@ -166,7 +202,24 @@ impl Book {
         requires settled { self.now.settled ≡ true }
         ensures text { chars result.now ≡ self.now.sheet }
     {
-        self.sheet.as_str()
+        self.styles.sheet.as_str()
+    }
+
+    /// The sheet that the document has of its author: that of the sheet's text, and behind it those of its style
+    /// elements. It takes no memory and constant time.
+    pub fn author(&self) -> &Sheet
+        requires settled { self.now.settled ≡ true }
+        ensures sheet { result.now ≡ author_sheet self.now.sheet self.now.tree }
+    {
+        &self.styles.author
+    }
+
+    /// What the selectors of this sheet look at. It takes no memory and constant time.
+    pub fn features(&self) -> Features
+        requires settled { self.now.settled ≡ true }
+        ensures features { result ≡ features (author_sheet self.now.sheet self.now.tree) }
+    {
+        self.styles.features
     }
 
     /// What is kept of the element of this key. It takes no memory and constant time, and counts one step at most.

@@ -1,13 +1,13 @@
-//! A fresh evaluation of a document under the text of its sheet.
+//! A fresh evaluation of a document under its styles.
 
 ghost use Rattle.std.specs.Prelude.{◌≡◌, ◌≤◌, ◌+◌, ◌*◌, IfOk};
-ghost use Rattle.std.specs.Str.{chars};
 ghost use Rattle.forest.specs.Forest.{size};
 ghost use Rattle.generated_texts.specs.Documents.{agent_sheet};
 ghost use Rattle.dirty_walk.specs.Books.{settled_on, Keeps};
+ghost use Rattle.dirty_walk.specs.DocumentStyles.{document_styles};
 
+use crate::document_styles::DocumentStyles;
 use crate::evaluation::{document_entries, document_records};
-use counter_style_table::build::build;
 use css_reader::sheet::read_sheet;
 use generated_texts::entry::NodeEntry;
 use mini_cascade::agent_sheet::AGENT_SHEET;
@@ -20,7 +20,7 @@ use std::sync::ledger::Ledger;
 use steps::Steps;
 
 /// The user agent's style sheet.
-fn agent_sheet(alloc: Global) -> Result<Sheet, Memory>
+pub(crate) fn agent_sheet(alloc: Global) -> Result<Sheet, Memory>
     ensures sheet { IfOk result (λ sheet. sheet ≡ agent_sheet) }
 {
     read_sheet(alloc, AGENT_SHEET)
@@ -31,15 +31,15 @@ fn agent_sheet(alloc: Global) -> Result<Sheet, Memory>
 pub(crate) fn fresh_entries<L: Ledger>(
     alloc: Global,
     arena: &Arena,
-    sheet: &str,
+    agent: &Sheet,
+    styles: &DocumentStyles,
     steps: &mut Steps<L>,
 ) -> Result<HashMap<usize, NodeEntry>, Memory>
-    ensures entries { IfOk result (λ entries. Keeps entries (settled_on arena.now.tree (chars sheet.now))) }
+    requires agent { agent.now ≡ agent_sheet }
+    requires styles { styles.now ≡ document_styles styles.now.sheet arena.now.tree }
+    ensures entries { IfOk result (λ entries. Keeps entries (settled_on arena.now.tree styles.now.sheet)) }
     ensures steps { steps.new ≤ steps.old + 6 * size arena.now.tree }
 {
-    let agent = agent_sheet(alloc)?;
-    let author = read_sheet(alloc, sheet)?;
-    let table = build(alloc, &author.styles)?;
-    let records = document_records(alloc, arena, &agent, &author, &table, steps)?;
-    document_entries(alloc, arena, &table, records.as_slice())
+    let records = document_records(alloc, arena, agent, &styles.author, &styles.table, steps)?;
+    document_entries(alloc, arena, &styles.table, records.as_slice())
 }

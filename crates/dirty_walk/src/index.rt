@@ -1,10 +1,14 @@
 //! The index of a document's ids.
 
-ghost use Rattle.std.specs.Prelude.{◌≡◌, ◌++◌, IfOk, OnOk};
+ghost use Rattle.std.specs.Prelude.{◌≡◌, ◌++◌, ◌∷◌, [], ℕ, codes, flat_map, IfOk, OnOk};
+ghost use Rattle.std.specs.Option.{option_map_or};
 ghost use Rattle.std.specs.Str.{chars};
+ghost use Rattle.forest.specs.Keys.{keys};
 ghost use Rattle.forest.specs.Spots.{IsLink, IsLive};
+ghost use Rattle.node_arena.specs.Nodes.{attr_of};
 ghost use Rattle.generated_texts.specs.References.{first_holder};
-ghost use Rattle.dirty_walk.specs.Holding.{IsIndexOf, id_change, id_changes};
+ghost use Rattle.target_index.specs.declared.change.IndexChange.TheVariants.{Hold};
+ghost use Rattle.dirty_walk.specs.Holding.{IsIndexOf};
 
 use node_arena::arena::Arena;
 use node_arena::laws::arena_holds_document;
@@ -29,7 +33,7 @@ pub(crate) fn index_of(alloc: Global, arena: &Arena) -> Result<Index, Memory>
 
 /// Of each element that has an id, in tree order, that it holds it.
 fn id_changes(alloc: Global, arena: &Arena) -> Result<List<IndexChange>, Memory>
-    ensures changes { IfOk result (λ changes. changes ≡ id_changes arena.now.tree) }
+    ensures changes { IfOk result (λ changes. changes ≡ flat_map (λ (key : ℕ). option_map_or (λ id. Hold id key ∷ []) (attr_of arena.now.tree key (codes "id")) []) (keys arena.now.tree)) }
 {
     let mut changes = List::new(alloc);
     let mut at = arena.root();
@@ -50,7 +54,7 @@ fn put_id_change(
     changes: &mut List<IndexChange>,
 ) -> Result<(), Memory>
     requires live { IsLive arena.now.tree key }
-    ensures ok { OnOk result (changes.new ≡ changes.old ++ id_change arena.now.tree key) }
+    ensures ok { OnOk result (changes.new ≡ changes.old ++ option_map_or (λ id. Hold id key ∷ []) (attr_of arena.now.tree key (codes "id")) []) }
 {
     let Some(id) = arena.attr(key, "id") else {
         return Ok(());

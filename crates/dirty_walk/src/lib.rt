@@ -5,6 +5,10 @@
 //! element has an entry, which `entry` gives by the element's key; of a key that may be a text's, `find_entry` tells
 //! whether it has one.
 //!
+//! The author's sheet is that of the text, and behind it those of the document's style elements. A book keeps it read:
+//! an edit that leaves these texts as they are reads none, one that changes some reads all of them anew, and the user
+//! agent's sheet is read when the book begins.
+//!
 //! An edit is planned and then committed. `plan` does all that can want memory, `commit` cannot fail; between the two
 //! the book isn't settled, and can't be asked.
 //!
@@ -25,10 +29,12 @@
 pub mod book;
 mod by_key;
 mod characters;
+mod document_styles;
 mod evaluation;
 mod flat_texts;
 mod fresh;
 mod index;
 mod node_texts;
 pub mod plan;
+mod style_elements;
 mod targets;

@@ -17,6 +17,7 @@ use box_eval::element::{close_element, eval_element};
 use box_eval::entry::{Closing, Entry};
 use box_eval::inputs::Inputs;
 use box_eval::starts::{Starts, element_starts};
+use mini_cascade::style_attributes::inline_declarations;
 use mini_cascade::style_of::style_of;
 use plain_types::memory::Memory;
 use plain_types::style::{ElementStyle, Style};
@@ -39,17 +40,34 @@ pub(crate) fn open<L: Ledger, T: Starts>(
     ensures opened { IfOk result (λ opened. opened ≡ opened_in sources.now.table.now (element_style sources.now.arena.now.tree sources.now.agent.now sources.now.author.now) (T.starts sources.now.starts.now) sources.now.arena.now.tree true key (option_copied parent.entry) (handed_by around.now)) }
     ensures steps { steps.new ≤ steps.old + 2 }
 {
-    let style = style_of(
+    let style = styled(alloc, sources, parent, key, steps)?;
+    let made = open_styled(alloc, sources, &style, key, around, steps)?;
+    Ok(with_style(style, made))
+}
+
+/// The style of an element, where its parent has this one.
+fn styled<L: Ledger, T: Starts>(
+    alloc: Global,
+    sources: &Sources<T>,
+    parent: Option<&Style>,
+    key: usize,
+    steps: &mut Steps<L>,
+) -> Result<ElementStyle, Memory>
+    requires { IsLive sources.now.arena.now.tree key }
+    ensures style { IfOk result (λ style. style ≡ element_style sources.now.arena.now.tree sources.now.agent.now sources.now.author.now key (option_copied parent.entry)) }
+    ensures step { steps.new ≤ steps.old + 1 }
+{
+    let inline = inline_declarations(alloc, sources.arena, key)?;
+    style_of(
         alloc,
         sources.arena,
         sources.agent,
         sources.author,
+        inline.as_slice(),
         parent,
         key,
         steps,
-    )?;
-    let made = open_styled(alloc, sources, &style, key, around, steps)?;
-    Ok(with_style(style, made))
+    )
 }
 
 /// An element of this style, as far as its children come, where it generates a box.

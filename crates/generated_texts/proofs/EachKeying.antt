@@ -37,7 +37,7 @@ keys_apart top (key ∷ rest) distinct below (suc one) zero e = absurd (other_ke
 keys_apart top (key ∷ rest) distinct below (suc one) (suc other) e = ap (λ n. suc n) (keys_apart top rest distinct.1 (omega (arith, below)) one other e)
 
 -- how often a key is among others
-abbrev among : ℕ → List ℕ → ℕ
+abbrev pub among : ℕ → List ℕ → ℕ
 among key [] = 0
 among key (first ∷ rest) = cond (first == key) 1 0 + among key rest
 
@@ -81,7 +81,7 @@ tells_all top [] = tt
 tells_all top (key ∷ rest) = (refl, tells_more top key 0 rest rest (tells_all top rest))
 
 module _ {L : Type 0} where
-  times_among : (trees : Forest (Keyed L)) (key : ℕ) → times key trees ≡ among key (keys trees)
+  pub times_among : (trees : Forest (Keyed L)) (key : ℕ) → times key trees ≡ among key (keys trees)
   times_among Empty key = refl
   times_among (Tree node children after) key =
       let below = times_among children key in

@@ -39,7 +39,7 @@ some-kept key (entry ∷ kept) = elim (cases_Bool (entry.0 == key)) [
 ]
 
 -- whether an element among trees has a key
-abbrev has_element : ℕ → Forest (Keyed Node) → Bool
+abbrev pub has_element : ℕ → Forest (Keyed Node) → Bool
 has_element key Empty = false
 has_element key (Tree node children after) =
     has_element key children || ((node.key == key && is_some (node_name node.label)) || has_element key after)
@@ -79,7 +79,7 @@ module _ (key : ℕ) where
       ] none
 
   -- whether the node that stands there is an element
-  abbrev is_named : Option (Spot Node) → Bool
+  abbrev pub is_named : Option (Spot Node) → Bool
   is_named place = is_some (option_and_then node_name (option_map (λ (s : Spot Node). s.label) place))
 
   -- it stands below a node, or behind it
@@ -92,7 +92,7 @@ module _ (key : ℕ) where
       let there = counted s refl in
       rw (no-element after (omega (arith, there, once))) (below_is ∙ sym (or-false (has_element key children)))
 
-  named-element : (trees : Forest (Keyed Node)) (parent : Option ℕ) (earlier : List (Keyed Node)) → times key trees ≤ 1
+  pub named-element : (trees : Forest (Keyed Node)) (parent : Option ℕ) (earlier : List (Keyed Node)) → times key trees ≤ 1
       → is_named (spot parent earlier trees key) ≡ has_element key trees
   named-element Empty parent earlier once = refl
   named-element (Tree node children after) parent earlier once =

@@ -7,3 +7,5 @@ pub mod RekeyedTrees
 pub mod RekeyedTexts
 pub mod EachKeying
 pub mod EntryKeys
+pub mod StyleTexts
+pub mod BoxesOfAll

@@ -1,10 +1,13 @@
 -- The styles of elements, under other keys.
 use Rattle.std.proofs.Common.{◌≡◌, ◌==◌, ◌∷◌, ◌++◌, ℕ, List, [], cond, Option, Some, refl, ap, ◌∙◌}
-use Rattle.std.specs.Prelude.{◌&&◌, false, filter, flat_map, map, option_map, unwrap_or}
+use Rattle.std.specs.Prelude.{◌&&◌, codes, false, filter, flat_map, map, option_map, unwrap_or}
 use Rattle.std.specs.Option.{option_and_then, option_map_or, option_or}
 use Rattle.forest.specs.Forest.{Forest, Empty, Tree}
 use Rattle.forest.specs.Keys.{Keyed, without_keys}
 use Rattle.forest.specs.Spots.{label_of}
+use Rattle.plain_types.specs.Attributes.{value_of}
+use Rattle.plain_types.specs.declared.attr.Attr.{Attr}
+use Rattle.plain_types.specs.declared.declaration.Declared.{Declared}
 use Rattle.plain_types.specs.declared.node.Node.{Node}
 use Rattle.plain_types.specs.declared.node.Node.TheVariants as node
 use Rattle.plain_types.specs.declared.selector.Selector.{Selector}
@@ -14,11 +17,12 @@ use Rattle.plain_types.specs.declared.sheet.Sheet.{Sheet}
 use Rattle.plain_types.specs.declared.sheet.StyleRule.{StyleRule}
 use Rattle.plain_types.specs.declared.style.ElementStyle.{ElementStyle}
 use Rattle.plain_types.specs.declared.style.Style.{Style}
-use Rattle.selector_match.specs.Elements.{Element, Level, Standing, element, level_of, standing_in, standing_of}
+use Rattle.css_reader.specs.Sheets.{inline_declarations}
+use Rattle.selector_match.specs.Elements.{Element, Level, Standing, element_with, level_of, standing_in, standing_of}
 use Rattle.selector_match.specs.Matching.{matches_complex}
 use Rattle.node_arena.specs.Nodes.{node_attrs, node_name}
 use Rattle.selectors.specs.Specificity.{is_less, specificity}
-use Rattle.mini_cascade.specs.Declarations.{Applied, declared_with, hinted, is_same}
+use Rattle.mini_cascade.specs.Declarations.{Applied, attached, declared_with, hinted, is_same}
 use Rattle.mini_cascade.specs.Greatest.{greatest}
 use Rattle.mini_cascade.specs.Hints.{hints}
 use Rattle.mini_cascade.specs.Properties.{initial_values}
@@ -35,7 +39,7 @@ module _ (rekey : ℕ → ℕ) (apart : AreApart rekey) where
   standing_node : (place : ℕ) (label : Node) (children after : Forest (Keyed Node)) → SameIn children → SameIn after → SameIn (Tree (record { key = place; label = label }) children after)
   standing_node place (node.Text characters) children after inner next above earlier key = next above earlier key
   standing_node place (node.Element name attrs) children after inner next above earlier key =
-      let here : Element = element name attrs (without_keys children) in
+      let here : Element = element_with name attrs (without_keys children) in
       let level : Level = level_of earlier here after in
       rw (same_bare rekey children, same_bare rekey after, apart place key)
       (ap (λ o. cond (place == key) (Some (record { level = level; above = above })) (option_or o (standing_in above (here ∷ earlier) (rekeyed rekey after) (rekey key)))) (inner (level ∷ above) [] key)
@@ -55,11 +59,17 @@ module _ (agent author : Sheet) (place : Option Standing) (label : Option Node) 
       unwrap_or (option_map (declared_with pseudo origin rule.declared)
       (greatest is_less (map specificity (filter (λ (selector : Selector). is_same selector.pseudo pseudo && option_map_or (matches_complex selector) place false) rule.selectors)))) []
 
+  abbrev attrs_by : List Attr
+  attrs_by = unwrap_or (option_map node_attrs label) []
+
+  abbrev inline_by : List Declared
+  inline_by = option_map_or inline_declarations (value_of (codes "style") attrs_by) []
+
   abbrev applied_by : PseudoElement → List Applied
   applied_by pseudo =
       flat_map (declared_by pseudo origin.UserAgent) agent.rules
-      ++ (hinted pseudo (hints (unwrap_or (option_and_then node_name label) []) (unwrap_or (option_map node_attrs label) []))
-      ++ flat_map (declared_by pseudo origin.Author) author.rules)
+      ++ (hinted pseudo (hints (unwrap_or (option_and_then node_name label) []) attrs_by)
+      ++ (flat_map (declared_by pseudo origin.Author) author.rules ++ attached pseudo inline_by))
 
   abbrev with_pseudo_by : Style → ElementStyle
   with_pseudo_by own =

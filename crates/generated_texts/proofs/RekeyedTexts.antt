@@ -17,7 +17,7 @@ use Rattle.plain_types.specs.declared.style_ref.StyleRef.{StyleRef}
 use Rattle.dump_definitions.specs.Dump.{Line}
 use Rattle.css_definitions.specs.Representation.{representation}
 use Rattle.counter_sets.specs.Sets.{innermost}
-use Rattle.css_reader.specs.Sheets.{sheet}
+use Rattle.css_reader.specs.Sheets.{sheets}
 use Rattle.node_arena.specs.Nodes.{node_characters}
 use Rattle.content_eval.specs.Contents.{innermost_text, joined_text}
 use Rattle.content_eval.specs.Targets.{Known, counters_at, flat_at, flat_text, full_text, piece_text, target_counter, target_counters, target_id, target_text}
@@ -30,6 +30,7 @@ use Rattle.generated_texts.specs.Entries.{box_text, document_entries, node_entri
 use Rattle.generated_texts.specs.Keyings.{rekeyed, rekeyed_entries, rekeyed_entry, rekeyed_made, rekeyed_node, rekeyed_record, rekeyed_records, rekeyed_set}
 use Rattle.generated_texts.specs.Lines.{first_lines, keyed_lines, last_lines, lines_of, tree_lines}
 use Rattle.generated_texts.specs.References.{asked_box, characters_in, first_holder, has_id, known_characters, known_counters, known_flat, known_targets, kept_at, known_to_flat_texts, target_record}
+use Rattle.generated_texts.specs.StyleElements.{author_sheet, has_sheet, style_text, style_texts}
 use Rattle.generated_texts.specs.declared.entry.BoxText.{BoxText}
 use Rattle.generated_texts.specs.declared.entry.NodeEntry.{NodeEntry}
 use Rattle.generated_texts.proofs.ListLemmas.{and_then_same, find_map, flat_map_map, flat_map_same, map_map, map_or_map, map_or_same, map_same, option_map_map, option_map_past, then_past, then_same}
@@ -141,6 +142,16 @@ module _ (rekey : ℕ → ℕ) where
       let read : Keyed Node → List ℕ = λ node. unwrap_or (node_characters node.label) [] in
       ap (flat_map read) (labels_rekeyed rekey trees) ∙ flat_map_map (rekeyed_node rekey) read read (λ _. refl) (labels trees)
 
+  same_style_texts : (trees : Forest (Keyed Node)) → style_texts (rekeyed rekey trees) ≡ style_texts trees
+  same_style_texts Empty = refl
+  same_style_texts (Tree node children after) =
+      ap (λ text. cond (has_sheet node.label) (text ∷ []) [] ++ (style_texts (rekeyed rekey children) ++ style_texts (rekeyed rekey after))) (same_characters children)
+      ∙ ap (λ texts. style_text node.label children ++ (texts ++ style_texts (rekeyed rekey after))) (same_style_texts children)
+      ∙ ap (λ texts. style_text node.label children ++ (style_texts children ++ texts)) (same_style_texts after)
+
+  pub same_sheet : (sheet_text : List ℕ) (document : Forest (Keyed Node)) → author_sheet sheet_text (rekeyed rekey document) ≡ author_sheet sheet_text document
+  same_sheet sheet_text document = ap (λ texts. sheets (sheet_text ∷ texts)) (same_style_texts document)
+
   asked_rekeyed : (element : ElementRecord) (part : Part) → asked_box (rekeyed_record rekey element) part ≡ option_map (rekeyed_made rekey) (asked_box element part)
   asked_rekeyed element Content = refl
   asked_rekeyed element Before = refl
@@ -249,6 +260,8 @@ module _ (rekey : ℕ → ℕ) where
 
     pub keyed_lines_rekeyed : (sheet_text : List ℕ) (document : Forest (Keyed Node)) → keyed_lines sheet_text (rekeyed rekey document) ≡ keyed_lines sheet_text document
     keyed_lines_rekeyed sheet_text document =
-        let entries = document_entries (sheet sheet_text) document in
-        ap (λ all. tree_lines (rekeyed rekey document) (kept_at all) (rekeyed rekey document)) (document_entries_rekeyed (sheet sheet_text) document)
+        let author = author_sheet sheet_text document in
+        let entries = document_entries author document in
+        ap (λ sheet. tree_lines (rekeyed rekey document) (kept_at (document_entries sheet (rekeyed rekey document))) (rekeyed rekey document)) (same_sheet sheet_text document)
+        ∙ ap (λ all. tree_lines (rekeyed rekey document) (kept_at all) (rekeyed rekey document)) (document_entries_rekeyed author document)
         ∙ trees_rekeyed document (kept_at entries) (kept_at (rekeyed_entries rekey entries)) (kept_rekeyed (rekeyed_entry rekey) entries) document

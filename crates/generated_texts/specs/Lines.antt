@@ -8,11 +8,11 @@ use Rattle.plain_types.specs.declared.box_kind.BoxKind.{BoxKind}
 use Rattle.plain_types.specs.declared.box_kind.BoxKind.TheVariants.{Marker, Before, After}
 use Rattle.plain_types.specs.declared.node.Node.{Node}
 use Rattle.dump_definitions.specs.Dump.{Line, dump}
-use Rattle.css_reader.specs.Sheets.{sheet}
 use Rattle.generated_texts.specs.declared.entry.BoxText.{BoxText}
 use Rattle.generated_texts.specs.declared.entry.NodeEntry.{NodeEntry}
 use Rattle.generated_texts.specs.Entries.{document_entries}
 use Rattle.generated_texts.specs.References.{kept_at}
+use Rattle.generated_texts.specs.StyleElements.{author_sheet}
 
 module _ (document : Forest (Keyed Node)) where
   -- the line of a box of the node of this key, where it has the box
@@ -35,7 +35,7 @@ module _ (document : Forest (Keyed Node)) (entry_of : ℕ → Option NodeEntry) 
 
 -- The lines of a document whose nodes have keys, under the sheet of this text. A text node has no entry.
 abbrev pub keyed_lines : List ℕ → Forest (Keyed Node) → List Line
-keyed_lines sheet_text document = tree_lines document (kept_at (document_entries (sheet sheet_text) document)) document
+keyed_lines sheet_text document = tree_lines document (kept_at (document_entries (author_sheet sheet_text document) document)) document
 
 -- the lines of a document, each of whose nodes has its place in tree order as its key
 unfoldable pub document_lines : List ℕ → Forest Node → List Line

@@ -40,8 +40,8 @@ module _ (document : Forest (Keyed Node)) where
   total_before weight link = total weight (take (nodes_before link) (keys document))
 
   -- the numbers of these
-  abbrev pub counted : (ℕ → Option NodeEntry) → Option ℕ → Census
-  counted entry_of link = record {
+  abbrev pub census_before : (ℕ → Option NodeEntry) → Option ℕ → Census
+  census_before entry_of link = record {
     elements = saturated (total_before (λ key. one_where (is_some (name_of document key))) link);
     boxes = saturated (total_before (λ key. option_map_or boxes_in (entry_of key) 0) link);
     lines = saturated (total_before (λ key. option_map_or lines_in (entry_of key) 0) link);

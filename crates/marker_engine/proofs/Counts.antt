@@ -21,7 +21,7 @@ use Rattle.generated_texts.specs.Lines.{first_lines, last_lines, lines_of, tree_
 use Rattle.node_arena.specs.Nodes.{name_of, node_name}
 use Rattle.marker_engine.specs.declared.census.Census.{Census}
 use Rattle.marker_engine.specs.Census.{boxes_in, element_count, lines_in, one_where, saturated}
-use Rattle.marker_engine.proofs.Counting.{counted, nodes_before, total, total_before, with_node}
+use Rattle.marker_engine.proofs.Counting.{census_before, nodes_before, total, total_before, with_node}
 
 -- Lists of keys.
 
@@ -174,14 +174,14 @@ module _ (f : Forest (Keyed Node)) (d : HasDistinctKeys f) where
   module _ (entry_of : ℕ → Option NodeEntry) where
     -- The turn of the code.
     pub turn : (key : ℕ) (link next : Option ℕ) (before now : Census) (is_element : Bool) (entry : Option NodeEntry) → link ≡ Some key → IsLink f link
-        → before ≡ counted f entry_of link → is_element ≡ is_some (name_of f key) → entry ≡ entry_of key → now ≡ with_node before is_element entry → next ≡ next_in_order_of f key
-        → (now ≡ counted f entry_of next) × (size f - nodes_before f next < size f - nodes_before f link)
+        → before ≡ census_before f entry_of link → is_element ≡ is_some (name_of f key) → entry ≡ entry_of key → now ≡ with_node before is_element entry → next ≡ next_in_order_of f key
+        → (now ≡ census_before f entry_of next) × (size f - nodes_before f next < size f - nodes_before f link)
     turn key link next before now is_element entry at link_is was element kept is follows =
         let live : IsLive f key = rw at at link_is in
         let elements : ℕ → ℕ = λ k. one_where (is_some (name_of f k)) in
         let boxes : ℕ → ℕ = λ k. option_map_or boxes_in (entry_of k) 0 in
         let lines : ℕ → ℕ = λ k. option_map_or lines_in (entry_of k) 0 in
-        let here : before ≡ counted f entry_of (Some key) = rw at at was in
+        let here : before ≡ census_before f entry_of (Some key) = rw at at was in
         let added : (weight : ℕ → ℕ) → saturated (saturated (total_before f weight (Some key)) + weight key) ≡ saturated (total_before f weight next) =
         λ weight. saturated-more (total_before f weight (Some key)) (weight key) ∙ ap saturated (sym (total-turn weight key live) ∙ ap (total_before f weight) (sym follows)) in
         let later = next_place key live in
@@ -209,7 +209,7 @@ module _ (f : Forest (Keyed Node)) (d : HasDistinctKeys f) where
             let after = one_line key kind.After e.after in
             omega (arith, both, marker, before, after)
 
-    line_count : (trees : Forest (Keyed Node)) → length (tree_lines f entry_of trees) ≡ weigh (λ (node : Keyed Node). option_map_or lines_in (entry_of node.key) 0) trees
+    pub line_count : (trees : Forest (Keyed Node)) → length (tree_lines f entry_of trees) ≡ weigh (λ (node : Keyed Node). option_map_or lines_in (entry_of node.key) 0) trees
     line_count Empty = refl
     line_count (Tree node children after) =
         let first = first_lines f entry_of node.key in
@@ -224,12 +224,12 @@ module _ (f : Forest (Keyed Node)) (d : HasDistinctKeys f) where
         let rest = length-append last behind in
         omega (arith, here, below, beside, all, most, rest)
 
-    pub ends : (link : Option ℕ) (census : Census) → link ≡ None → census ≡ counted f entry_of link
+    pub ends : (link : Option ℕ) (census : Census) → link ≡ None → census ≡ census_before f entry_of link
         → (census.elements ≡ saturated (element_count (without_keys f)))
         × ((census.boxes ≡ saturated (weigh (λ (node : Keyed Node). option_map_or boxes_in (entry_of node.key) 0) f))
         × (census.lines ≡ saturated (length (tree_lines f entry_of f))))
     ends link census at is =
-        let all : census ≡ counted f entry_of None = rw at at is in
+        let all : census ≡ census_before f entry_of None = rw at at is in
         let named : Option Node → ℕ = λ o. one_where (is_some (option_and_then node_name o)) in (
           ap (λ (c : Census). c.elements) all
               ∙ ap saturated (total-end (λ key. one_where (is_some (name_of f key))) ∙ sym (weigh-labels named f d) ∙ sym (weigh-without_keys (λ (node : Node). one_where (is_some (node_name node))) f)),

@@ -4,7 +4,7 @@ use Rattle.std.specs.Option.{option_map_or}
 use Rattle.forest.specs.Forest.{Forest, weigh}
 use Rattle.forest.specs.Keys.{Keyed, numbered}
 use Rattle.plain_types.specs.declared.node.Node.{Node}
-use Rattle.css_reader.specs.Sheets.{sheet}
+use Rattle.generated_texts.specs.StyleElements.{author_sheet}
 use Rattle.generated_texts.specs.declared.entry.NodeEntry.{NodeEntry}
 use Rattle.generated_texts.specs.Entries.{document_entries}
 use Rattle.generated_texts.specs.References.{kept_at}
@@ -29,7 +29,7 @@ element_count trees = weigh (λ (node : Node). one_where (is_some (node_name nod
 -- the boxes of a document whose nodes have keys, under the sheet of this text
 abbrev pub keyed_box_count : List ℕ → Forest (Keyed Node) → ℕ
 keyed_box_count sheet_text document =
-    weigh (λ (node : Keyed Node). option_map_or boxes_in (kept_at (document_entries (sheet sheet_text) document) node.key) 0) document
+    weigh (λ (node : Keyed Node). option_map_or boxes_in (kept_at (document_entries (author_sheet sheet_text document) document) node.key) 0) document
 
 -- the boxes of a document, each of whose nodes has its place in tree order as its key
 unfoldable pub box_count : List ℕ → Forest Node → ℕ

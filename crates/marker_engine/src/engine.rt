@@ -6,21 +6,21 @@ ghost use Rattle.forest.specs.Forest.{size};
 ghost use Rattle.generated_texts.specs.Lines.{document_lines, fresh_dump};
 ghost use Rattle.node_arena.specs.Document.{HasElementRoot};
 ghost use Rattle.ports.specs.Grown.{grown, GrowsByFront};
+ghost use Rattle.ports.specs.Puts.{HasPutCause};
 ghost use Rattle.marker_engine.specs.declared.edit_fault.EditFault.TheVariants as faults;
 ghost use Rattle.marker_engine.specs.Census.{box_count, element_count, saturated};
 ghost use Rattle.marker_engine.specs.Edited.{edited, edit_fault};
-ghost use Rattle.marker_engine.specs.Showing.{IsShowCaused};
 
 use crate::census::{Census, census_of};
 use crate::edit_fault::EditFault;
 use crate::lines::put_lines;
-use crate::show_fault::ShowFault;
 use dirty_walk::book::Book;
 use generated_texts::laws::keys_do_not_matter;
 use node_arena::laws::arena_holds_document;
 use plain_types::edit::Edit;
 use plain_types::memory::Memory;
 use plain_types::tree::Tree;
+use ports::put_fault::PutFault;
 use ports::sink::Sink;
 use std::alloc::Global;
 use std::marker::Model;
@@ -120,10 +120,10 @@ impl Engine {
         alloc: Global,
         out: &mut O,
         steps: &mut Steps<L>,
-    ) -> Result<(), ShowFault>
+    ) -> Result<(), PutFault>
         ensures ok { OnOk result (O.out out.new ≡ grown (O.out out.old) (fresh_dump self.now.sheet self.now.tree)) }
         ensures failed { OnErr result (GrowsByFront (O.out out.old) (O.out out.new) (fresh_dump self.now.sheet self.now.tree)) }
-        ensures cause { IsShowCaused (O.faults out.old) (O.faults out.new) result }
+        ensures cause { HasPutCause (O.faults out.old) (O.faults out.new) result }
         ensures steps { steps.new ≡ steps.old }
     {
         // The book has keys of its own, and the lines are those of any keys.

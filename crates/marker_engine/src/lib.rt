@@ -19,4 +19,3 @@ pub mod census;
 pub mod edit_fault;
 pub mod engine;
 mod lines;
-pub mod show_fault;

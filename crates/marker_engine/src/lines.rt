@@ -8,14 +8,14 @@ ghost use Rattle.forest.specs.Spots.{IsLive};
 ghost use Rattle.generated_texts.specs.Lines.{first_lines, last_lines, lines_of, tree_lines};
 ghost use Rattle.plain_types.specs.declared.box_kind.BoxKind.TheVariants as kinds;
 ghost use Rattle.ports.specs.Grown.{grown, GrowsByFront};
-ghost use Rattle.marker_engine.specs.Showing.{IsShowCaused};
+ghost use Rattle.ports.specs.Puts.{HasPutCause};
 
-use crate::show_fault::ShowFault;
 use dirty_walk::book::Book;
 use dump_text::put_line::put_line;
 use generated_texts::entry::{BoxText, NodeEntry};
 use node_arena::arena::Arena;
 use plain_types::box_kind::BoxKind;
+use ports::put_fault::PutFault;
 use ports::sink::Sink;
 use std::alloc::Global;
 
@@ -27,12 +27,12 @@ fn put_box<O: Sink>(
     kind: BoxKind,
     text: &Option<BoxText>,
     out: &mut O,
-) -> Result<(), ShowFault>
+) -> Result<(), PutFault>
     requires live { IsLive arena.now.tree key }
     requires pseudo { kind ≢ kinds.Element }
     ensures ok { OnOk result (O.out out.new ≡ grown (O.out out.old) (dump (lines_of arena.now.tree key kind text.now))) }
     ensures failed { OnErr result (GrowsByFront (O.out out.old) (O.out out.new) (dump (lines_of arena.now.tree key kind text.now))) }
-    ensures cause { IsShowCaused (O.faults out.old) (O.faults out.new) result }
+    ensures cause { HasPutCause (O.faults out.old) (O.faults out.new) result }
 {
     if let Some(text) = text {
         let path = arena.path_of(alloc, key)?;
@@ -42,12 +42,12 @@ fn put_box<O: Sink>(
 }
 
 /// Puts the lines of an element's marker and before box.
-fn put_first<O: Sink>(alloc: Global, book: &Book, key: usize, out: &mut O) -> Result<(), ShowFault>
+fn put_first<O: Sink>(alloc: Global, book: &Book, key: usize, out: &mut O) -> Result<(), PutFault>
     requires settled { book.now.settled ≡ true }
     requires live { IsLive book.now.tree key }
     ensures ok { OnOk result (O.out out.new ≡ grown (O.out out.old) (dump (first_lines book.now.tree (fresh_entry book.now) key))) }
     ensures failed { OnErr result (GrowsByFront (O.out out.old) (O.out out.new) (dump (first_lines book.now.tree (fresh_entry book.now) key))) }
-    ensures cause { IsShowCaused (O.faults out.old) (O.faults out.new) result }
+    ensures cause { HasPutCause (O.faults out.old) (O.faults out.new) result }
 {
     if let Some(entry) = book.find_entry(key) {
         put_box(
@@ -71,12 +71,12 @@ fn put_first<O: Sink>(alloc: Global, book: &Book, key: usize, out: &mut O) -> Re
 }
 
 /// Puts the line of an element's after box.
-fn put_last<O: Sink>(alloc: Global, book: &Book, key: usize, out: &mut O) -> Result<(), ShowFault>
+fn put_last<O: Sink>(alloc: Global, book: &Book, key: usize, out: &mut O) -> Result<(), PutFault>
     requires settled { book.now.settled ≡ true }
     requires live { IsLive book.now.tree key }
     ensures ok { OnOk result (O.out out.new ≡ grown (O.out out.old) (dump (last_lines book.now.tree (fresh_entry book.now) key))) }
     ensures failed { OnErr result (GrowsByFront (O.out out.old) (O.out out.new) (dump (last_lines book.now.tree (fresh_entry book.now) key))) }
-    ensures cause { IsShowCaused (O.faults out.old) (O.faults out.new) result }
+    ensures cause { HasPutCause (O.faults out.old) (O.faults out.new) result }
 {
     if let Some(entry) = book.find_entry(key) {
         put_box(alloc, book.arena(), key, BoxKind::After, &entry.after, out)?;
@@ -86,11 +86,11 @@ fn put_last<O: Sink>(alloc: Global, book: &Book, key: usize, out: &mut O) -> Res
 
 /// Puts the lines of a document, in time linear in its nodes and the bytes of the lines. It takes memory for the
 /// path of a node and for the nodes that it is in.
-pub(crate) fn put_lines<O: Sink>(alloc: Global, book: &Book, out: &mut O) -> Result<(), ShowFault>
+pub(crate) fn put_lines<O: Sink>(alloc: Global, book: &Book, out: &mut O) -> Result<(), PutFault>
     requires settled { book.now.settled ≡ true }
     ensures ok { OnOk result (O.out out.new ≡ grown (O.out out.old) (dump (tree_lines book.now.tree (fresh_entry book.now) book.now.tree))) }
     ensures failed { OnErr result (GrowsByFront (O.out out.old) (O.out out.new) (dump (tree_lines book.now.tree (fresh_entry book.now) book.now.tree))) }
-    ensures cause { IsShowCaused (O.faults out.old) (O.faults out.new) result }
+    ensures cause { HasPutCause (O.faults out.old) (O.faults out.new) result }
 {
     let arena = book.arena();
     let mut inside = Vec::new(alloc);

@@ -3,13 +3,14 @@
 ghost use Rattle.std.specs.Prelude.{◌≡◌, ◌++◌, IfOk, OnOk, Some, flat_map};
 ghost use Rattle.forest.specs.Spots.{IsLive};
 ghost use Rattle.plain_types.specs.declared.selector_parts.PseudoElement.TheVariants as pseudo;
-ghost use Rattle.mini_cascade.specs.Declarations.{is_same, counts_for, declared_with, hinted, selects, specificity_in, declared_in, applied};
+ghost use Rattle.mini_cascade.specs.Declarations.{is_same, counts_for, declared_with, hinted, attached, selects, specificity_in, declared_in, applied};
 ghost use Rattle.mini_cascade.specs.Greatest.{greater};
 ghost use Rattle.mini_cascade.specs.Hints.{hints_of};
+ghost use Rattle.mini_cascade.specs.StyleAttributes.{inline_of};
 ghost use Rattle.selectors.specs.Specificity.{is_less};
 
 use crate::candidate::Candidates;
-use crate::rank::{Level, Origin, Rank, cascade_level};
+use crate::rank::{Attachment, Level, Origin, Rank, cascade_level};
 use node_arena::arena::Arena;
 use plain_types::declaration::{Declaration, Declared};
 use plain_types::memory::Memory;
@@ -96,7 +97,8 @@ fn add_declared<'a>(
     for declared in block {
         if counts_for(pseudo, &declared.what) {
             let level = cascade_level(origin, declared.important);
-            list.push(Rank { level, specificity }, &declared.what)?;
+            let attachment = Attachment::Rule(specificity);
+            list.push(Rank { level, attachment }, &declared.what)?;
         }
     }
     Ok(())
@@ -130,14 +132,28 @@ fn add_rule<'a>(
 fn add_hints<'a>(list: &mut Candidates<'a>, hints: &'a [Declaration]) -> Result<(), Memory>
     ensures ok { OnOk result (list.new ≡ list.old ++ hinted pseudo.Own hints.now) }
 {
-    let specificity = Specificity {
-        ids: 0,
-        classes: 0,
-        types: 0,
+    let rank = Rank {
+        level: Level::Author,
+        attachment: Attachment::Rule(Specificity {
+            ids: 0,
+            classes: 0,
+            types: 0,
+        }),
     };
-    let level = Level::Author;
     for hint in hints {
-        list.push(Rank { level, specificity }, hint)?;
+        list.push(rank, hint)?;
+    }
+    Ok(())
+}
+
+/// Appends the declarations of a `style` attribute.
+fn add_attached<'a>(list: &mut Candidates<'a>, inline: &'a [Declared]) -> Result<(), Memory>
+    ensures ok { OnOk result (list.new ≡ list.old ++ attached pseudo.Own inline.now) }
+{
+    let attachment = Attachment::Direct;
+    for declared in inline {
+        let level = cascade_level(Origin::Author, declared.important);
+        list.push(Rank { level, attachment }, &declared.what)?;
     }
     Ok(())
 }
@@ -186,7 +202,7 @@ fn add_rules<'a>(
     Ok(())
 }
 
-/// The declarations that apply, where these are the element's hints.
+/// The declarations that apply, where these are the element's hints and those of its `style` attribute.
 pub(crate) fn collect<'a>(
     alloc: Global,
     arena: &Arena,
@@ -194,9 +210,11 @@ pub(crate) fn collect<'a>(
     agent: &'a Sheet,
     hints: &'a [Declaration],
     author: &'a Sheet,
+    inline: &'a [Declared],
 ) -> Result<Applicable<'a>, Memory>
     requires live { IsLive arena.now.tree key }
     requires hints { hints.now ≡ hints_of arena.now.tree key }
+    requires inline { inline.now ≡ inline_of arena.now.tree key }
     ensures own { IfOk result (λ lists. lists.own ≡ applied arena.now.tree key pseudo.Own agent.now author.now) }
     ensures marker { IfOk result (λ lists. lists.marker ≡ applied arena.now.tree key pseudo.Marker agent.now author.now) }
     ensures before { IfOk result (λ lists. lists.before ≡ applied arena.now.tree key pseudo.Before agent.now author.now) }
@@ -223,5 +241,6 @@ pub(crate) fn collect<'a>(
         Origin::Author,
         author.rules.as_slice(),
     )?;
+    add_attached(&mut lists.own, inline)?;
     Ok(lists)
 }

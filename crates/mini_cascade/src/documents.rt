@@ -1,5 +1,10 @@
 //! The documents of tests: an `ol` with one element in it.
 
+ghost use Rattle.std.specs.Prelude.{◌≢◌, IfOk, IsTrue, OnOk};
+ghost use Rattle.std.specs.List.{All};
+ghost use Rattle.plain_types.specs.declared.attr.Attr.{Attr};
+ghost use Rattle.plain_types.specs.Tree.{HasDistinctNames};
+
 use node_arena::arena::{Arena, has_element_root};
 use plain_types::attr::Attr;
 use plain_types::list::List;
@@ -9,18 +14,45 @@ use plain_types::tree::Tree;
 use plain_types::tree_builder::TreeBuilder;
 use std::alloc::Global;
 
-/// The tree of an `ol` with one element in it, which has this attribute.
-fn tree_of(alloc: Global, name: &str, attr: (&str, &str)) -> Result<Option<Tree>, Memory> {
+/// The name and the value of an attribute.
+pub type Attribute = (&'static str, &'static str);
+
+/// Whether no attribute has this name.
+fn is_new(attrs: &[Attr], name: &Text) -> bool
+    ensures { IsTrue result → All (λ (held : Attr). held.name ≢ name.now) attrs.now }
+{
+    attrs.iter().all(|held| held.name.as_str() != name.as_str())
+}
+
+/// These attributes, without those whose names are there already.
+fn attrs_of(alloc: Global, attributes: &[Attribute]) -> Result<List<Attr>, Memory>
+    ensures { IfOk result HasDistinctNames }
+{
     let mut attrs = List::new(alloc);
-    attrs.push(Attr {
-        name: Text::from_str(alloc, attr.0)?,
-        value: Text::from_str(alloc, attr.1)?,
-    })?;
+    for (name, value) in attributes {
+        let name = Text::from_str(alloc, name)?;
+        let value = Text::from_str(alloc, value)?;
+        if is_new(attrs.as_slice(), &name) {
+            attrs.push(Attr { name, value })?;
+        }
+    }
+    Ok(attrs)
+}
+
+/// The tree of an `ol` with one element in it, with these attributes.
+fn tree_of(
+    alloc: Global,
+    list: &[Attribute],
+    name: &str,
+    attributes: &[Attribute],
+) -> Result<Option<Tree>, Memory> {
+    let list = attrs_of(alloc, list)?;
+    let attrs = attrs_of(alloc, attributes)?;
     let mut builder = TreeBuilder::new(alloc);
     if !builder.accepts_node() {
         return Ok(None);
     }
-    builder.start(Text::from_str(alloc, "ol")?, List::new(alloc))?;
+    builder.start(Text::from_str(alloc, "ol")?, list)?;
     if !builder.accepts_node() {
         return Ok(None);
     }
@@ -38,8 +70,13 @@ fn tree_of(alloc: Global, name: &str, attr: (&str, &str)) -> Result<Option<Tree>
 }
 
 /// That document, in an arena.
-pub fn arena_of(alloc: Global, name: &str, attr: (&str, &str)) -> Result<Option<Arena>, Memory> {
-    let Some(tree) = tree_of(alloc, name, attr)? else {
+pub fn arena_of(
+    alloc: Global,
+    list: &[Attribute],
+    name: &str,
+    attributes: &[Attribute],
+) -> Result<Option<Arena>, Memory> {
+    let Some(tree) = tree_of(alloc, list, name, attributes)? else {
         return Ok(None);
     };
     if has_element_root(&tree) {

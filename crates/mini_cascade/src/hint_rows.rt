@@ -147,7 +147,7 @@ static REVERSED_STARTS: [(Option<Count>, &str); 5] = [
 /// The place of the first row whose hints are others; none where each is as it says.
 fn first_wrong(alloc: Global, table: &[Hint]) -> Result<Option<usize>, Memory> {
     for (place, (name, attr, value, expected)) in table.iter().enumerate() {
-        let Some(arena) = arena_of(alloc, name, (attr, value))? else {
+        let Some(arena) = arena_of(alloc, &[], name, &[(*attr, *value)])? else {
             return Ok(Some(place));
         };
         let Some(item) = arena.child(arena.root(), 0) else {

@@ -1,9 +1,10 @@
 //! The cascade: which style an element and its pseudo-elements have (CSS Cascade 5, 4 to 7).
 //!
 //! The floor above selectors and their matching: [`style_of::style_of`] takes a document, the sheets of the user
-//! agent and of the author, an element and the own style of its parent, and gives the styles of the element
-//! and of its `::marker`, `::before` and `::after`. [`agent_sheet::AGENT_SHEET`] is the text of the sheet that
-//! the user agent has, and [`hints::hints`] says what the attributes of HTML's lists mean as declarations.
+//! agent and of the author, an element, what its `style` attribute declares and the own style of its parent, and
+//! gives the styles of the element and of its `::marker`, `::before` and `::after`. [`agent_sheet::AGENT_SHEET`]
+//! is the text of the sheet that the user agent has, [`hints::hints`] says what the attributes of HTML's lists
+//! mean as declarations, and [`style_attributes::inline_declarations`] reads a `style` attribute.
 //!
 //! On the way there, the declarations that apply are put into lists, one for the element and one for each
 //! pseudo-element, in the order in which they appear (`applicable`); of those of a property the greatest
@@ -11,18 +12,22 @@
 //! `property`). Nothing here recurses.
 //!
 //! The layer above knows it by the words `element_style tree agent author key parent` (`specs/Styles.antt`:
-//! cascaded and specified values, over the declarations that apply, `specs/Declarations.antt`) and `hints_of
-//! tree key` (`specs/Hints.antt`).
+//! cascaded and specified values, over the declarations that apply, `specs/Declarations.antt`), `hints_of tree
+//! key` (`specs/Hints.antt`) and `inline_of tree key` (`specs/StyleAttributes.antt`).
 //!
 //! ```text
-//! let style = style_of(alloc, &arena, &agent, &author, None, arena.root(), &mut steps)?;    // <ol start="3"/>
+//! let root = arena.root();    // <ol start="3" style="list-style: none"/>
+//! let inline = inline_declarations(alloc, &arena, root)?;
+//! let style = style_of(alloc, &arena, &agent, &author, inline.as_slice(), None, root, &mut steps)?;
 //! style.own.resets       // `list-item 2`
-//! style.own.list_type    // `decimal`
+//! style.own.list_type    // `none`
 //! ```
 #![tactic(auto)]
 
 pub mod agent_sheet;
 mod applicable;
+#[cfg(test)]
+mod attribute_rows;
 mod candidate;
 mod defaulting;
 #[cfg(test)]
@@ -34,7 +39,10 @@ mod property;
 mod rank;
 #[cfg(test)]
 mod shown;
+pub mod style_attributes;
 pub mod style_of;
 #[cfg(test)]
 mod style_rows;
+#[cfg(test)]
+mod styling;
 mod texts;

@@ -2,12 +2,14 @@
 
 ghost use Rattle.std.specs.Prelude.{◌≡◌, ◌+◌, IfOk, option_copied};
 ghost use Rattle.forest.specs.Spots.{IsLive};
+ghost use Rattle.mini_cascade.specs.StyleAttributes.{inline_of};
 ghost use Rattle.mini_cascade.specs.Styles.{element_style, styles_under};
 
 use crate::applicable::{Applicable, collect};
 use crate::defaulting::{initial_values, style_under};
 use crate::hints::hints;
 use node_arena::arena::Arena;
+use plain_types::declaration::Declared;
 use plain_types::memory::Memory;
 use plain_types::sheet::Sheet;
 use plain_types::style::{ElementStyle, Style};
@@ -37,9 +39,11 @@ fn styles_under<'a>(
     })
 }
 
-/// The styles of an element and of its pseudo-elements, by the rules of the user agent and of the author
-/// and by the element's hints. `parent` is the own style of the element's parent, and `None` for the
-/// root, which inherits initial values. One step is counted, also where the answer is `Memory`.
+/// The styles of an element and of its pseudo-elements, by the rules of the user agent and of the author, by
+/// the element's hints and by its `style` attribute. `inline` are the declarations of this attribute, as
+/// [`inline_declarations`](crate::style_attributes::inline_declarations) reads them. `parent` is the own style
+/// of the element's parent, and `None` for the root, which inherits initial values. One step is counted, also
+/// where the answer is `Memory`.
 ///
 /// Each selector is matched once; declarations of rules that do not match are not looked at.
 pub fn style_of<L: Ledger>(
@@ -47,16 +51,18 @@ pub fn style_of<L: Ledger>(
     arena: &Arena,
     agent: &Sheet,
     author: &Sheet,
+    inline: &[Declared],
     parent: Option<&Style>,
     key: usize,
     steps: &mut Steps<L>,
 ) -> Result<ElementStyle, Memory>
-    requires { IsLive arena.now.tree key }
+    requires live { IsLive arena.now.tree key }
+    requires inline { inline.now ≡ inline_of arena.now.tree key }
     ensures style { IfOk result (λ style. style ≡ element_style arena.now.tree agent.now author.now key (option_copied parent.entry)) }
     ensures step { steps.new ≡ steps.old + 1 }
 {
     steps.tick();
     let hints = hints(alloc, arena, key)?;
-    let lists = collect(alloc, arena, key, agent, hints.as_slice(), author)?;
+    let lists = collect(alloc, arena, key, agent, hints.as_slice(), author, inline)?;
     styles_under(alloc, &lists, parent)
 }

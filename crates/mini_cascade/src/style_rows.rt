@@ -1,39 +1,9 @@
 //! Styles of a list item in a numbered list, worked out by hand from the rules of the cascade.
 
-ghost use Rattle.std.specs.Prelude.{◌≡◌, ◌<◌};
-
-use crate::documents::arena_of;
-use crate::rank::Origin;
-use crate::shown::shown_styles;
-use crate::style_of::style_of;
-use css_tokens::lexer::tokens;
-use css_tokens::sheet_text::prepare_text;
-use css_values::declarations::read_declaration;
-use node_arena::arena::Arena;
-use plain_types::declaration::Declared;
-use plain_types::list::List;
+use crate::documents::Attribute;
+use crate::styling::{Rule, Whose, is_styled};
 use plain_types::memory::Memory;
-use plain_types::sheet::{Sheet, StyleRule};
-use plain_types::style::ElementStyle;
-use plain_types::text::Text;
-use selectors::selector_list::read_selectors;
-use std::alloc::Global;
-use std::marker::Brand;
-use std::sync::ledger::{Blank, Ledger};
 use std::test::Fail;
-use steps::Steps;
-
-/// Whose rule it is.
-#[derive(Clone, Copy)]
-enum Whose {
-    Agent,
-    AgentImportant,
-    Author,
-    AuthorImportant,
-}
-
-/// A rule: whose it is, its selectors, and the name and value of its declaration.
-type Rule = (Whose, &'static str, &'static str, &'static str);
 
 /// Rules, and in what the styles of the `li` in `<ol><li id="b"/></ol>` differ from initial values.
 type Row = (&'static [Rule], &'static str);
@@ -161,7 +131,7 @@ static ORIGINS: [Row; 5] = [
 
 /// The same for an `li` with another attribute, whose hint stands above the user agent's rules and below each
 /// of the author's.
-static HINTED: [((&str, &str), &[Rule], &str); 4] = [
+static HINTED: [(Attribute, &[Rule], &str); 4] = [
     (
         ("type", "square"),
         &[(Whose::Agent, "li", "list-style-type", "disc")],
@@ -292,107 +262,10 @@ static PSEUDO_ELEMENTS: [Row; 3] = [
     (&[(Whose::Author, "li::first-line", "display", "none")], ""),
 ];
 
-fn rule_of(alloc: Global, rule: &Rule) -> Result<Option<StyleRule>, Memory> {
-    let text = prepare_text(alloc, rule.1)?;
-    let pieces = tokens(alloc, text.as_str())?;
-    let Some(selectors) = read_selectors(alloc, text.as_str(), pieces.as_slice())? else {
-        return Ok(None);
-    };
-    let value = prepare_text(alloc, rule.3)?;
-    let pieces = tokens(alloc, value.as_str())?;
-    let Some(what) = read_declaration(alloc, rule.2, pieces.as_slice())? else {
-        return Ok(None);
-    };
-    let important = matches!(rule.0, Whose::AgentImportant | Whose::AuthorImportant);
-    let mut declared = List::new(alloc);
-    declared.push(Declared { what, important })?;
-    Ok(Some(StyleRule {
-        selectors,
-        declared,
-    }))
-}
-
-fn origin(whose: Whose) -> Origin {
-    match whose {
-        Whose::Agent | Whose::AgentImportant => Origin::UserAgent,
-        Whose::Author | Whose::AuthorImportant => Origin::Author,
-    }
-}
-
-/// The sheet of the rules of this origin.
-fn sheet_of(alloc: Global, rules: &[Rule], of: Origin) -> Result<Sheet, Memory> {
-    let mut sheet = Sheet {
-        rules: List::new(alloc),
-        styles: List::new(alloc),
-    };
-    for rule in rules {
-        if origin(rule.0) == of {
-            if let Some(rule) = rule_of(alloc, rule)? {
-                sheet.rules.push(rule)?;
-            }
-        }
-    }
-    Ok(sheet)
-}
-
-/// The styles of the element in the root, from those of the root.
-fn styles_between<L: Ledger>(
-    alloc: Global,
-    arena: &Arena,
-    agent: &Sheet,
-    author: &Sheet,
-    steps: &mut Steps<L>,
-) -> Result<Option<ElementStyle>, Memory> {
-    let root = arena.root();
-    let above = style_of(alloc, arena, agent, author, None, root, steps)?;
-    let Some(child) = arena.child(root, 0) else {
-        return Ok(None);
-    };
-    let parent = Some(&above.own);
-    Ok(Some(style_of(alloc, arena, agent, author, parent, child, steps)?))
-}
-
-/// The styles of the element in the root, under the rules of both sheets, as they are shown.
-fn styles_of_child<L: Ledger>(
-    rt: &HostRuntime,
-    blank: Blank,
-    arena: &Arena,
-    rules: &[Rule],
-) -> Result<Option<Text>, Memory>
-    requires name { blank.name ≡ L.name }
-    requires parts { blank.parts ≡ L.parts }
-    requires some { 0 < L.parts }
-{
-    let alloc = rt.alloc();
-    let mut steps = Steps::<L>::open(rt, blank);
-    let agent = sheet_of(alloc, rules, Origin::UserAgent)?;
-    let author = sheet_of(alloc, rules, Origin::Author)?;
-    match styles_between(alloc, arena, &agent, &author, &mut steps)? {
-        Some(styles) => Ok(Some(shown_styles(alloc, &styles)?)),
-        None => Ok(None),
-    }
-}
-
-/// Whether the `li` with this attribute has these styles under the rules.
-fn is_styled(
-    rt: &HostRuntime,
-    attr: (&str, &str),
-    rules: &[Rule],
-    expected: &str,
-) -> Result<bool, Memory> {
-    let Some(arena) = arena_of(rt.alloc(), "li", attr)? else {
-        return Ok(false);
-    };
-    match styles_of_child::<Brand>(rt, Blank::new(1), &arena, rules)? {
-        Some(shown) => Ok(shown.as_str() == expected),
-        None => Ok(false),
-    }
-}
-
 /// The place of the first row whose styles are others; none where each is as it says.
 fn first_wrong(rt: &HostRuntime, table: &[Row]) -> Result<Option<usize>, Memory> {
     for (place, (rules, expected)) in table.iter().enumerate() {
-        if !is_styled(rt, ("id", "b"), rules, expected)? {
+        if !is_styled(rt, &[], &[("id", "b")], rules, expected)? {
             return Ok(Some(place));
         }
     }
@@ -417,7 +290,10 @@ fn others_are_inherited_or_initial(rt: HostRuntime) -> Result<(), Fail> {
 #[test]
 fn hints_stand_between_the_sheets(rt: HostRuntime) -> Result<(), Fail> {
     for (place, (attr, rules, expected)) in HINTED.iter().enumerate() {
-        assert!(rt; is_styled(&rt, *attr, rules, expected)?, "row {place}");
+        assert!(rt;
+            is_styled(&rt, &[], &[*attr], rules, expected)?,
+            "row {place}"
+        );
     }
     Ok(())
 }

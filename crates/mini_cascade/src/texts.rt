@@ -8,10 +8,10 @@ ghost use Rattle.plain_types.specs.Attributes.{value_of};
 ghost use Rattle.node_arena.specs.Nodes.{attrs_of};
 ghost use Rattle.mini_cascade.specs.Hints.{past_whitespace, integer_in, integer_attr};
 
-use css_tokens::characters::first_char;
 use css_tokens::numbers::integer;
 use node_arena::arena::Arena;
 use plain_types::count::Count;
+use reading::characters::first_char;
 
 /// Whether the text is this word of ASCII characters, as it is written.
 pub(crate) fn is_exactly(text: &str, word: &str) -> bool

@@ -2,7 +2,7 @@ use Rattle.std.proofs.Common.{◌≡◌, ◌-◌, flat_map, length, take}
 use Rattle.forest.specs.Keys.{keys}
 use Rattle.forest.specs.Order.{place_of}
 use Rattle.forest.specs.Spots.{IsLive}
-use Rattle.dirty_walk.specs.Holding.{id_change}
+use Rattle.dirty_walk.proofs.IdLemmas.{id_change}
 use Rattle.dirty_walk.proofs.index.id_changes.Given as goal
 
 abbrev pub invariant-walk : goal.invariant-walk

@@ -1,8 +1,7 @@
 use Rattle.std.proofs.Common.{◌≡◌, Bool, true, false, List, ◌++◌, sym, ◌∙◌}
 use Rattle.std.proofs.lemmas.List.{append-nil}
 use Rattle.plain_types.specs.declared.declaration.Declared.{Declared}
-use Rattle.mini_cascade.specs.Declarations.{Applied, counts_for, declared_with, ranked}
-use Rattle.mini_cascade.specs.Ranks.{cascade_level}
+use Rattle.mini_cascade.specs.Declarations.{Applied, counts_for, declared_with, ranked, rule_rank}
 use Rattle.mini_cascade.proofs.Appending.{appended, passing, map-filter}
 use Rattle.mini_cascade.proofs.applicable.add_declared.Goals as goal
 use Rattle.mini_cascade.proofs.applicable.add_declared.Goals.{then-counts_for+in_ok-push, else-counts_for}
@@ -10,7 +9,7 @@ use Rattle.mini_cascade.proofs.applicable.add_declared.Goals.{then-counts_for+in
 pub loop-declared-preserved : goal.loop-declared-preserved
 loop-declared-preserved c =
     let test : Declared → Bool = λ d. counts_for c.args.pseudo d.what in
-    let make : Declared → Applied = λ d. ranked (record { level = cascade_level c.args.origin d.important; specificity = c.args.specificity }) d.what in
+    let make : Declared → Applied = λ d. ranked (rule_rank c.args.origin d.important c.args.specificity) d.what in
     let item = c.declared-item.result in
     let met = λ (next : List Applied) (is : next ≡ c.loop-declared.list ++ passing test make item).
     appended (passing test make) (λ block. declared_with c.args.pseudo c.args.origin block c.args.specificity) (map-filter test make)

@@ -1,8 +1,12 @@
-use Rattle.std.proofs.Common.{◌≡◌, ◌∙◌, Option, Some, None, IfSome, ap, sym, subst, unwrap_or}
+use Rattle.std.proofs.Common.{◌≡◌, ◌∙◌, Option, Some, None, IfSome, ap, sym, subst}
+use Rattle.forest.specs.Forest.{Forest}
+use Rattle.forest.specs.Keys.{Keyed}
+use Rattle.plain_types.specs.declared.node.Node.{Node}
 use Rattle.node_arena.specs.declared.reversal.Reversal.{Reversal}
 use Rattle.node_arena.specs.Reversals.{IsCommitted, IsReversal}
 use Rattle.node_arena.proofs.KeyLaws.{settled}
 use Rattle.dirty_walk.specs.Books.{StyledDocument, UsesItsKeys}
+use Rattle.dirty_walk.specs.DocumentStyles.{document_styles}
 use Rattle.dirty_walk.specs.Plans.{settled_after, IsPlannedBy}
 use Rattle.dirty_walk.proofs.PlanLemmas.{kept_where, is_settled_on}
 use Rattle.dirty_walk.proofs.book.Book.commit.Goals as goal
@@ -10,10 +14,12 @@ use Rattle.dirty_walk.proofs.book.Book.commit.Goals as goal
 pub invariant_of-self : goal.invariant_of-self
 unfolding IsPlannedBy settled_after
 invariant_of-self g c = record {
+  agent_is = c.self.invariant.agent_is;
+  styles_are = c.self.invariant.styles_are ∙ ap (λ (tree : Forest (Keyed Node)). document_styles c.self.inside.styles.sheet tree) (sym c.settle.ensures.tree);
   kept = λ _.
-      kept_where c.args.self.now.tree c.settle.new.self.tree (unwrap_or c.args.plan.sheet c.args.self.now.sheet) c.replace_sheet.new.sheet c.args.plan.entries
+      kept_where c.args.self.now.tree c.settle.new.self.tree c.args.self.now.sheet c.self.inside.styles.sheet c.args.plan.entries
       (c.settle.ensures.tree ∙ ap (λ (styled : StyledDocument). styled.tree) c.self.view_is)
-      (c.replace_sheet.ensures ∙ ap (λ (styled : StyledDocument). unwrap_or c.args.plan.sheet styled.sheet) c.self.view_is)
+      (ap (λ (styled : StyledDocument). styled.sheet) c.self.view_is)
       c.requires.planned.1;
   back = subst (λ (planned : Option Reversal). IfSome planned (λ reversal. IsReversal c.settle.new.self reversal)) (sym c.take.ensures.after) tt;
   keys =
@@ -26,10 +32,12 @@ invariant_of-self g c = record {
 pub invariant_of-self-in_default : goal.invariant_of-self-in_default
 unfolding IsPlannedBy settled_after
 invariant_of-self-in_default g c = record {
+  agent_is = c.self.invariant.agent_is;
+  styles_are = c.self.invariant.styles_are;
   kept = λ _.
-      kept_where c.args.self.now.tree c.self.inside.arena.tree (unwrap_or c.args.plan.sheet c.args.self.now.sheet) c.replace_sheet.new.sheet c.args.plan.entries
+      kept_where c.args.self.now.tree c.self.inside.arena.tree c.args.self.now.sheet c.self.inside.styles.sheet c.args.plan.entries
       (ap (λ (styled : StyledDocument). styled.tree) c.self.view_is)
-      (c.replace_sheet.ensures ∙ ap (λ (styled : StyledDocument). unwrap_or c.args.plan.sheet styled.sheet) c.self.view_is)
+      (ap (λ (styled : StyledDocument). styled.sheet) c.self.view_is)
       c.requires.planned.1;
   back = subst (λ (planned : Option Reversal). IfSome planned (λ reversal. IsReversal c.self.inside.arena reversal)) (sym c.take.ensures.after) tt;
   keys =
@@ -40,15 +48,15 @@ invariant_of-self-in_default g c = record {
 pub returns-in-Some-clause-settled : goal.returns-in-Some-clause-settled
 unfolding settled_after
 returns-in-Some-clause-settled g c =
-    is_settled_on c.args.self.now.tree c.settle.new.self.tree (unwrap_or c.args.plan.sheet c.args.self.now.sheet) c.replace_sheet.new.sheet c.take.new.self
+    is_settled_on c.args.self.now.tree c.settle.new.self.tree c.args.self.now.sheet c.self.inside.styles.sheet c.take.new.self
     (c.settle.ensures.tree ∙ ap (λ (styled : StyledDocument). styled.tree) c.self.view_is)
-    (c.replace_sheet.ensures ∙ ap (λ (styled : StyledDocument). unwrap_or c.args.plan.sheet styled.sheet) c.self.view_is)
+    (ap (λ (styled : StyledDocument). styled.sheet) c.self.view_is)
     c.take.ensures.after
 
 pub returns-in_default-clause-settled : goal.returns-in_default-clause-settled
 unfolding settled_after
 returns-in_default-clause-settled g c =
-    is_settled_on c.args.self.now.tree c.self.inside.arena.tree (unwrap_or c.args.plan.sheet c.args.self.now.sheet) c.replace_sheet.new.sheet c.take.new.self
+    is_settled_on c.args.self.now.tree c.self.inside.arena.tree c.args.self.now.sheet c.self.inside.styles.sheet c.take.new.self
     (ap (λ (styled : StyledDocument). styled.tree) c.self.view_is)
-    (c.replace_sheet.ensures ∙ ap (λ (styled : StyledDocument). unwrap_or c.args.plan.sheet styled.sheet) c.self.view_is)
+    (ap (λ (styled : StyledDocument). styled.sheet) c.self.view_is)
     c.take.ensures.after

@@ -3,7 +3,7 @@ use Rattle.std.specs.Prelude.{is_some}
 use Rattle.forest.specs.Forest.{Forest}
 use Rattle.forest.specs.Keys.{Keyed, HasDistinctKeys}
 use Rattle.plain_types.specs.declared.node.Node.{Node}
-use Rattle.css_reader.specs.Sheets.{sheet}
+use Rattle.generated_texts.specs.StyleElements.{author_sheet}
 use Rattle.dirty_walk.specs.Books.{StyledDocument, fresh_entry}
 use Rattle.dirty_walk.proofs.KeptLemmas.{copied_some}
 use Rattle.dirty_walk.proofs.book.Book.find_entry.Goals as goal
@@ -20,6 +20,6 @@ returns c =
       element =
           sym (copied_some c.get.result)
           ∙ ap is_some kept
-          ∙ c.elements_have_entries.ensures.keys (sheet c.args.self.now.sheet) c.args.self.now.tree c.args.key
+          ∙ c.elements_have_entries.ensures.keys (author_sheet c.args.self.now.sheet c.args.self.now.tree) c.args.self.now.tree c.args.key
           (subst (λ (t : Forest (Keyed Node)). HasDistinctKeys t) tree c.arena_holds_document.ensures.document.distinct);
     }

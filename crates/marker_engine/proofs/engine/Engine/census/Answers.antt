@@ -2,7 +2,7 @@ use Rattle.std.proofs.Common.{◌≡◌, ◌∙◌, ap, length, subst}
 use Rattle.dirty_walk.specs.Books.{StyledDocument}
 use Rattle.forest.specs.Forest.{Forest}
 use Rattle.forest.specs.Keys.{HasDistinctKeys, Keyed}
-use Rattle.generated_texts.specs.Laws.{EachKeyingIsAnother, EntriesFollowKeys, LinesAreThoseOfTheTree}
+use Rattle.generated_texts.specs.Laws.{EachKeyingIsAnother, EntriesFollowKeys, LinesAreThoseOfTheTree, SheetsKeepNoKeys}
 use Rattle.generated_texts.specs.Lines.{document_lines, keyed_lines}
 use Rattle.plain_types.specs.declared.node.Node.{Node}
 use Rattle.marker_engine.specs.Census.{box_count, element_count, keyed_box_count, saturated}
@@ -16,9 +16,9 @@ module _ (styled : StyledDocument) (source : Source) (arena_tree : Forest (Keyed
       ap (λ lines. length lines) (law styled.sheet styled.tree (subst HasDistinctKeys same distinct))
       ∙ ap (λ (told : Source). length (document_lines told.sheet told.tree)) is
 
-  fresh_boxes : EachKeyingIsAnother → EntriesFollowKeys → keyed_box_count styled.sheet styled.tree ≡ box_count source.sheet source.tree
-  fresh_boxes keyings law =
-      boxes_of_tree keyings law styled.sheet styled.tree (subst HasDistinctKeys same distinct)
+  fresh_boxes : EachKeyingIsAnother → SheetsKeepNoKeys → EntriesFollowKeys → keyed_box_count styled.sheet styled.tree ≡ box_count source.sheet source.tree
+  fresh_boxes keyings sheets law =
+      boxes_of_tree keyings sheets law styled.sheet styled.tree (subst HasDistinctKeys same distinct)
       ∙ ap (λ (told : Source). box_count told.sheet told.tree) is
 
 pub returns-clause-elements : goal.returns-clause-elements
@@ -28,7 +28,7 @@ pub returns-clause-boxes : goal.returns-clause-boxes
 returns-clause-boxes g c =
     c.census_of.ensures.boxes
     ∙ ap saturated (fresh_boxes c.self.inside.book c.args.self.now c.arena.result.now.tree c.self.view_is c.arena.ensures.tree c.arena_holds_document.ensures.document.distinct
-    c.keys_do_not_matter.ensures.keyings c.keys_do_not_matter.ensures.entries)
+    c.keys_do_not_matter.ensures.keyings c.keys_do_not_matter.ensures.sheets c.keys_do_not_matter.ensures.entries)
 
 pub returns-clause-lines : goal.returns-clause-lines
 returns-clause-lines g c =

@@ -1,0 +1,11 @@
+use Rattle.std.proofs.Common.{◌∙◌, ap}
+use Rattle.css_reader.specs.Features.{features}
+use Rattle.generated_texts.specs.StyleElements.{author_sheet}
+use Rattle.dirty_walk.specs.Books.{StyledDocument}
+use Rattle.dirty_walk.proofs.PlanLemmas.{its_features}
+use Rattle.dirty_walk.proofs.book.Book.features.Goals as goal
+
+pub returns : goal.returns
+returns c = record {
+  features = its_features c.self.inside.styles c.self.inside.styles.sheet c.self.inside.arena.tree c.self.invariant.styles_are ∙ ap (λ (styled : StyledDocument). features (author_sheet styled.sheet styled.tree)) c.self.view_is;
+}
