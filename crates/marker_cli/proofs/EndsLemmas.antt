@@ -11,7 +11,7 @@ use Rattle.marker_cli.specs.declared.status.FileAt.{FileAt}
 use Rattle.marker_cli.specs.declared.status.Status.{Status}
 use Rattle.marker_cli.specs.declared.status.Status.TheVariants.{Memory, ReadFault, WriteFault}
 use Rattle.marker_cli.specs.declared.status.Status.TheVariants as status
-use Rattle.marker_cli.specs.Ends.{IsCaused, ended, ReadsFailed, EndsAs, whole, no_memory, not_written, not_read}
+use Rattle.marker_cli.specs.Ends.{IsCaused, part_status, ReadsFailed, EndsAs, whole, no_memory, not_written, not_read}
 use Rattle.marker_cli.specs.Output.{Output, ends, turn, writes, bytes_of, status_of, ComesAfter, goes_on}
 use Rattle.marker_cli.specs.Stands.{IsAt}
 use Rattle.marker_cli.specs.Turns.{StopsBy, is_refused, lacks_memory, was_not_read, with_text, text_in}
@@ -144,18 +144,18 @@ ends_weaker r w (not_read file written is failed comes grew) = not_read file wri
 
 -- what a `?` hands on
 pub ends_stopped : {R W A : Type 0} {all : Output} {before now : Option (List ℕ)} (result : Result A Status) {status : Status}
-    → IsErr result × IsErrAnd result (λ error. error ≡ status) → EndsAs R W all before now status → EndsAs R W all before now (ended result)
+    → IsErr result × IsErrAnd result (λ error. error ≡ status) → EndsAs R W all before now status → EndsAs R W all before now (part_status result)
 ends_stopped (Ok x) is at = absurd is.1
 ends_stopped {R} {W} {A} {all} {before} {now} (Err error) is at = subst (λ s. EndsAs R W all before now s) (sym is.1) at
 
-pub ended_is : {A : Type 0} (result : Result A Status) {status : Status} → IsErr result × IsErrAnd result (λ error. error ≡ status) → ended result ≡ status
-ended_is (Ok x) is = absurd is.1
-ended_is (Err error) is = is.1
+pub part_status_is : {A : Type 0} (result : Result A Status) {status : Status} → IsErr result × IsErrAnd result (λ error. error ≡ status) → part_status result ≡ status
+part_status_is (Ok x) is = absurd is.1
+part_status_is (Err error) is = is.1
 
 -- the last part of a run, which writes what is left
 pub ends_put : {R W A : Type 0} {all : Output} {before now after : Option (List ℕ)} {bytes : List ℕ} (result : Result A Status) → IsAt all before now (writes bytes (ends status.Ok))
     → OnOk result (after ≡ grown now bytes) → OnErr result (GrowsByFront now after bytes) → IfErr result (λ error. (error ≡ Memory) ⊎ ((error ≡ WriteFault) × W))
-    → EndsAs R W all before after (ended result)
+    → EndsAs R W all before after (part_status result)
 ends_put (Ok x) at grew grows cause = ends_whole (at_written at grew)
 ends_put (Err error) at grew grows cause = ends_not_written at cause grows
 
@@ -170,6 +170,19 @@ caused_within U R L W (status.NotUtf8 file offset) within = tt
 caused_within U R L W (status.BadDocument line column) within = tt
 caused_within U R L W (status.BadScript number) within = tt
 caused_within U R L W WriteFault within = absurd within
+
+-- what is caused by facts is caused by those that follow from them
+pub caused_more : {read large write later_read later_large later_write : Type 0} (status : Status) → (read → later_read) → (large → later_large) → (write → later_write)
+    → IsCaused ⊥ read large write status → IsCaused ⊥ later_read later_large later_write status
+caused_more status.Ok r l w cause = tt
+caused_more Memory r l w cause = tt
+caused_more status.Usage r l w cause = cause
+caused_more (ReadFault file) r l w cause = r cause
+caused_more (status.TooLarge file) r l w cause = l cause
+caused_more (status.NotUtf8 file offset) r l w cause = tt
+caused_more (status.BadDocument line column) r l w cause = tt
+caused_more (status.BadScript number) r l w cause = tt
+caused_more WriteFault r l w cause = w cause
 
 pub caused_as : (U R L W : Type 0) {status told : Status} → told ≡ status → IsCaused U R L W status → IsCaused U R L W told
 caused_as U R L W same cause = subst (λ s. IsCaused U R L W s) (sym same) cause

@@ -7,12 +7,10 @@ use Rattle.edit_script.specs.Scripts.{FailsAsScript, ReadsAsScript}
 use Rattle.edit_script.specs.declared.command.Command.{Command}
 use Rattle.edit_script.specs.declared.fault.ScriptFault.{ScriptFault}
 use Rattle.edit_script.specs.declared.fault.ScriptFault.TheVariants as script
-use Rattle.marker_engine.specs.declared.show_fault.ShowFault.{ShowFault}
-use Rattle.marker_engine.specs.declared.show_fault.ShowFault.TheVariants as show
 use Rattle.forest.specs.Forest.{Forest}
 use Rattle.plain_types.specs.declared.node.Node.{Node}
-use Rattle.table_text.specs.declared.put_rows.RowFault.{RowFault}
-use Rattle.table_text.specs.declared.put_rows.RowFault.TheVariants as row
+use Rattle.ports.specs.declared.put_fault.PutFault.{PutFault}
+use Rattle.ports.specs.declared.put_fault.PutFault.TheVariants as put
 use Rattle.xhtml_reader.specs.Fault.{IsFault}
 use Rattle.xhtml_reader.specs.Readings.{ReadsAsDocument}
 use Rattle.xhtml_reader.specs.declared.fault.DocFault.{DocFault}
@@ -21,9 +19,9 @@ use Rattle.xml_definitions.specs.Faults.{FailsAsDocument}
 use Rattle.marker_cli.specs.declared.status.Status.{Status}
 use Rattle.marker_cli.specs.Dump.{Reading, tree_of}
 use Rattle.marker_cli.specs.Edit.{commands_of}
-use Rattle.marker_cli.specs.Ends.{Gives, IsCaused, IsPutCaused, IsStop, ended}
+use Rattle.marker_cli.specs.Ends.{Gives, IsCaused, IsPutCaused, IsStop, part_status}
 use Rattle.marker_cli.specs.Names.{TellsOfLine}
-use Rattle.marker_cli.specs.Statuses.{document_status, row_status, script_status, show_status}
+use Rattle.marker_cli.specs.Statuses.{document_status, put_status, script_status}
 
 -- what a `?` hands on
 abbrev pub HandsOn : {A : Type 0} → Result A Status → Status → Type 0
@@ -45,12 +43,12 @@ no_commands text reading script.Memory (Err error) is one fails = inl is.1
 
 module _ {A : Type 0} where
   -- what such a status is about
-  pub tree_caused : (fault : DocFault) (tree : Result A Status) → HandsOn tree (document_status fault) → IsCaused ⊥ ⊥ ⊥ ⊥ (ended tree)
+  pub tree_caused : (fault : DocFault) (tree : Result A Status) → HandsOn tree (document_status fault) → IsCaused ⊥ ⊥ ⊥ ⊥ (part_status tree)
   tree_caused fault (Ok x) is = absurd is.1
   tree_caused (Malformed line column) (Err error) is = rw is.1 tt
   tree_caused Memory (Err error) is = rw is.1 tt
 
-  pub tree_file : (fault : DocFault) (tree : Result A Status) → HandsOn tree (document_status fault) → TellsOfLine (ended tree) → ⊥
+  pub tree_file : (fault : DocFault) (tree : Result A Status) → HandsOn tree (document_status fault) → TellsOfLine (part_status tree) → ⊥
   tree_file fault (Ok x) is tells = absurd is.1
   tree_file (Malformed line column) (Err error) is tells = rw is.1 at tells
   tree_file Memory (Err error) is tells = rw is.1 at tells
@@ -60,12 +58,12 @@ module _ {A : Type 0} where
   tree_stops (Malformed line column) (Err error) is = rw is.1 tt
   tree_stops Memory (Err error) is = rw is.1 tt
 
-  pub commands_caused : (fault : ScriptFault) (commands : Result A Status) → HandsOn commands (script_status fault) → IsCaused ⊥ ⊥ ⊥ ⊥ (ended commands)
+  pub commands_caused : (fault : ScriptFault) (commands : Result A Status) → HandsOn commands (script_status fault) → IsCaused ⊥ ⊥ ⊥ ⊥ (part_status commands)
   commands_caused fault (Ok x) is = absurd is.1
   commands_caused (script.BadLine number) (Err error) is = rw is.1 tt
   commands_caused script.Memory (Err error) is = rw is.1 tt
 
-  pub commands_file : (fault : ScriptFault) (commands : Result A Status) → HandsOn commands (script_status fault) → TellsOfLine (ended commands) → ⊥
+  pub commands_file : (fault : ScriptFault) (commands : Result A Status) → HandsOn commands (script_status fault) → TellsOfLine (part_status commands) → ⊥
   commands_file fault (Ok x) is tells = absurd is.1
   commands_file (script.BadLine number) (Err error) is tells = rw is.1 at tells
   commands_file script.Memory (Err error) is tells = rw is.1 at tells
@@ -76,14 +74,8 @@ module _ {A : Type 0} where
   commands_stops script.Memory (Err error) is = rw is.1 tt
 
   -- bytes that weren't put
-  pub not_shown : (failed : Type 0) (fault : ShowFault) (result : Result A Status) → HandsOn result (show_status fault)
-      → (fault ≡ show.Memory) ⊎ ((fault ≡ show.WriteFault) × failed) → IsPutCaused failed result
-  not_shown failed fault (Ok x) is cause = tt
-  not_shown failed fault (Err error) is (inl memory) = inl (is.1 ∙ ap show_status memory)
-  not_shown failed fault (Err error) is (inr write) = inr (is.1 ∙ ap show_status write.0, write.1)
-
-  pub not_put : (failed : Type 0) (fault : RowFault) (result : Result A Status) → HandsOn result (row_status fault)
-      → (fault ≡ row.Memory) ⊎ ((fault ≡ row.WriteFault) × failed) → IsPutCaused failed result
+  pub not_put : (failed : Type 0) (fault : PutFault) (result : Result A Status) → HandsOn result (put_status fault)
+      → (fault ≡ put.Memory) ⊎ ((fault ≡ put.WriteFault) × failed) → IsPutCaused failed result
   not_put failed fault (Ok x) is cause = tt
-  not_put failed fault (Err error) is (inl memory) = inl (is.1 ∙ ap row_status memory)
-  not_put failed fault (Err error) is (inr write) = inr (is.1 ∙ ap row_status write.0, write.1)
+  not_put failed fault (Err error) is (inl memory) = inl (is.1 ∙ ap put_status memory)
+  not_put failed fault (Err error) is (inr write) = inr (is.1 ∙ ap put_status write.0, write.1)

@@ -14,12 +14,12 @@ use Rattle.node_arena.specs.declared.place_fault.PlaceFault.{PlaceFault}
 use Rattle.plain_types.specs.declared.edit.Edit.{Edit}
 use Rattle.plain_types.specs.declared.node.Node.{Node}
 use Rattle.marker_cli.specs.declared.generated.Tally.{Tally}
-use Rattle.marker_cli.specs.Generated.{Outcome, after_edits, counted, generated, number_lines, numbers, unedited}
+use Rattle.marker_cli.specs.Generated.{Outcome, after_edits, generated, number_lines, numbers, unedited, with_answer}
 use Rattle.marker_cli.specs.Tallies.{tallied}
 
 -- the next edit
 pub edits_next : (edits : List Edit) (place : ℕ) (edit : Edit) (now : Outcome) → place < length edits → edit ≡ get_or edits place edit
-    → after_edits (drop place edits) now ≡ after_edits (drop (place + 1) edits) (counted now (edited now.source edit))
+    → after_edits (drop place edits) now ≡ after_edits (drop (place + 1) edits) (with_answer now (edited now.source edit))
 edits_next edits place edit now below is = rw (add-one, drop-cons edits place edit below, ← is) refl
 
 -- the root of the document is an element
@@ -43,7 +43,7 @@ numbers_are source elements boxes lines tally outcome first second third same =
 abbrev sum_of : Outcome → ℕ
 sum_of outcome = outcome.accepted + outcome.refused
 
-one_counted : (outcome : Outcome) (answer : Result Source PlaceFault) → sum_of (counted outcome answer) ≡ sum_of outcome + 1
+one_counted : (outcome : Outcome) (answer : Result Source PlaceFault) → sum_of (with_answer outcome answer) ≡ sum_of outcome + 1
 one_counted outcome (Ok source) = omega arith
 one_counted outcome (Err fault) = omega arith
 
@@ -51,7 +51,7 @@ counted_sum : (script : List Edit) (outcome : Outcome) → sum_of (after_edits s
 counted_sum [] outcome = omega arith
 counted_sum (edit ∷ script) outcome =
     let first = one_counted outcome (edited outcome.source edit) in
-    let later = counted_sum script (counted outcome (edited outcome.source edit)) in
+    let later = counted_sum script (with_answer outcome (edited outcome.source edit)) in
     omega (arith, first, later)
 
 edits_long : (sections count state : ℕ) → length (edits sections count state) ≡ count

@@ -10,3 +10,11 @@ mod GeneratedLemmas
 mod PlayLemmas
 mod FaultLemmas
 mod ReadLemmas
+mod PlainTrees
+mod MadeDocuments
+mod PlainElements
+mod LeftBoxes
+mod AgentRules
+mod Readings
+mod BoxCounts
+mod GeneratedBoxes

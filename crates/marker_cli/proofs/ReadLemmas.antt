@@ -10,7 +10,7 @@ use Rattle.ports.specs.Files.{Files}
 use Rattle.ports.proofs.CauseLemmas.{raises_more}
 use Rattle.marker_cli.specs.declared.status.Status.{Status}
 use Rattle.marker_cli.specs.declared.status.Status.TheVariants as status
-use Rattle.marker_cli.specs.Ends.{IsStop, ended}
+use Rattle.marker_cli.specs.Ends.{IsStop, part_status}
 use Rattle.marker_cli.specs.Run.{action_size, commands_size, size_of}
 
 -- a fact holds at a value too
@@ -19,7 +19,7 @@ on_ok (Ok x) p = p
 on_ok (Err e) p = tt
 
 -- what holds of a part that is Ok
-pub of_ok : {T P : Type 0} (r : Result T Status) {told : Status} → IfErr r IsStop → told ≡ ended r → told ≡ status.Ok → OnOk r P → P
+pub of_ok : {T P : Type 0} (r : Result T Status) {told : Status} → IfErr r IsStop → told ≡ part_status r → told ≡ status.Ok → OnOk r P → P
 of_ok (Ok x) stops is ok p = p
 of_ok (Err error) stops is ok p = absurd (subst IsStop (sym is ∙ ok) stops)
 

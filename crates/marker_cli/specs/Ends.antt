@@ -25,9 +25,9 @@ pub data EndsAs (reads_failed writes_failed : Type 0) (output : Output) (before 
       → EndsAs reads_failed writes_failed output before now status
 
 -- the status of a part of a run: Ok, or the one with which it ended the run
-abbrev pub ended : {A : Type 0} → Result A Status → Status
-ended (Ok value) = status.Ok
-ended (Err refusal) = refusal
+abbrev pub part_status : {A : Type 0} → Result A Status → Status
+part_status (Ok value) = status.Ok
+part_status (Err refusal) = refusal
 
 -- a status that has a cause in the words or outside the program comes with it
 abbrev pub IsCaused : (usage read large write : Type 0) → Status → Type 0

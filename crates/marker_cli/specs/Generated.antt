@@ -18,14 +18,14 @@ pub record Outcome : Type 0 where
   pub refused : ℕ
 
 -- one more edit
-abbrev pub counted : Outcome → Result Source PlaceFault → Outcome
-counted outcome (Ok source) = record { source = source; accepted = outcome.accepted + 1; refused = outcome.refused }
-counted outcome (Err fault) = record { source = outcome.source; accepted = outcome.accepted; refused = outcome.refused + 1 }
+abbrev pub with_answer : Outcome → Result Source PlaceFault → Outcome
+with_answer outcome (Ok source) = record { source = source; accepted = outcome.accepted + 1; refused = outcome.refused }
+with_answer outcome (Err fault) = record { source = outcome.source; accepted = outcome.accepted; refused = outcome.refused + 1 }
 
 -- these edits, in their order
 abbrev pub after_edits : List Edit → Outcome → Outcome
 after_edits [] outcome = outcome
-after_edits (edit ∷ edits) outcome = after_edits edits (counted outcome (edited outcome.source edit))
+after_edits (edit ∷ edits) outcome = after_edits edits (with_answer outcome (edited outcome.source edit))
 
 -- no edit yet
 abbrev pub unedited : Source → Outcome

@@ -67,7 +67,7 @@ name_in words readings file = name_at words (commands_in readings.script) file
 abbrev pub TakesNoStep : List (List ℕ) → Type 0
 TakesNoStep words = ReadsAsForm words None ⊎ ((sheet style : List ℕ) × (from to : ℤ) × IsForm words (table sheet style from to))
 
--- How many bytes a run that is Ok takes from its files: each that a word or a command names once, whole.
+-- How many bytes a run that is Ok takes from its files: the whole of each, as often as a word or a command names it.
 
 abbrev pub size_of : Files → List ℕ → ℕ
 size_of files name = option_map_or length (files name) 0

@@ -9,7 +9,7 @@ ghost use Rattle.ports.specs.Causes.{Raises, Rose, RoseAbove};
 ghost use Rattle.ports.specs.Files.{Files};
 ghost use Rattle.ports.specs.Grown.{grown, GrowsByFront};
 ghost use Rattle.marker_cli.specs.Dump.{DocumentReadsAs, Reading, dump_output, most_steps};
-ghost use Rattle.marker_cli.specs.Ends.{EndsAs, IsCaused, IsPutCaused, IsStop, ReadsFailed, ended};
+ghost use Rattle.marker_cli.specs.Ends.{EndsAs, IsCaused, IsPutCaused, IsStop, ReadsFailed, part_status};
 ghost use Rattle.marker_cli.specs.Names.{TellsOfLine};
 ghost use Rattle.marker_cli.specs.Run.{size_of};
 
@@ -56,10 +56,10 @@ pub fn dump<S: Shelf, O: Sink, L: Ledger>(
     ensures told { (files : Files) (reading : Reading) → S.held shelf.old ≡ Some files
         → DocumentReadsAs files (chars document.now) (chars sheet.now) reading
         → EndsAs (ReadsFailed (S.honest shelf.old) (S.faults shelf.old) (S.faults shelf.new)) (Rose (O.faults out.old) (O.faults out.new))
-        (dump_output files (chars document.now) (chars sheet.now) reading) (O.out out.old) (O.out out.new) (ended result) }
+        (dump_output files (chars document.now) (chars sheet.now) reading) (O.out out.old) (O.out out.new) (part_status result) }
     ensures cause { IsCaused ⊥ (Rose (S.faults shelf.old) (S.faults shelf.new)) (RoseAbove 16777216 (S.taken shelf.old) (S.taken shelf.new))
-        (Rose (O.faults out.old) (O.faults out.new)) (ended result) }
-    ensures file { ¬ (TellsOfLine (ended result)) }
+        (Rose (O.faults out.old) (O.faults out.new)) (part_status result) }
+    ensures file { ¬ (TellsOfLine (part_status result)) }
     ensures stops { IfErr result IsStop }
     ensures faults { O.faults out.old ≤ O.faults out.new }
     ensures reads { (files : Files) → S.held shelf.old ≡ Some files

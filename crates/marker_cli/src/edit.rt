@@ -7,7 +7,7 @@ ghost use Rattle.ports.specs.Causes.{Raises, Rose, RoseAbove};
 ghost use Rattle.ports.specs.Files.{Files};
 ghost use Rattle.marker_cli.specs.Dump.{DocumentReadsAs, Reading};
 ghost use Rattle.marker_cli.specs.Edit.{ScriptReadsAs, edit_output};
-ghost use Rattle.marker_cli.specs.Ends.{EndsAs, IsCaused, IsStop, ReadsFailed, ended};
+ghost use Rattle.marker_cli.specs.Ends.{EndsAs, IsCaused, IsStop, ReadsFailed, part_status};
 ghost use Rattle.marker_cli.specs.Names.{TellsOfLine};
 ghost use Rattle.marker_cli.specs.Run.{commands_in, commands_size, size_of};
 
@@ -39,11 +39,11 @@ pub fn edit<S: Shelf, O: Sink, L: Ledger>(
     ensures told { (files : Files) (reading : Reading) (read : Result (List command.Command) ℕ) → S.held shelf.old ≡ Some files
         → DocumentReadsAs files (chars document.now) (chars sheet.now) reading → ScriptReadsAs files (chars document.now) (chars sheet.now) (chars script.now) read
         → EndsAs (ReadsFailed (S.honest shelf.old) (S.faults shelf.old) (S.faults shelf.new)) (Rose (O.faults out.old) (O.faults out.new))
-        (edit_output files (chars document.now) (chars sheet.now) (chars script.now) reading read) (O.out out.old) (O.out out.new) (ended result) }
+        (edit_output files (chars document.now) (chars sheet.now) (chars script.now) reading read) (O.out out.old) (O.out out.new) (part_status result) }
     ensures commands { (files : Files) (read : Result (List command.Command) ℕ) → S.held shelf.old ≡ Some files
-        → ScriptReadsAs files (chars document.now) (chars sheet.now) (chars script.now) read → TellsOfLine (ended result) → read ≡ Ok commands.new }
+        → ScriptReadsAs files (chars document.now) (chars sheet.now) (chars script.now) read → TellsOfLine (part_status result) → read ≡ Ok commands.new }
     ensures cause { IsCaused ⊥ (Rose (S.faults shelf.old) (S.faults shelf.new)) (RoseAbove 16777216 (S.taken shelf.old) (S.taken shelf.new))
-        (Rose (O.faults out.old) (O.faults out.new)) (ended result) }
+        (Rose (O.faults out.old) (O.faults out.new)) (part_status result) }
     ensures faults { O.faults out.old ≤ O.faults out.new }
     ensures stops { IfErr result IsStop }
     ensures reads { (files : Files) (read : Result (List command.Command) ℕ) → S.held shelf.old ≡ Some files

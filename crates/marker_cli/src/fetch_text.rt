@@ -4,7 +4,7 @@ ghost use Rattle.std.specs.Prelude.{◌≡◌, ◌≤◌, IfErr, OnOk, Some};
 ghost use Rattle.std.specs.Str.{chars};
 ghost use Rattle.ports.specs.Causes.{Raises, Rose, RoseAbove};
 ghost use Rattle.ports.specs.Files.{Files};
-ghost use Rattle.marker_cli.specs.Ends.{Gives, IsCaused, IsStop, ReadsFailed, ended};
+ghost use Rattle.marker_cli.specs.Ends.{Gives, IsCaused, IsStop, ReadsFailed, part_status};
 ghost use Rattle.marker_cli.specs.Names.{IsOfLine, TellsOfLine};
 ghost use Rattle.marker_cli.specs.Run.{size_of};
 ghost use Rattle.marker_cli.specs.Turns.{FetchesText, text_of};
@@ -17,7 +17,7 @@ use std::alloc::Global;
 
 fn text_of(alloc: Global, file: FileAt, bytes: &[u8]) -> Result<Text, Status>
     ensures text { Gives (text_of file bytes.now) result }
-    ensures file { TellsOfLine (ended result) → IsOfLine file }
+    ensures file { TellsOfLine (part_status result) → IsOfLine file }
     ensures stops { IfErr result IsStop }
 {
     match str::from_utf8(bytes) {
@@ -38,8 +38,8 @@ pub fn fetch_text<S: Shelf>(
 ) -> Result<Text, Status>
     ensures told { (files : Files) → S.held shelf.old ≡ Some files
         → FetchesText (ReadsFailed (S.honest shelf.old) (S.faults shelf.old) (S.faults shelf.new)) file (files (chars name.now)) result }
-    ensures cause { IsCaused ⊥ (Rose (S.faults shelf.old) (S.faults shelf.new)) (RoseAbove 16777216 (S.taken shelf.old) (S.taken shelf.new)) ⊥ (ended result) }
-    ensures file { TellsOfLine (ended result) → IsOfLine file }
+    ensures cause { IsCaused ⊥ (Rose (S.faults shelf.old) (S.faults shelf.new)) (RoseAbove 16777216 (S.taken shelf.old) (S.taken shelf.new)) ⊥ (part_status result) }
+    ensures file { TellsOfLine (part_status result) → IsOfLine file }
     ensures stops { IfErr result IsStop }
     ensures faults { S.faults shelf.old ≤ S.faults shelf.new }
     ensures taken { S.taken shelf.old ≤ S.taken shelf.new }

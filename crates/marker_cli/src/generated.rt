@@ -4,8 +4,8 @@ ghost use Rattle.std.specs.Prelude.{◌≡◌, ◌≤◌, ◌<◌, ◌+◌, ◌^
 ghost use Rattle.marker_engine.specs.Edited.{edited};
 ghost use Rattle.ports.specs.Causes.{HasCause, Rose};
 ghost use Rattle.ports.specs.Grown.{grown, GrowsByFront};
-ghost use Rattle.marker_cli.specs.Ends.{EndsAs, IsCaused, IsStop, ended};
-ghost use Rattle.marker_cli.specs.Generated.{after_edits, counted, generated_output, number_lines, unedited};
+ghost use Rattle.marker_cli.specs.Ends.{EndsAs, IsCaused, IsStop, part_status};
+ghost use Rattle.marker_cli.specs.Generated.{after_edits, generated_output, number_lines, unedited, with_answer};
 ghost use Rattle.marker_cli.specs.Tallies.{tallied};
 
 use crate::put_number::put_numbered;
@@ -39,7 +39,7 @@ fn apply_counted<L: Ledger>(
     steps: &mut Steps<L>,
 ) -> Result<Tally, Memory>
     requires few { tally.accepted + tally.refused + 1 < 2 ^ 64 }
-    ensures counted { IfOk result (λ new. tallied engine.new new ≡ counted (tallied engine.old tally) (edited engine.old edit.now)) }
+    ensures counted { IfOk result (λ new. tallied engine.new new ≡ with_answer (tallied engine.old tally) (edited engine.old edit.now)) }
     ensures sum { IfOk result (λ new. new.accepted + new.refused ≡ tally.accepted + tally.refused + 1) }
 {
     match engine.apply(alloc, edit, steps) {
@@ -96,8 +96,8 @@ pub fn generated<O: Sink, L: Ledger>(
     out: &mut O,
     steps: &mut Steps<L>,
 ) -> Result<(), Status>
-    ensures told { EndsAs ⊥ (Rose (O.faults out.old) (O.faults out.new)) (generated_output seed count) (O.out out.old) (O.out out.new) (ended result) }
-    ensures cause { IsCaused ⊥ ⊥ ⊥ (Rose (O.faults out.old) (O.faults out.new)) (ended result) }
+    ensures told { EndsAs ⊥ (Rose (O.faults out.old) (O.faults out.new)) (generated_output seed count) (O.out out.old) (O.out out.new) (part_status result) }
+    ensures cause { IsCaused ⊥ ⊥ ⊥ (Rose (O.faults out.old) (O.faults out.new)) (part_status result) }
     ensures stops { IfErr result IsStop }
     ensures faults { O.faults out.old ≤ O.faults out.new }
 {

@@ -10,7 +10,7 @@ ghost use Rattle.ports.specs.Grown.{grown, GrowsByFront};
 ghost use Rattle.marker_cli.specs.declared.status.FileAt.TheVariants.{Line};
 ghost use Rattle.marker_cli.specs.declared.status.Status.TheVariants as status;
 ghost use Rattle.marker_cli.specs.Edit.{action_output, after_edit, play, shown, with_sheet};
-ghost use Rattle.marker_cli.specs.Ends.{EndsAs, IsCaused, IsPutCaused, IsStop, ReadsFailed, ended};
+ghost use Rattle.marker_cli.specs.Ends.{EndsAs, IsCaused, IsPutCaused, IsStop, ReadsFailed, part_status};
 ghost use Rattle.marker_cli.specs.Output.{Output};
 ghost use Rattle.marker_cli.specs.Run.{action_size, commands_size, size_of};
 ghost use Rattle.marker_cli.specs.Stands.{Goes};
@@ -43,7 +43,7 @@ fn play_edit<O: Sink, L: Ledger>(
 ) -> Result<(), Status>
     ensures told { (next : Source → Output) → Goes ⊥ (Rose (O.faults out.old) (O.faults out.new))
         (after_edit number engine.old (edited engine.old edit.now) next) (O.out out.old) (O.out out.new) (next engine.new) result }
-    ensures cause { IsCaused ⊥ ⊥ ⊥ (Rose (O.faults out.old) (O.faults out.new)) (ended result) }
+    ensures cause { IsCaused ⊥ ⊥ ⊥ (Rose (O.faults out.old) (O.faults out.new)) (part_status result) }
     ensures stops { IfErr result IsStop }
     ensures faults { O.faults out.old ≤ O.faults out.new }
 {
@@ -88,7 +88,7 @@ fn play_sheet<S: Shelf, L: Ledger>(
     ensures told { (files : Files) (before : Option (List ℕ)) (next : Source → Output) → S.held shelf.old ≡ Some files
         → Goes (ReadsFailed (S.honest shelf.old) (S.faults shelf.old) (S.faults shelf.new)) ⊥
         (with_text files (Line number) (chars name.now) (λ text. next (with_sheet text engine.old))) before before (next engine.new) result }
-    ensures cause { IsCaused ⊥ (Rose (S.faults shelf.old) (S.faults shelf.new)) (RoseAbove 16777216 (S.taken shelf.old) (S.taken shelf.new)) ⊥ (ended result) }
+    ensures cause { IsCaused ⊥ (Rose (S.faults shelf.old) (S.faults shelf.new)) (RoseAbove 16777216 (S.taken shelf.old) (S.taken shelf.new)) ⊥ (part_status result) }
     ensures stops { IfErr result IsStop }
     ensures faults { S.faults shelf.old ≤ S.faults shelf.new }
     ensures taken { S.taken shelf.old ≤ S.taken shelf.new }
@@ -131,7 +131,7 @@ fn play_command<S: Shelf, O: Sink, L: Ledger>(
         → Goes (ReadsFailed (S.honest shelf.old) (S.faults shelf.old) (S.faults shelf.new)) (Rose (O.faults out.old) (O.faults out.new))
         (action_output files command.now.line command.now.action engine.old next) (O.out out.old) (O.out out.new) (next engine.new) result }
     ensures cause { IsCaused ⊥ (Rose (S.faults shelf.old) (S.faults shelf.new)) (RoseAbove 16777216 (S.taken shelf.old) (S.taken shelf.new))
-        (Rose (O.faults out.old) (O.faults out.new)) (ended result) }
+        (Rose (O.faults out.old) (O.faults out.new)) (part_status result) }
     ensures stops { IfErr result IsStop }
     ensures put_faults { O.faults out.old ≤ O.faults out.new }
     ensures faults { S.faults shelf.old ≤ S.faults shelf.new }
@@ -160,9 +160,9 @@ pub fn play<S: Shelf, O: Sink, L: Ledger>(
 ) -> Result<(), Status>
     ensures told { (files : Files) → S.held shelf.old ≡ Some files
         → EndsAs (ReadsFailed (S.honest shelf.old) (S.faults shelf.old) (S.faults shelf.new)) (Rose (O.faults out.old) (O.faults out.new))
-        (play files commands.now engine.old) (O.out out.old) (O.out out.new) (ended result) }
+        (play files commands.now engine.old) (O.out out.old) (O.out out.new) (part_status result) }
     ensures cause { IsCaused ⊥ (Rose (S.faults shelf.old) (S.faults shelf.new)) (RoseAbove 16777216 (S.taken shelf.old) (S.taken shelf.new))
-        (Rose (O.faults out.old) (O.faults out.new)) (ended result) }
+        (Rose (O.faults out.old) (O.faults out.new)) (part_status result) }
     ensures stops { IfErr result IsStop }
     ensures put_faults { O.faults out.old ≤ O.faults out.new }
     ensures reads { (files : Files) → S.held shelf.old ≡ Some files → OnOk result (Raises (S.taken shelf.old) (S.taken shelf.new) (commands_size files commands.now)) }

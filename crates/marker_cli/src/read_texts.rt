@@ -8,7 +8,7 @@ ghost use Rattle.node_arena.specs.Document.{HasElementRoot};
 ghost use Rattle.xhtml_reader.specs.Readings.{ReadsAsDocument};
 ghost use Rattle.marker_cli.specs.Dump.{Reading, tree_of};
 ghost use Rattle.marker_cli.specs.Edit.{commands_of};
-ghost use Rattle.marker_cli.specs.Ends.{Gives, IsCaused, IsStop, ended};
+ghost use Rattle.marker_cli.specs.Ends.{Gives, IsCaused, IsStop, part_status};
 ghost use Rattle.marker_cli.specs.Names.{TellsOfLine};
 
 use crate::status::Status;
@@ -25,8 +25,8 @@ use xhtml_reader::read_document;
 pub fn read_tree(alloc: Global, text: &str) -> Result<Tree, Status>
     ensures tree { (reading : Reading) → ReadsAsDocument (chars text.now) reading → Gives (tree_of reading) result }
     ensures element { IfOk result HasElementRoot }
-    ensures cause { IsCaused ⊥ ⊥ ⊥ ⊥ (ended result) }
-    ensures file { ¬ (TellsOfLine (ended result)) }
+    ensures cause { IsCaused ⊥ ⊥ ⊥ ⊥ (part_status result) }
+    ensures file { ¬ (TellsOfLine (part_status result)) }
     ensures stops { IfErr result IsStop }
 {
     // A text reads in one way: so the outcome is the one that the text has.
@@ -37,8 +37,8 @@ pub fn read_tree(alloc: Global, text: &str) -> Result<Tree, Status>
 /// The commands of a script.
 pub fn read_commands(alloc: Global, text: &str) -> Result<List<Command>, Status>
     ensures commands { (reading : Result (List command.Command) ℕ) → ReadsAsScript (chars text.now) reading → Gives (commands_of reading) result }
-    ensures cause { IsCaused ⊥ ⊥ ⊥ ⊥ (ended result) }
-    ensures file { ¬ (TellsOfLine (ended result)) }
+    ensures cause { IsCaused ⊥ ⊥ ⊥ ⊥ (part_status result) }
+    ensures file { ¬ (TellsOfLine (part_status result)) }
     ensures stops { IfErr result IsStop }
 {
     // A text reads in one way: so the outcome is the one that the text has.

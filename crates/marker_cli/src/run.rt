@@ -6,7 +6,7 @@ ghost use Rattle.ports.specs.Files.{Files};
 ghost use Rattle.ports.specs.Grown.{grown};
 ghost use Rattle.edit_script.specs.declared.command.Command as command;
 ghost use Rattle.marker_cli.specs.Dump.{most_steps};
-ghost use Rattle.marker_cli.specs.Ends.{EndsAs, IsCaused, IsSettled, ReadsFailed, ended};
+ghost use Rattle.marker_cli.specs.Ends.{EndsAs, IsCaused, IsSettled, ReadsFailed, part_status};
 ghost use Rattle.marker_cli.specs.Lines.{GoesOut, message};
 ghost use Rattle.marker_cli.specs.Output.{bytes_of, status_of};
 ghost use Rattle.marker_cli.specs.Names.{TellsOfLine};
@@ -33,7 +33,7 @@ use std::sync::ledger::Ledger;
 use steps::Steps;
 
 fn status_of(outcome: Result<(), Status>) -> Status
-    ensures { result ≡ ended outcome }
+    ensures { result ≡ part_status outcome }
 {
     match outcome {
         Ok(()) => Status::Ok,

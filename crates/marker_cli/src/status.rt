@@ -5,10 +5,9 @@ ghost use Rattle.marker_cli.specs.Lines.{code_of};
 ghost use Rattle.marker_cli.specs.declared.status.Status.TheVariants as status;
 
 use edit_script::fault::ScriptFault;
-use marker_engine::show_fault::ShowFault;
 use plain_types::memory::Memory;
 use ports::failed::Failed;
-use table_text::put_rows::RowFault;
+use ports::put_fault::PutFault;
 use xhtml_reader::fault::DocFault;
 
 /// A file that a run reads.
@@ -104,28 +103,15 @@ impl From<ScriptFault> for Status {
     }
 }
 
-impl From<ShowFault> for Status {
-    ghost use Rattle.marker_cli.specs.Statuses.{show_status};
+impl From<PutFault> for Status {
+    ghost use Rattle.marker_cli.specs.Statuses.{put_status};
 
-    ghost from_gives = { λ fault e. e ≡ show_status fault };
+    ghost from_gives = { λ fault e. e ≡ put_status fault };
 
-    fn from(fault: ShowFault) -> Status {
+    fn from(fault: PutFault) -> Status {
         match fault {
-            ShowFault::WriteFault => Status::WriteFault,
-            ShowFault::Memory => Status::Memory,
-        }
-    }
-}
-
-impl From<RowFault> for Status {
-    ghost use Rattle.marker_cli.specs.Statuses.{row_status};
-
-    ghost from_gives = { λ fault e. e ≡ row_status fault };
-
-    fn from(fault: RowFault) -> Status {
-        match fault {
-            RowFault::WriteFault => Status::WriteFault,
-            RowFault::Memory => Status::Memory,
+            PutFault::WriteFault => Status::WriteFault,
+            PutFault::Memory => Status::Memory,
         }
     }
 }

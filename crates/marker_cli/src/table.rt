@@ -9,7 +9,7 @@ ghost use Rattle.ports.specs.Causes.{Raises, Rose, RoseAbove};
 ghost use Rattle.ports.specs.Files.{Files};
 ghost use Rattle.ports.specs.Grown.{grown, GrowsByFront};
 ghost use Rattle.table_text.specs.Rows.{rows, values_between};
-ghost use Rattle.marker_cli.specs.Ends.{EndsAs, IsCaused, IsPutCaused, IsStop, ReadsFailed, ended};
+ghost use Rattle.marker_cli.specs.Ends.{EndsAs, IsCaused, IsPutCaused, IsStop, ReadsFailed, part_status};
 ghost use Rattle.marker_cli.specs.Names.{TellsOfLine};
 ghost use Rattle.marker_cli.specs.Run.{size_of};
 ghost use Rattle.marker_cli.specs.Table.{table_output};
@@ -67,10 +67,10 @@ pub fn table<S: Shelf, O: Sink>(
 ) -> Result<(), Status>
     ensures told { (files : Files) → S.held shelf.old ≡ Some files
         → EndsAs (ReadsFailed (S.honest shelf.old) (S.faults shelf.old) (S.faults shelf.new)) (Rose (O.faults out.old) (O.faults out.new))
-        (table_output files (chars sheet.now) (chars style.now) from to) (O.out out.old) (O.out out.new) (ended result) }
+        (table_output files (chars sheet.now) (chars style.now) from to) (O.out out.old) (O.out out.new) (part_status result) }
     ensures cause { IsCaused ⊥ (Rose (S.faults shelf.old) (S.faults shelf.new)) (RoseAbove 16777216 (S.taken shelf.old) (S.taken shelf.new))
-        (Rose (O.faults out.old) (O.faults out.new)) (ended result) }
-    ensures file { ¬ (TellsOfLine (ended result)) }
+        (Rose (O.faults out.old) (O.faults out.new)) (part_status result) }
+    ensures file { ¬ (TellsOfLine (part_status result)) }
     ensures stops { IfErr result IsStop }
     ensures faults { O.faults out.old ≤ O.faults out.new }
     ensures reads { (files : Files) → S.held shelf.old ≡ Some files → OnOk result (Raises (S.taken shelf.old) (S.taken shelf.new) (size_of files (chars sheet.now))) }

@@ -6,7 +6,7 @@ use Rattle.marker_cli.specs.declared.status.FileAt.TheVariants.{Word}
 use Rattle.marker_cli.specs.declared.status.Status.TheVariants as status
 use Rattle.marker_cli.specs.Output.{ends, writes}
 use Rattle.marker_cli.specs.Turns.{text_in}
-use Rattle.marker_cli.proofs.EndsLemmas.{at_same, at_start, at_text, at_value, caused_as, caused_within, ended_is, ends_no_text, ends_not_given, ends_put, ends_stopped, reads_after}
+use Rattle.marker_cli.proofs.EndsLemmas.{at_same, at_start, at_text, at_value, caused_as, caused_within, ends_no_text, ends_not_given, ends_put, ends_stopped, part_status_is, reads_after}
 use Rattle.marker_cli.proofs.TreeLemmas.{most_of}
 use Rattle.ports.proofs.CauseLemmas.{raises_more}
 use Rattle.marker_cli.proofs.ReadLemmas.{on_ok}
@@ -34,7 +34,7 @@ returns-in_err-tree-clause-told g c files reading told reads =
 
 pub returns-in_err-tree-clause-cause : goal.returns-in_err-tree-clause-cause
 returns-in_err-tree-clause-cause g c =
-    caused_as _ _ _ _ (ended_is c.from_residual-in_err-tree.result c.from_residual-in_err-tree.ensures) (caused_within _ _ _ _ _ c.in_err-tree.ensures.cause)
+    caused_as _ _ _ _ (part_status_is c.from_residual-in_err-tree.result c.from_residual-in_err-tree.ensures) (caused_within _ _ _ _ _ c.in_err-tree.ensures.cause)
 
 pub returns-clause-told : goal.returns-clause-told
 returns-clause-told g c files reading told reads =

@@ -3,11 +3,12 @@ use Rattle.std.specs.Prelude.{Ok}
 use Rattle.std.specs.Str.{chars}
 use Rattle.marker_cli.specs.declared.status.FileAt.TheVariants.{Word}
 use Rattle.marker_cli.specs.Edit.{play}
+use Rattle.marker_cli.specs.Ends.{part_status}
 use Rattle.marker_cli.specs.Turns.{text_in}
-use Rattle.marker_cli.proofs.EndsLemmas.{at_same, at_start, at_text, at_value, ends_no_memory, ends_no_text, ends_not_given, ends_part, ends_stopped, reads_after}
+use Rattle.marker_cli.proofs.EndsLemmas.{at_same, at_start, at_text, at_value, caused_more, ends_no_memory, ends_no_text, ends_not_given, ends_part, ends_stopped, reads_after}
 use Rattle.marker_cli.proofs.PlayLemmas.{given_commands}
 use Rattle.std.proofs.lemmas.Result.{on_ok_weaker}
-use Rattle.ports.proofs.CauseLemmas.{raises_more}
+use Rattle.ports.proofs.CauseLemmas.{raises_more, rose_above_after, rose_after}
 use Rattle.marker_cli.specs.Run.{commands_in, commands_size}
 use Rattle.marker_cli.proofs.ReadLemmas.{raised_as}
 use Rattle.marker_cli.proofs.edit.edit.Goals as goal
@@ -96,3 +97,11 @@ returns-clause-reads g c files read told reads_script =
     (raises_more _ _ _ _ _ _ (c.in_ok-lines.ensures.came files held)
     (raised_as (ap (λ r. commands_size files (commands_in r)) given ∙ ap (λ cs. commands_size files cs) (sym c.as_slice.ensures.items)) played) refl) refl) refl)
     (c.play.ensures.reads files (c.in_ok-lines.ensures.held ∙ held))
+
+pub returns-clause-cause : goal.returns-clause-cause
+returns-clause-cause g c =
+    caused_more (part_status c.play.result)
+    (λ rose. rose_after _ _ _ (omega (arith, c.in_ok-text.ensures.faults, c.in_ok-style.ensures.faults, c.in_ok-lines.ensures.faults)) rose)
+    (λ rose. rose_above_after 16777216 _ _ _ (omega (arith, c.in_ok-text.ensures.taken, c.in_ok-style.ensures.taken, c.in_ok-lines.ensures.taken)) rose)
+    (λ rose. rose)
+    c.play.ensures.cause
