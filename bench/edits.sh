@@ -1,20 +1,29 @@
 #!/usr/bin/env bash
 # The mean time of an edit by `marker edit`, over documents of sections with a heading, a list and a reference each,
-# of 1,000, 10,000 and 100,000 elements: the time of a script of edits and one `show`, less that of the `show`
-# alone, by the number of edits; and how many times as long an edit takes as at the size before.
-#   bench/edits.sh [ELEMENTS..]
+# of 10, 1,000, 10,000 and 100,000 elements: the time of a script of edits and one `show`, less that of the `show`
+# alone, by the number of edits; and how many times as long an edit takes as at the size before. With two programs,
+# also how many times as long the second takes as the first, so that a change can be compared with what was before.
+#   bench/edits.sh [PROGRAM [OTHER]] [ELEMENTS..]      the repository's program where none is named
 set -eu
 here=$(cd "$(dirname "$0")/.." && pwd)
-"$here/marker" dump "$here/examples/list.xhtml" "$here/examples/empty.css" >/dev/null # builds it, if need be
+programs=()
+while [ $# -gt 0 ] && [[ ! $1 =~ ^[0-9]+$ ]]; do
+  programs+=("$(realpath "$1")")
+  shift
+done
+if [ ${#programs[@]} -eq 0 ]; then
+  "$here/marker" dump "$here/examples/list.xhtml" "$here/examples/empty.css" >/dev/null # builds it, if need be
+  programs=("$here/crates/marker/out/marker")
+fi
 work=$(mktemp -d)
 trap 'rm -rf "$work"' EXIT
 cd "$work"
-PYTHONPATH=$here/bench python3 - "$here/crates/marker/out/marker" "${@:-}" <<'PY'
+PYTHONPATH=$here/bench python3 - "${programs[@]}" "$@" <<'PY'
 import sys
-from seconds import ratio, seconds
+from seconds import seconds
 
-program = sys.argv[1]
-sizes = [int(word) for word in sys.argv[2:] if word] or [1_000, 10_000, 100_000]
+programs = [word for word in sys.argv[1:] if not word.isdigit()]
+sizes = [int(word) for word in sys.argv[1:] if word.isdigit()] or [10, 1_000, 10_000, 100_000]
 SHEET = (
     'body{counter-reset:s}section{counter-increment:s;counter-reset:i}li{counter-increment:i list-item}'
     'h2::before{content:counter(s)". "}li::before{content:counters(i,".")}'
@@ -23,7 +32,7 @@ SHEET = (
 
 
 def document(elements):
-    sections = elements // 8
+    sections = max(1, elements // 8)
     return "<body>" + "".join(
         f'<section id="s{k}"><h2>{k}</h2><ol><li/><li/><li/></ol><p><a href="#s{k * 7919 % sections}"/></p></section>'
         for k in range(sections)
@@ -32,7 +41,7 @@ def document(elements):
 
 def edits(elements, count):
     """An item comes, is moved, is given a value, loses it, and goes: sections all over the document, in turn."""
-    sections = elements // 8
+    sections = max(1, elements // 8)
     lines = []
     for place in range(count):
         section = place // 5 * 7919 % sections
@@ -51,18 +60,26 @@ def put(name, text):
         file.write(text)
 
 
+def an_edit(program, count):
+    """The mean time of an edit of the script; of all at least a millisecond, below which a clock says little."""
+    words = (program, "edit", "document.xhtml", "sheet.css")
+    runs = 1 if count < 1_000 else 3
+    return max(seconds(*words, "edits.txt", runs=runs) - seconds(*words, "none.txt"), 0.001) / count
+
+
 put("sheet.css", SHEET)
 put("none.txt", "show\n")
 before = None
 for size in sizes:
-    count = max(5, 500_000 // size)
+    count = max(5, min(10_000, 500_000 // size))
     put("document.xhtml", document(size))
     put("edits.txt", edits(size, count))
-    words = (program, "edit", "document.xhtml", "sheet.css")
-    taken = (seconds(*words, "edits.txt", runs=1) - seconds(*words, "none.txt")) / count
-    line = f"{size} elements, {count} edits: {taken * 1000:.2f} ms an edit"
+    taken, *others = [an_edit(program, count) for program in programs]
+    line = f"{size} elements, {count} edits: {taken * 1e6:.0f} µs an edit"
     if before is not None:
-        line += f", {ratio(taken, before[1]):.1f} times that at {before[0]} elements"
+        line += f", {taken / before[1]:.1f} times that at {before[0]} elements"
+    for other in others:
+        line += f"; the other program {other * 1e6:.0f} µs, {other / taken:.2f} times as long"
     print(line, flush=True)
     before = size, taken
 PY

@@ -1,7 +1,9 @@
 #!/usr/bin/env bash
-# Reads XHTML files of several makers: documents in DocBook's, Publican's and Sphinx's XHTML, which packages
-# of Debian carry, some of them in an EPUB. It prints how many of each are read, and each that is refused,
-# with its place. The packages are unpacked in a folder of their own and not installed.
+# Reads XHTML files of several makers, and dumps them under an empty sheet: documents in DocBook's, Publican's,
+# Sphinx's, Docutils' and AsciiDoc's XHTML, which packages of Debian carry, some of them in an EPUB. It prints how
+# many of each package are read, how many of these have style elements and style attributes, and how many texts
+# they have in all; and each that is refused, with its place. The packages are unpacked in a folder of their own
+# and not installed.
 #   bench/real-documents.sh [FILES]      at most so many files of each package, 40 by default
 set -eu
 here=$(cd "$(dirname "$0")/.." && pwd)
@@ -12,7 +14,7 @@ trap 'rm -rf "$work"' EXIT
 cd "$work"
 : >empty.css
 apt-get update -qq || true
-for package in debian-reference-en debian-handbook debian-policy developers-reference; do
+for package in debian-reference-en debian-handbook debian-policy developers-reference docutils-doc git-doc; do
   apt-get download -qq -o APT::Sandbox::User=root "$package" >/dev/null
   mkdir "$package"
   dpkg -x "$package"_*.deb "$package"
@@ -22,13 +24,21 @@ for name in sys.argv[1:]:
     zipfile.ZipFile(name).extractall(name + ".files")' {} +
   read=0
   refused=0
+  elements=0
+  attributes=0
+  texts=0
   while IFS= read -r file; do
     # The XHTML of an EPUB, and HTML that says that it is XHTML.
     case $file in *.xhtml) ;; *) head -c 300 "$file" | grep -q 'DTD XHTML' || continue ;; esac
     status=0
-    "$here/crates/marker/out/marker" dump "$file" empty.css >/dev/null 2>line || status=$?
+    "$here/crates/marker/out/marker" dump "$file" empty.css >lines 2>line || status=$?
     case $status in
-      0) read=$((read + 1)) ;;
+      0)
+        read=$((read + 1))
+        texts=$((texts + $(wc -l <lines)))
+        ! grep -q '<style' "$file" || elements=$((elements + 1))
+        ! grep -q ' style="' "$file" || attributes=$((attributes + 1))
+        ;;
       *)
         refused=$((refused + 1))
         sed "s#^#$package: #" line
@@ -36,5 +46,5 @@ for name in sys.argv[1:]:
     esac
     [ $((read + refused)) -lt "$most" ] || break
   done < <(find "$package" \( -name '*.xhtml' -o -name '*.html' \) -type f | sort)
-  echo "$package: $read read, $refused refused"
+  echo "$package: $read read, $elements with style elements, $attributes with style attributes; $texts texts; $refused refused"
 done

@@ -1,19 +1,20 @@
 //! The cascade over the texts of documents and sheets, worked out by hand.
 
 ghost use Rattle.std.specs.Prelude.{◌≡◌, ◌<◌};
+ghost use Rattle.forest.specs.Spots.{IsLive};
 
 use crate::trees::tree_of;
 use css_reader::sheet::read_sheet;
 use mini_cascade::agent_sheet::AGENT_SHEET;
+use mini_cascade::style_attributes::inline_declarations;
 use mini_cascade::style_of::style_of;
 use node_arena::arena::Arena;
 use plain_types::content::{Content, Item, QuoteKind};
 use plain_types::memory::Memory;
 use plain_types::sheet::Sheet;
-use plain_types::style::{Display, ElementStyle, ListType};
+use plain_types::style::{Display, ElementStyle, ListType, Style};
 use plain_types::style_ref::StyleRef;
 use plain_types::text::Text;
-use selector_match::matching::matches;
 use std::alloc::Global;
 use std::marker::Brand;
 use std::sync::ledger::{Blank, Ledger};
@@ -25,7 +26,7 @@ type Styled = (&'static str, &'static str, &'static str);
 
 /// The rules of the user agent: each name in its sheet, alone and in the lists that count.
 static AGENT: [Styled; 46] = [
-    ("<p hidden=\"\"/>", "", "none disc"),
+    (r#"<p hidden=""/>"#, "", "none disc"),
     ("<area/>", "", "none disc"),
     ("<base/>", "", "none disc"),
     ("<datalist/>", "", "none disc"),
@@ -86,26 +87,28 @@ static AGENT: [Styled; 46] = [
 ];
 
 /// Attributes of lists, and sheets of authors.
-static AUTHORS: [Styled; 3] = [
-    ("<ol start=\"3\"/>", "", "plain list-item 2 decimal"),
+static AUTHORS: [Styled; 5] = [
+    (r#"<ol start="3"/>"#, "", "plain list-item 2 decimal"),
     (
-        "<ol start=\"3\"/>",
+        r#"<ol start="3"/>"#,
         "ol{counter-reset:list-item 7}",
         "plain list-item 7 decimal",
     ),
     (
-        "<ul type=\"Square\"/>",
+        r#"<ul type="Square"/>"#,
         "ul{quotes:none}",
         "plain list-item 0 square",
     ),
-];
-
-/// Selectors, and whether they match the first and the second `p` in `<div><p class="a"/><p/></div>`.
-static SELECTED: [(&str, bool, bool); 4] = [
-    ("p:last-child{}", false, true),
-    ("div > p + p{}", false, true),
-    (".a ~ p{}", false, true),
-    ("p:nth-child(-n+1){}", true, false),
+    (
+        r#"<ol start="3" style="counter-reset:list-item 7"/>"#,
+        "",
+        "plain list-item 7 decimal",
+    ),
+    (
+        r#"<ol><li style="content:open-quote"/></ol>"#,
+        "",
+        "list-item decimal",
+    ),
 ];
 
 /// The document in an arena; none where the text is no document.
@@ -114,6 +117,31 @@ pub fn arena_of(alloc: Global, text: &str) -> Result<Option<Arena>, Memory> {
         Some(tree) => Ok(Some(Arena::from_tree(alloc, &tree)?)),
         None => Ok(None),
     }
+}
+
+/// The style of an element under its parent's, with its `style` attribute.
+pub fn style_at<L: Ledger>(
+    alloc: Global,
+    arena: &Arena,
+    agent: &Sheet,
+    author: &Sheet,
+    parent: Option<&Style>,
+    key: usize,
+    steps: &mut Steps<L>,
+) -> Result<ElementStyle, Memory>
+    requires { IsLive arena.now.tree key }
+{
+    let inline = inline_declarations(alloc, arena, key)?;
+    style_of(
+        alloc,
+        arena,
+        agent,
+        author,
+        inline.as_slice(),
+        parent,
+        key,
+        steps,
+    )
 }
 
 /// The style of the innermost element.
@@ -125,10 +153,10 @@ fn innermost_style<L: Ledger>(
     steps: &mut Steps<L>,
 ) -> Result<ElementStyle, Memory> {
     let mut at = arena.root();
-    let mut style = style_of(alloc, arena, agent, author, None, at, steps)?;
+    let mut style = style_at(alloc, arena, agent, author, None, at, steps)?;
     'down: for _level in 0..4 {
         if let Some(child) = arena.child(at, 0) {
-            style = style_of(alloc, arena, agent, author, Some(&style.own), child, steps)?;
+            style = style_at(alloc, arena, agent, author, Some(&style.own), child, steps)?;
             at = child;
         }
     }
@@ -219,20 +247,6 @@ fn first_wrong(rt: &HostRuntime, table: &[Styled]) -> Result<Option<usize>, Memo
     Ok(None)
 }
 
-/// Whether the sheet's first selector matches the root's child of this place.
-fn selects(arena: &Arena, sheet: &Sheet, place: usize) -> bool {
-    let Some(key) = arena.child(arena.root(), place) else {
-        return false;
-    };
-    let Some(rule) = sheet.rules.as_slice().first() else {
-        return false;
-    };
-    match rule.selectors.as_slice().first() {
-        Some(selector) => matches(arena, key, selector),
-        None => false,
-    }
-}
-
 #[test]
 fn the_user_agent_has_nine_rules(rt: HostRuntime) -> Result<(), Fail> {
     let sheet = read_sheet(rt.alloc(), AGENT_SHEET)?;
@@ -245,17 +259,5 @@ fn the_user_agent_has_nine_rules(rt: HostRuntime) -> Result<(), Fail> {
 #[test]
 fn authors_and_attributes_style_lists(rt: HostRuntime) -> Result<(), Fail> {
     assert_eq!(rt; first_wrong(&rt, &AUTHORS)?, None);
-    Ok(())
-}
-
-#[test]
-fn selectors_match(rt: HostRuntime) -> Result<(), Fail> {
-    let alloc = rt.alloc();
-    let arena = arena_of(alloc, "<div><p class=\"a\"/><p/></div>")?.ok_or("no document")?;
-    for (selector, first, second) in SELECTED {
-        let sheet = read_sheet(alloc, selector)?;
-        assert!(rt; selects(&arena, &sheet, 0) == first);
-        assert!(rt; selects(&arena, &sheet, 1) == second);
-    }
     Ok(())
 }

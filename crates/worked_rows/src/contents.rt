@@ -27,26 +27,26 @@ use std::test::Fail;
 /// id="b" and href="#x"; the characters of their pieces, each before a bar, and `to URL` for a target; and the
 /// depth behind them.
 static CONTENTS: [(&str, &str, u64); 15] = [
-    ("\"a\" \"\"", "a||", 0),
+    (r#""a" """#, "a||", 0),
     ("attr(id) attr(no)", "b||", 0),
     // quotes; a closing at depth 0 writes nothing, and the rest is still written
-    ("close-quote \"!\"", "|!|", 0),
+    (r#"close-quote "!""#, "|!|", 0),
     ("open-quote open-quote close-quote", "“|‘|’|", 1),
     ("no-open-quote open-quote no-close-quote", "|‘||", 1),
     // the innermost counter, and all from the outermost in
     ("counter(s)", "12|", 0),
     ("counter(s, lower-roman)", "xii|", 0),
-    ("counters(s, \".\")", "3.12|", 0),
-    ("counters(s, \".\", Upper-Alpha)", "C.L|", 0),
+    (r#"counters(s, ".")"#, "3.12|", 0),
+    (r#"counters(s, ".", Upper-Alpha)"#, "C.L|", 0),
     // a style that writes nothing leaves the strings between
     ("counter(s, none)", "|", 0),
-    ("counters(s, \".\", none)", ".|", 0),
+    (r#"counters(s, ".", none)"#, ".|", 0),
     // a name without a counter
-    ("counter(c) counters(c, \".\")", "0|0|", 0),
+    (r#"counter(c) counters(c, ".")"#, "0|0|", 0),
     // targets have their urls looked up
-    ("target-text(\"#y\", before)", "to #y|", 0),
+    (r##"target-text("#y", before)"##, "to #y|", 0),
     (
-        "target-counter(attr(href), s) target-counters(attr(no), s, \".\")",
+        r#"target-counter(attr(href), s) target-counters(attr(no), s, ".")"#,
         "to #x|to |",
         0,
     ),

@@ -2,6 +2,8 @@
 
 ghost use Rattle.std.specs.Prelude.{◌≡◌, ◌<◌, true, IfOk};
 
+use crate::dumps::Dump;
+use crate::rows::text_of;
 use crate::trees::{same_tree, tree_of};
 use dirty_walk::book::Book;
 use edit_script::action::Action;
@@ -25,33 +27,30 @@ use std::sync::ledger::{Blank, Ledger};
 use std::test::Fail;
 use steps::Steps;
 
-/// A document, its sheet, and its dump.
-type State = (&'static str, &'static str, &'static str);
-
 /// An edit as a line of a script, and what comes of it, or why it is refused.
-type Row = (&'static str, Result<State, EditFault>);
+type Row = (&'static str, Result<Dump, EditFault>);
 
 /// Edits, one after the other.
 struct Course {
-    start: State,
+    start: Dump,
     rows: &'static [Row],
 }
 
-const PLAIN: &str = "b::before{content:\"b\"}";
+const PLAIN: &str = r#"b::before{content:"b"}"#;
 
 /// The children of a paragraph: a text, and then an element.
 static CHILDREN: Course = Course {
-    start: ("<p/>", PLAIN, ""),
+    start: ("<p/>", PLAIN, &[]),
     rows: &[
-        ("insert / 0 t", Ok(("<p>t</p>", PLAIN, ""))),
+        ("insert / 0 t", Ok(("<p>t</p>", PLAIN, &[]))),
         ("insert / 2 u", Err(EditFault::NoPlace)),
         // a text is no parent
         ("move /0 /0 0", Err(EditFault::NoPlace)),
-        ("unset / title", Ok(("<p>t</p>", PLAIN, ""))),
-        ("remove /0", Ok(("<p/>", PLAIN, ""))),
+        ("unset / title", Ok(("<p>t</p>", PLAIN, &[]))),
+        ("remove /0", Ok(("<p/>", PLAIN, &[]))),
         (
             "insert / 0 <b/>",
-            Ok(("<p><b/></p>", PLAIN, "/0 before \"b\"\n")),
+            Ok(("<p><b/></p>", PLAIN, &[r#"/0 before "b""#])),
         ),
         ("move /0 /0 0", Err(EditFault::IntoItself)),
         // the position is not looked at
@@ -60,7 +59,7 @@ static CHILDREN: Course = Course {
 };
 
 static REFUSALS: Course = Course {
-    start: ("<ol><li><b/><i/></li></ol>", "", "/0 marker \"1. \"\n"),
+    start: ("<ol><li><b/><i/></li></ol>", "", &[r#"/0 marker "1. ""#]),
     rows: &[
         ("move /0 /0/1 0", Err(EditFault::IntoItself)),
         ("remove /9", Err(EditFault::NoPlace)),
@@ -70,18 +69,26 @@ static REFUSALS: Course = Course {
 
 const IDS: &str = "li{list-style:none}li::before{content:counter(list-item)attr(id)}";
 
-const MOVED: State = (
-    "<ol><li id=\"b\"/><li id=\"c\"/><li id=\"a\"/></ol>",
+const MOVED: Dump = (
+    r#"<ol><li id="b"/><li id="c"/><li id="a"/></ol>"#,
     IDS,
-    "/0 before \"1b\"\n/1 before \"2c\"\n/2 before \"3a\"\n",
+    &[
+        r#"/0 before "1b""#,
+        r#"/1 before "2c""#,
+        r#"/2 before "3a""#,
+    ],
 );
 
 /// The first item becomes the last: two are left once it is out, so that is the place 2.
 static FIRST_TO_LAST: Course = Course {
     start: (
-        "<ol><li id=\"a\"/><li id=\"b\"/><li id=\"c\"/></ol>",
+        r#"<ol><li id="a"/><li id="b"/><li id="c"/></ol>"#,
         IDS,
-        "/0 before \"1a\"\n/1 before \"2b\"\n/2 before \"3c\"\n",
+        &[
+            r#"/0 before "1a""#,
+            r#"/1 before "2b""#,
+            r#"/2 before "3c""#,
+        ],
     ),
     rows: &[
         ("move /0 / 3", Err(EditFault::NoPlace)),
@@ -95,32 +102,32 @@ const NUMBERED: &str =
     "p{counter-reset:n}b{counter-increment:n}b::before{content:counter(n)attr(a)}";
 
 static INSERTIONS: Course = Course {
-    start: ("<p/>", NUMBERED, ""),
+    start: ("<p/>", NUMBERED, &[]),
     rows: &[
         (
             "insert / 0 <b/>",
-            Ok(("<p><b/></p>", NUMBERED, "/0 before \"1\"\n")),
+            Ok(("<p><b/></p>", NUMBERED, &[r#"/0 before "1""#])),
         ),
         // first, last, and between
         (
             "insert / 0 <i>t</i>",
-            Ok(("<p><i>t</i><b/></p>", NUMBERED, "/1 before \"1\"\n")),
+            Ok(("<p><i>t</i><b/></p>", NUMBERED, &[r#"/1 before "1""#])),
         ),
         (
-            "insert / 2 <b a=\"x\"/>",
+            r#"insert / 2 <b a="x"/>"#,
             Ok((
-                "<p><i>t</i><b/><b a=\"x\"/></p>",
+                r#"<p><i>t</i><b/><b a="x"/></p>"#,
                 NUMBERED,
-                "/1 before \"1\"\n/2 before \"2x\"\n",
+                &[r#"/1 before "1""#, r#"/2 before "2x""#],
             )),
         ),
         ("insert / 4 u", Err(EditFault::NoPlace)),
         (
             "insert / 2 u",
             Ok((
-                "<p><i>t</i><b/>u<b a=\"x\"/></p>",
+                r#"<p><i>t</i><b/>u<b a="x"/></p>"#,
                 NUMBERED,
-                "/1 before \"1\"\n/3 before \"2x\"\n",
+                &[r#"/1 before "1""#, r#"/3 before "2x""#],
             )),
         ),
         // in a text, below one, and where nothing is
@@ -131,17 +138,25 @@ static INSERTIONS: Course = Course {
         (
             "insert /0 0 <b/>",
             Ok((
-                "<p><i><b/>t</i><b/>u<b a=\"x\"/></p>",
+                r#"<p><i><b/>t</i><b/>u<b a="x"/></p>"#,
                 NUMBERED,
-                "/0/0 before \"1\"\n/1 before \"2\"\n/3 before \"3x\"\n",
+                &[
+                    r#"/0/0 before "1""#,
+                    r#"/1 before "2""#,
+                    r#"/3 before "3x""#,
+                ],
             )),
         ),
         (
             "insert /3 0 v",
             Ok((
-                "<p><i><b/>t</i><b/>u<b a=\"x\">v</b></p>",
+                r#"<p><i><b/>t</i><b/>u<b a="x">v</b></p>"#,
                 NUMBERED,
-                "/0/0 before \"1\"\n/1 before \"2\"\n/3 before \"3x\"\n",
+                &[
+                    r#"/0/0 before "1""#,
+                    r#"/1 before "2""#,
+                    r#"/3 before "3x""#,
+                ],
             )),
         ),
     ],
@@ -149,9 +164,9 @@ static INSERTIONS: Course = Course {
 
 static MOVES: Course = Course {
     start: (
-        "<p><b a=\"x\"/>t<b a=\"y\"><i/></b></p>",
+        r#"<p><b a="x"/>t<b a="y"><i/></b></p>"#,
         NUMBERED,
-        "/0 before \"1x\"\n/2 before \"2y\"\n",
+        &[r#"/0 before "1x""#, r#"/2 before "2y""#],
     ),
     rows: &[
         // the root stays, and so does what is not there
@@ -166,42 +181,42 @@ static MOVES: Course = Course {
         (
             "move /0 / 0",
             Ok((
-                "<p><b a=\"x\"/>t<b a=\"y\"><i/></b></p>",
+                r#"<p><b a="x"/>t<b a="y"><i/></b></p>"#,
                 NUMBERED,
-                "/0 before \"1x\"\n/2 before \"2y\"\n",
+                &[r#"/0 before "1x""#, r#"/2 before "2y""#],
             )),
         ),
         (
             "move /0 / 2",
             Ok((
-                "<p>t<b a=\"y\"><i/></b><b a=\"x\"/></p>",
+                r#"<p>t<b a="y"><i/></b><b a="x"/></p>"#,
                 NUMBERED,
-                "/1 before \"1y\"\n/2 before \"2x\"\n",
+                &[r#"/1 before "1y""#, r#"/2 before "2x""#],
             )),
         ),
         // a text down, and an element up; both paths name nodes as they are before
         (
             "move /0 /1 1",
             Ok((
-                "<p><b a=\"y\"><i/>t</b><b a=\"x\"/></p>",
+                r#"<p><b a="y"><i/>t</b><b a="x"/></p>"#,
                 NUMBERED,
-                "/0 before \"1y\"\n/1 before \"2x\"\n",
+                &[r#"/0 before "1y""#, r#"/1 before "2x""#],
             )),
         ),
         (
             "move /0/0 / 0",
             Ok((
-                "<p><i/><b a=\"y\">t</b><b a=\"x\"/></p>",
+                r#"<p><i/><b a="y">t</b><b a="x"/></p>"#,
                 NUMBERED,
-                "/1 before \"1y\"\n/2 before \"2x\"\n",
+                &[r#"/1 before "1y""#, r#"/2 before "2x""#],
             )),
         ),
         (
             "move /2 /0 0",
             Ok((
-                "<p><i><b a=\"x\"/></i><b a=\"y\">t</b></p>",
+                r#"<p><i><b a="x"/></i><b a="y">t</b></p>"#,
                 NUMBERED,
-                "/0/0 before \"1x\"\n/1 before \"2y\"\n",
+                &[r#"/0/0 before "1x""#, r#"/1 before "2y""#],
             )),
         ),
     ],
@@ -209,9 +224,9 @@ static MOVES: Course = Course {
 
 static REMOVALS: Course = Course {
     start: (
-        "<p><i><b a=\"x\"/></i><b a=\"y\">t</b></p>",
+        r#"<p><i><b a="x"/></i><b a="y">t</b></p>"#,
         NUMBERED,
-        "/0/0 before \"1x\"\n/1 before \"2y\"\n",
+        &[r#"/0/0 before "1x""#, r#"/1 before "2y""#],
     ),
     rows: &[
         // the root stays, and so does what is not there
@@ -221,20 +236,20 @@ static REMOVALS: Course = Course {
         (
             "remove /1/0",
             Ok((
-                "<p><i><b a=\"x\"/></i><b a=\"y\"/></p>",
+                r#"<p><i><b a="x"/></i><b a="y"/></p>"#,
                 NUMBERED,
-                "/0/0 before \"1x\"\n/1 before \"2y\"\n",
+                &[r#"/0/0 before "1x""#, r#"/1 before "2y""#],
             )),
         ),
         (
             "remove /1",
             Ok((
-                "<p><i><b a=\"x\"/></i></p>",
+                r#"<p><i><b a="x"/></i></p>"#,
                 NUMBERED,
-                "/0/0 before \"1x\"\n",
+                &[r#"/0/0 before "1x""#],
             )),
         ),
-        ("remove /0", Ok(("<p/>", NUMBERED, ""))),
+        ("remove /0", Ok(("<p/>", NUMBERED, &[]))),
         ("remove /0", Err(EditFault::NoPlace)),
     ],
 };
@@ -243,48 +258,48 @@ static ATTRIBUTES: Course = Course {
     start: (
         "<p><b/>t<b/></p>",
         NUMBERED,
-        "/0 before \"1\"\n/2 before \"2\"\n",
+        &[r#"/0 before "1""#, r#"/2 before "2""#],
     ),
     rows: &[
         (
             "set / a x",
             Ok((
-                "<p a=\"x\"><b/>t<b/></p>",
+                r#"<p a="x"><b/>t<b/></p>"#,
                 NUMBERED,
-                "/0 before \"1\"\n/2 before \"2\"\n",
+                &[r#"/0 before "1""#, r#"/2 before "2""#],
             )),
         ),
         (
             "set /0 a x",
             Ok((
-                "<p a=\"x\"><b a=\"x\"/>t<b/></p>",
+                r#"<p a="x"><b a="x"/>t<b/></p>"#,
                 NUMBERED,
-                "/0 before \"1x\"\n/2 before \"2\"\n",
+                &[r#"/0 before "1x""#, r#"/2 before "2""#],
             )),
         ),
         // an empty value; a new attribute goes last, and one that is there keeps its place
         (
             "set /2 a",
             Ok((
-                "<p a=\"x\"><b a=\"x\"/>t<b a=\"\"/></p>",
+                r#"<p a="x"><b a="x"/>t<b a=""/></p>"#,
                 NUMBERED,
-                "/0 before \"1x\"\n/2 before \"2\"\n",
+                &[r#"/0 before "1x""#, r#"/2 before "2""#],
             )),
         ),
         (
             "set /0 b y",
             Ok((
-                "<p a=\"x\"><b a=\"x\" b=\"y\"/>t<b a=\"\"/></p>",
+                r#"<p a="x"><b a="x" b="y"/>t<b a=""/></p>"#,
                 NUMBERED,
-                "/0 before \"1x\"\n/2 before \"2\"\n",
+                &[r#"/0 before "1x""#, r#"/2 before "2""#],
             )),
         ),
         (
             "set /0 a ",
             Ok((
-                "<p a=\"x\"><b a=\"\" b=\"y\"/>t<b a=\"\"/></p>",
+                r#"<p a="x"><b a="" b="y"/>t<b a=""/></p>"#,
                 NUMBERED,
-                "/0 before \"1\"\n/2 before \"2\"\n",
+                &[r#"/0 before "1""#, r#"/2 before "2""#],
             )),
         ),
         // of a text, of nothing, and below a text
@@ -295,25 +310,25 @@ static ATTRIBUTES: Course = Course {
         (
             "unset / a",
             Ok((
-                "<p><b a=\"\" b=\"y\"/>t<b a=\"\"/></p>",
+                r#"<p><b a="" b="y"/>t<b a=""/></p>"#,
                 NUMBERED,
-                "/0 before \"1\"\n/2 before \"2\"\n",
+                &[r#"/0 before "1""#, r#"/2 before "2""#],
             )),
         ),
         (
             "unset /0 a",
             Ok((
-                "<p><b b=\"y\"/>t<b a=\"\"/></p>",
+                r#"<p><b b="y"/>t<b a=""/></p>"#,
                 NUMBERED,
-                "/0 before \"1\"\n/2 before \"2\"\n",
+                &[r#"/0 before "1""#, r#"/2 before "2""#],
             )),
         ),
         (
             "unset /2 a",
             Ok((
-                "<p><b b=\"y\"/>t<b/></p>",
+                r#"<p><b b="y"/>t<b/></p>"#,
                 NUMBERED,
-                "/0 before \"1\"\n/2 before \"2\"\n",
+                &[r#"/0 before "1""#, r#"/2 before "2""#],
             )),
         ),
     ],
@@ -324,7 +339,7 @@ static SHEETS: Course = Course {
     start: (
         "<p><b/>t<b/></p>",
         NUMBERED,
-        "/0 before \"1\"\n/2 before \"2\"\n",
+        &[r#"/0 before "1""#, r#"/2 before "2""#],
     ),
     rows: &[
         (
@@ -332,12 +347,52 @@ static SHEETS: Course = Course {
             Ok((
                 "<p><b/>t<b/></p>",
                 PLAIN,
-                "/0 before \"b\"\n/2 before \"b\"\n",
+                &[r#"/0 before "b""#, r#"/2 before "b""#],
             )),
         ),
         ("remove /3", Err(EditFault::NoPlace)),
-        ("sheet empty.css", Ok(("<p><b/>t<b/></p>", "", ""))),
+        ("sheet empty.css", Ok(("<p><b/>t<b/></p>", "", &[]))),
         ("remove /3", Err(EditFault::NoPlace)),
+    ],
+};
+
+/// The sheet replaced beside a style element, which stays and comes after each of them.
+static STYLE_ELEMENTS: Course = Course {
+    start: (
+        r#"<p><style>b::before{content:"s"}</style><b/></p>"#,
+        NUMBERED,
+        &[r#"/1 before "s""#],
+    ),
+    rows: &[
+        (
+            "sheet plain.css",
+            Ok((
+                r#"<p><style>b::before{content:"s"}</style><b/></p>"#,
+                PLAIN,
+                &[r#"/1 before "s""#],
+            )),
+        ),
+        (
+            "remove /0",
+            Ok(("<p><b/></p>", PLAIN, &[r#"/0 before "b""#])),
+        ),
+        ("remove /1", Err(EditFault::NoPlace)),
+        (
+            r#"insert / 1 <style>b::after{content:"s"}</style>"#,
+            Ok((
+                r#"<p><b/><style>b::after{content:"s"}</style></p>"#,
+                PLAIN,
+                &[r#"/0 before "b""#, r#"/0 after "s""#],
+            )),
+        ),
+        (
+            "sheet empty.css",
+            Ok((
+                r#"<p><b/><style>b::after{content:"s"}</style></p>"#,
+                "",
+                &[r#"/0 after "s""#],
+            )),
+        ),
     ],
 };
 
@@ -372,13 +427,14 @@ fn edit_of(alloc: Global, line: &str) -> Result<Edit, Fail> {
 fn is_in<L: Ledger>(
     alloc: Global,
     engine: &Engine,
-    state: &State,
+    state: &Dump,
     steps: &mut Steps<L>,
 ) -> Result<bool, Fail> {
-    let (document, sheet, dump) = state;
+    let (document, sheet, lines) = state;
     let Some(tree) = tree_of(alloc, document)? else {
         return Err(Fail::from("no document"));
     };
+    let dump = text_of(alloc, lines)?;
     let mut out = MemorySink::new(alloc, 1000, List::new(alloc))?;
     engine.show(alloc, &mut out, steps)?;
     Ok(
@@ -401,8 +457,35 @@ fn is_answered<L: Ledger>(
     foreseen == fault && answer == fault
 }
 
-/// The first line of a course that is answered otherwise, or leads to another state; none where each comes out.
-/// Where an edit is refused, the state is the one before it.
+/// The first line of a course that an engine answers otherwise, or that leads it to another state; none where each
+/// comes out. Where an edit is refused, the state is the one before it.
+fn first_wrong_line<L: Ledger>(
+    alloc: Global,
+    engine: &mut Engine,
+    course: &Course,
+    steps: &mut Steps<L>,
+) -> Result<Option<&'static str>, Fail> {
+    let mut state = &course.start;
+    if !is_in(alloc, engine, state, steps)? {
+        return Ok(Some("start"));
+    }
+    for (line, outcome) in course.rows {
+        let edit = edit_of(alloc, line)?;
+        let mut fault = None;
+        match outcome {
+            Ok(next) => state = next,
+            Err(refusal) => fault = Some(*refusal),
+        }
+        if !is_answered(alloc, engine, &edit, fault, steps)
+            || !is_in(alloc, engine, state, steps)?
+        {
+            return Ok(Some(line));
+        }
+    }
+    Ok(None)
+}
+
+/// The same from the start of the course on.
 fn first_wrong<L: Ledger>(
     rt: &HostRuntime,
     blank: Blank,
@@ -414,28 +497,11 @@ fn first_wrong<L: Ledger>(
 {
     let alloc = rt.alloc();
     let mut steps = Steps::<L>::open(rt, blank);
-    let mut state = &course.start;
-    let Some(tree) = tree_of(alloc, state.0)? else {
+    let Some(tree) = tree_of(alloc, course.start.0)? else {
         return Err(Fail::from("no document"));
     };
-    let mut engine = Engine::start(alloc, tree, state.1, &mut steps)?;
-    if !is_in(alloc, &engine, state, &mut steps)? {
-        return Ok(Some("start"));
-    }
-    for (line, outcome) in course.rows {
-        let edit = edit_of(alloc, line)?;
-        let mut fault = None;
-        match outcome {
-            Ok(next) => state = next,
-            Err(refusal) => fault = Some(*refusal),
-        }
-        if !is_answered(alloc, &mut engine, &edit, fault, &mut steps)
-            || !is_in(alloc, &engine, state, &mut steps)?
-        {
-            return Ok(Some(line));
-        }
-    }
-    Ok(None)
+    let mut engine = Engine::start(alloc, tree, course.start.1, &mut steps)?;
+    first_wrong_line(alloc, &mut engine, course, &mut steps)
 }
 
 /// The same, with steps that nobody reads.
@@ -460,6 +526,23 @@ fn edit_book<L: Ledger>(
     Ok(())
 }
 
+/// Does the edits of a course, each unless the document does not allow it.
+fn edit_by_rows<L: Ledger>(
+    alloc: Global,
+    book: &mut Book,
+    course: &Course,
+    steps: &mut Steps<L>,
+) -> Result<(), Fail>
+    requires { book.old.settled ≡ true }
+    ensures { book.new.settled ≡ true }
+{
+    'rows: for (line, _outcome) in course.rows {
+        let edit = edit_of(alloc, line)?;
+        edit_book(alloc, book, &edit, steps)?;
+    }
+    Ok(())
+}
+
 /// A book after the edits of a course.
 fn edited_book<L: Ledger>(rt: &HostRuntime, blank: Blank, course: &Course) -> Result<Book, Fail>
     requires name { blank.name ≡ L.name }
@@ -473,11 +556,19 @@ fn edited_book<L: Ledger>(rt: &HostRuntime, blank: Blank, course: &Course) -> Re
         return Err(Fail::from("no document"));
     };
     let mut book = Book::begin(alloc, &tree, course.start.1, &mut steps)?;
-    'rows: for (line, _outcome) in course.rows {
-        let edit = edit_of(alloc, line)?;
-        edit_book(alloc, &mut book, &edit, &mut steps)?;
-    }
+    edit_by_rows(alloc, &mut book, course, &mut steps)?;
     Ok(book)
+}
+
+/// The document of an engine after an edit.
+fn document_after<L: Ledger>(
+    alloc: Global,
+    engine: &mut Engine,
+    edit: &Edit,
+    steps: &mut Steps<L>,
+) -> Result<Tree, Fail> {
+    engine.apply(alloc, edit, steps)?;
+    Ok(engine.document(alloc)?)
 }
 
 /// The document `<p/>` once a text without characters is put in, which no script can say.
@@ -491,7 +582,6 @@ fn with_empty_text<L: Ledger>(rt: &HostRuntime, blank: Blank) -> Result<Tree, Fa
     let Some(tree) = tree_of(alloc, "<p/>")? else {
         return Err(Fail::from("no document"));
     };
-    let mut engine = Engine::start(alloc, tree, "", &mut steps)?;
     let mut builder = TreeBuilder::new(alloc);
     builder.text(Text::new(alloc))?;
     let edit = Edit::Insert {
@@ -499,8 +589,8 @@ fn with_empty_text<L: Ledger>(rt: &HostRuntime, blank: Blank) -> Result<Tree, Fa
         index: 0,
         fragment: builder.finish(),
     };
-    engine.apply(alloc, &edit, &mut steps)?;
-    Ok(engine.document(alloc)?)
+    let mut engine = Engine::start(alloc, tree, "", &mut steps)?;
+    document_after(alloc, &mut engine, &edit, &mut steps)
 }
 
 #[test]
@@ -548,26 +638,41 @@ fn attributes(rt: HostRuntime) -> Result<(), Fail> {
 #[test]
 fn sheets(rt: HostRuntime) -> Result<(), Fail> {
     assert_eq!(rt; wrong_line(&rt, &SHEETS)?, None);
+    assert_eq!(rt; wrong_line(&rt, &STYLE_ELEMENTS)?, None);
     Ok(())
 }
 
 /// The paths of the root and of its three children.
 static PATHS: [&[usize]; 4] = [&[], &[0], &[1], &[2]];
 
-#[test]
-fn a_book_by_itself(rt: HostRuntime) -> Result<(), Fail> {
-    let alloc = rt.alloc();
-    let book = edited_book::<Brand>(&rt, Blank::new(1), &FIRST_TO_LAST)?;
+/// Whether a book has the document of the last row, and tells the paths of its nodes.
+fn tells_its_document(alloc: Global, book: &Book) -> Result<bool, Fail>
+    requires { book.now.settled ≡ true }
+{
     let arena = book.arena();
     let expected = tree_of(alloc, MOVED.0)?.ok_or("no document")?;
-    assert!(rt; same_tree(&arena.to_tree(alloc)?, &expected));
-    for path in &PATHS {
-        let key = arena.at(&Path::of(alloc, path)?);
-        let Some(key) = key else {
-            return Err(Fail::from("no node"));
-        };
-        assert!(rt; arena.path_of(alloc, key)?.as_slice() == *path);
+    if !same_tree(&arena.to_tree(alloc)?, &expected) {
+        return Ok(false);
     }
+    for path in &PATHS {
+        let Some(key) = arena.at(&Path::of(alloc, path)?) else {
+            return Ok(false);
+        };
+        if arena.path_of(alloc, key)?.as_slice() != *path {
+            return Ok(false);
+        }
+    }
+    Ok(true)
+}
+
+fn the_moved_book_tells_its_document(rt: &HostRuntime) -> Result<bool, Fail> {
+    let book = edited_book::<Brand>(rt, Blank::new(1), &FIRST_TO_LAST)?;
+    tells_its_document(rt.alloc(), &book)
+}
+
+#[test]
+fn a_book_by_itself(rt: HostRuntime) -> Result<(), Fail> {
+    assert!(rt; the_moved_book_tells_its_document(&rt)?);
     Ok(())
 }
 

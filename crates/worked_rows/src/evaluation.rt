@@ -6,7 +6,7 @@ ghost use Rattle.counter_sets.specs.Sets.{is_by_peer};
 ghost use Rattle.box_eval.specs.Boxes.{generates_box};
 ghost use Rattle.box_eval.specs.Scopes.{AreBehindChildren, AreNew, first_boxes, last_boxes};
 
-use crate::cascade::arena_of;
+use crate::cascade::{arena_of, style_at};
 use box_eval::element::{close_element, eval_element};
 use box_eval::entry::{Closing, Entry};
 use box_eval::inputs::Inputs;
@@ -16,7 +16,6 @@ use counter_sets::counter_set::CounterSet;
 use counter_style_table::build::build;
 use css_reader::sheet::read_sheet;
 use mini_cascade::agent_sheet::AGENT_SHEET;
-use mini_cascade::style_of::style_of;
 use node_arena::arena::Arena;
 use plain_types::attr::Attr;
 use plain_types::box_id::BoxId;
@@ -46,28 +45,28 @@ static LIST_ITEMS: [Evaluated; 8] = [
         "(reversed list-item 4) marker '4. ' 0",
     ),
     (
-        "<ol reversed=\"\" start=\"5\"><li/></ol>",
+        r#"<ol reversed="" start="5"><li/></ol>"#,
         "",
         "(reversed list-item 6) (reversed list-item 5) marker '5. ' 0",
     ),
     (
-        "<ol start=\"5\"><li/></ol>",
+        r#"<ol start="5"><li/></ol>"#,
         "",
         "(list-item 4) (list-item 5) marker '5. ' 0",
     ),
     (
-        "<ol reversed=\"\" start=\"5\"><li/></ol>",
+        r#"<ol reversed="" start="5"><li/></ol>"#,
         "li{counter-reset:list-item 2}",
         "(reversed list-item 6) (reversed list-item 6, list-item 3) marker '3. ' 0",
     ),
     (
-        "<ol reversed=\"\" start=\"5\"><li value=\"9\"/></ol>",
+        r#"<ol reversed="" start="5"><li value="9"/></ol>"#,
         "",
         "(reversed list-item 6) (reversed list-item 9) marker '9. ' 0",
     ),
     // unless they name the counter
     (
-        "<ol reversed=\"\" start=\"5\"><li/></ol>",
+        r#"<ol reversed="" start="5"><li/></ol>"#,
         "li{counter-increment:list-item}",
         "(reversed list-item 6) (reversed list-item 7) marker '7. ' 0",
     ),
@@ -131,12 +130,12 @@ static CONTENTS: [Evaluated; 7] = [
     // a marker has the quotes of its element, and the next box the depth behind it
     (
         "<li/>",
-        "li{quotes:\"<\" \">\" \"(\" \")\"}li::marker{quotes:none;content:open-quote \"x\"}li::before{content:open-quote}",
+        r#"li{quotes:"<" ">" "(" ")"}li::marker{quotes:none;content:open-quote "x"}li::before{content:open-quote}"#,
         "(list-item 1) marker '<x' before '(' 2",
     ),
     (
         "<li/>",
-        "li{quotes:none}li::marker{content:open-quote \"x\" close-quote}",
+        r#"li{quotes:none}li::marker{content:open-quote "x" close-quote}"#,
         "(list-item 1) marker 'x' 0",
     ),
     // a counter that is made by its use is handed on, also where the style writes nothing
@@ -147,7 +146,7 @@ static CONTENTS: [Evaluated; 7] = [
     ),
     (
         "<p/>",
-        "p::before{content:counter(c)}p::after{content:counters(c,\".\",none)}",
+        r#"p::before{content:counter(c)}p::after{content:counters(c,".",none)}"#,
         "() before '0' after '' 0",
     ),
     (
@@ -170,7 +169,11 @@ static CONTENTS: [Evaluated; 7] = [
 
 /// Sheets for `p`, the depth before it, and what comes of it.
 static DEPTHS: [(&str, u64, &str); 5] = [
-    ("p::before{content:close-quote \"!\"}", 0, "() before '!' 0"),
+    (
+        r#"p::before{content:close-quote "!"}"#,
+        0,
+        "() before '!' 0",
+    ),
     (
         "p::before{content:no-close-quote open-quote}",
         0,
@@ -400,7 +403,7 @@ fn handed_behind<L: Ledger>(
     let Some(child) = page.arena.child(root, 0) else {
         return Ok(Some(inputs));
     };
-    let style = style_of(
+    let style = style_at(
         alloc,
         &page.arena,
         &page.agent,
@@ -449,7 +452,7 @@ fn evaluated<L: Ledger>(
 ) -> Result<Option<u64>, Memory> {
     let root = page.arena.root();
     let attrs = page.arena.attrs(root);
-    let style = style_of(
+    let style = style_at(
         alloc,
         &page.arena,
         &page.agent,

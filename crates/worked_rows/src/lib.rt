@@ -5,9 +5,11 @@
 //! | `tests` | runs of `marker_cli::run` that end with a fault; and `comes_out`, by which each row of a run is tried |
 //! | `dumps` | runs of `dump DOC SHEET`, and fronts of sheets and deep documents |
 //! | `scripts` | runs of `edit DOC SHEET SCRIPT` and of `gen SEED COUNT` |
+//! | `style_elements`, `style_attributes` | runs of both over documents that have these |
 //! | `tables` | runs of `table SHEET STYLE FROM TO`, with the author's styles |
 //! | `predefined` | the same with the predefined styles, at the ends of their ranges |
 //! | `cascade` | styles of elements, from the texts of a document and a sheet |
+//! | `matching` | which elements a selector matches, from the texts of a document and a selector |
 //! | `evaluation` | what boxes make of counters, quotes and content, from the same |
 //! | `contents` | what values of `content` give |
 //! | `references` | what content gives that refers to other elements |
@@ -36,6 +38,8 @@ mod engines;
 mod evaluation;
 pub mod listed;
 #[cfg(test)]
+mod matching;
+#[cfg(test)]
 mod predefined;
 #[cfg(test)]
 mod references;
@@ -45,6 +49,10 @@ mod rows;
 mod scripts;
 #[cfg(test)]
 mod starts;
+#[cfg(test)]
+mod style_attributes;
+#[cfg(test)]
+mod style_elements;
 #[cfg(test)]
 mod tables;
 #[cfg(test)]

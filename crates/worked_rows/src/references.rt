@@ -58,34 +58,34 @@ fn elements(alloc: Global) -> Result<Listed, Memory> {
 /// Values of `content`; the flat text, and the full text.
 static TEXTS: [(&str, &str, &str); 18] = [
     // the innermost counter, and all from the outermost in
-    ("target-counter(\"#x\", s)", "12", "12"),
-    ("target-counter(\"#x\", s, lower-roman)", "xii", "xii"),
-    ("target-counters(\"#x\", s, \".\")", "3.12", "3.12"),
-    ("target-counters(\"#x\", s, \".\", none)", ".", "."),
+    (r##"target-counter("#x", s)"##, "12", "12"),
+    (r##"target-counter("#x", s, lower-roman)"##, "xii", "xii"),
+    (r##"target-counters("#x", s, ".")"##, "3.12", "3.12"),
+    (r##"target-counters("#x", s, ".", none)"##, ".", "."),
     // a missing counter is a single 0
-    ("target-counter(\"#x\", c)", "0", "0"),
+    (r##"target-counter("#x", c)"##, "0", "0"),
     (
-        "target-counters(\"#x\", c, \".\", decimal-leading-zero)",
+        r##"target-counters("#x", c, ".", decimal-leading-zero)"##,
         "00",
         "00",
     ),
-    ("target-counter(\"#x\", c, none)", "", ""),
+    (r##"target-counter("#x", c, none)"##, "", ""),
     // the first of an id
-    ("target-text(\"#x\")", "one", "one"),
-    ("target-text(\"#x\", content)", "one", "one"),
+    (r##"target-text("#x")"##, "one", "one"),
+    (r##"target-text("#x", content)"##, "one", "one"),
     // boxes in the full text alone
-    ("\"a\" target-text(\"#x\", before) \"b\"", "ab", "aBb"),
-    ("target-text(\"#x\", after)", "", ""),
+    (r##""a" target-text("#x", before) "b""##, "ab", "aBb"),
+    (r##"target-text("#x", after)"##, "", ""),
     // `#` alone
-    ("target-text(\"#\")", "none", "none"),
+    (r##"target-text("#")"##, "none", "none"),
     // ids as written; urls of a document
-    ("target-text(\"#X\") target-text(\"x\")", "", ""),
-    ("target-counter(\"p.html#x\", s)", "", ""),
-    ("target-counters(\"\", s, \".\")", "", ""),
+    (r##"target-text("#X") target-text("x")"##, "", ""),
+    (r#"target-counter("p.html#x", s)"#, "", ""),
+    (r#"target-counters("", s, ".")"#, "", ""),
     // without a box
-    ("target-counter(\"#n\", s) target-text(\"#n\")", "t", "t"),
-    ("target-counters(\"#n\", s, \".\")", "", ""),
-    ("target-text(\"#n\", before)", "", ""),
+    (r##"target-counter("#n", s) target-text("#n")"##, "t", "t"),
+    (r##"target-counters("#n", s, ".")"##, "", ""),
+    (r##"target-text("#n", before)"##, "", ""),
 ];
 
 /// The pieces of a value of `content`.
@@ -131,8 +131,8 @@ fn references_give_texts(rt: HostRuntime) -> Result<(), Fail> {
 fn no_reference_is_circular(rt: HostRuntime) -> Result<(), Fail> {
     let alloc = rt.alloc();
     let table = build(alloc, &List::new(alloc))?;
-    let first = pieces(alloc, "\"P\" target-text(\"#b\", before)")?;
-    let second = pieces(alloc, "\"B\" target-text(\"#a\", before)")?;
+    let first = pieces(alloc, r##""P" target-text("#b", before)"##)?;
+    let second = pieces(alloc, r##""B" target-text("#a", before)"##)?;
     let mut targets = List::new(alloc);
     for (id, pieces) in [("a", &first), ("b", &second)] {
         targets.push(Target {
@@ -154,7 +154,7 @@ fn pieces_refer_to_ids(rt: HostRuntime) -> Result<(), Fail> {
     let alloc = rt.alloc();
     let pieces = pieces(
         alloc,
-        "\"#x\" target-text(\"#x\") target-counter(\"#\", s) target-counters(\"x\", s, \"#y\")",
+        r##""#x" target-text("#x") target-counter("#", s) target-counters("x", s, "#y")"##,
     )?;
     let wanted = [None, Some("x"), Some(""), None];
     assert_eq!(rt; pieces.len(), wanted.len());

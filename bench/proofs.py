@@ -1,0 +1,106 @@
+"""Times the proofs of crates for proofs.sh, in the folder of its first argument."""
+
+import os
+import re
+import subprocess
+import sys
+import tempfile
+import time
+from collections import Counter
+from pathlib import Path
+
+TICKS = os.sysconf("SC_CLK_TCK")
+
+
+def crates_from_the_bottom_up(text):
+    """The names in a crates.txt, each behind those that it uses."""
+    uses = dict(re.findall(r"^(\w+):(.*)$", text, re.MULTILINE))
+    ordered = []
+
+    def put(name):
+        if name in uses and name not in ordered:
+            for below in uses[name].split():
+                put(below)
+            ordered.append(name)
+
+    for name in uses:
+        put(name)
+    return ordered
+
+
+def processor_seconds(session):
+    """The processor time of all processes of a session, with that of their children that have ended."""
+    ticks = 0
+    for stat in Path("/proc").glob("[0-9]*/stat"):
+        try:
+            fields = stat.read_text().rpartition(")")[2].split()
+        except OSError:
+            continue
+        if int(fields[3]) == session:
+            ticks += sum(int(field) for field in fields[11:15])
+    return ticks / TICKS
+
+
+# What rattle keeps of a function stands in modules of these names below its own.
+OF_A_FUNCTION = re.compile(r"\.(?:Statement|Met|Symbol|Key|Kinds|Proof|Code|Named|Goals|Given|Answers|Invariants|Laws)\b")
+
+
+def part_of(crate, file):
+    """The function of whose proof this file is a part; "" for types, definitions and lemmas."""
+    if not file.startswith(f"Rattle-{crate}-proofs."):
+        return ""
+    name = file.removeprefix(f"Rattle-{crate}-proofs.").removesuffix(".oantt")
+    function = OF_A_FUNCTION.split(name, maxsplit=1)[0]
+    return function if function != name and re.fullmatch(r"[+a-z_][\w+]*", function.rpartition(".")[2]) else ""
+
+
+def check(crate, folder):
+    """The processor time of a crate's check at one job, and how much of it belongs to each part."""
+    parts, seen, spent = Counter(), set(), 0.0
+    with tempfile.TemporaryFile("w+") as log:
+        process = subprocess.Popen(["rt", "check", "--jobs", "1"], cwd=folder, start_new_session=True, stdout=log, stderr=log)
+        while process.poll() is None:
+            time.sleep(0.2)
+            files = {file.name for file in folder.glob("out/incremental/*/*.oantt")}
+            now = max(spent, processor_seconds(process.pid))
+            for file in (new := files - seen):
+                parts[part_of(crate, file)] += (now - spent) / len(new)
+            if new:
+                seen, spent = files, now
+        if process.returncode:
+            log.seek(0)
+            raise SystemExit(f"{crate} is not proved:\n{log.read()[-2000:]}")
+    return spent, parts
+
+
+def main():
+    work, names = Path(sys.argv[1]), sys.argv[2:]
+    print("| Crate | Seconds | Its slowest function | Seconds |\n|---|---|---|---|")
+    for crate in crates_from_the_bottom_up((work / "crates.txt").read_text()):
+        if names and crate not in names:
+            continue
+        folder = work / "crates" / crate
+        for below in crates_below(work, crate):
+            subprocess.run(["rt", "lib"], cwd=work / "crates" / below, check=True, stdout=subprocess.DEVNULL, stderr=subprocess.DEVNULL)
+        taken, parts = check(crate, folder)
+        del parts[""]
+        slowest, seconds = parts.most_common(1)[0] if parts else ("", 0)
+        print(f"| `{crate}` | {taken:.0f} | `{slowest.replace('.', '::')}` | {seconds:.0f} |", flush=True)
+
+
+def crates_below(work, crate):
+    ordered = crates_from_the_bottom_up((work / "crates.txt").read_text())
+    uses = dict(re.findall(r"^(\w+):(.*)$", (work / "crates.txt").read_text(), re.MULTILINE))
+    below = set()
+
+    def put(name):
+        for used in uses.get(name, "").split():
+            if used in uses and used not in below:
+                below.add(used)
+                put(used)
+
+    put(crate)
+    return [name for name in ordered if name in below]
+
+
+main()
