@@ -1,9 +1,10 @@
 //! The count of steps, by which a contract bounds how much work a call does.
 //!
-//! A step is one call of the cascade for an element (`style_of` of `mini_cascade`), or of one of the two calls
-//! that evaluate an element (`eval_element` and `close_element` of `box_eval`). Nothing else is a step today.
+//! A step is one call of the cascade for an element (`style_of` of `mini_cascade`), one of either of the two calls
+//! that evaluate an element (`eval_element` and `close_element` of `box_eval`), or one access to a record that is
+//! kept (`get`, `put` and `take` of a board of `snapshot_board`). Nothing else is a step.
 //! What takes a step is lent a `&mut Steps<L>` and ticks it once, so that a caller's clause can say how much
-//! the number rose, as `steps.new ≤ steps.old + 3 * size document`, three steps a node.
+//! the number rose, as `steps.new ≤ steps.old + 3 * element_count document`, three steps an element.
 //!
 //! The count takes no bytes when the program runs: contracts see a number, the code has none to read.
 //! The number has no end, so it never saturates and never wraps.
