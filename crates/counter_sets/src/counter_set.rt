@@ -1,10 +1,11 @@
 //! Sets that share their lists.
 
-ghost use Rattle.std.specs.Prelude.{◌≡◌, None, ◌++◌, ◌∷◌, [], ◌<◌, IfOk, IfSome, length, option_copied, false, unwrap_or};
+ghost use Rattle.std.specs.Prelude.{◌≡◌, ◌≢◌, ◌↔◌, None, Some, ◌++◌, ◌∷◌, [], ◌<◌, IfNone, IfOk, IfSome, IsTrue, length, option_copied, false, unwrap_or};
 ghost use Rattle.std.specs.Str.{chars};
 ghost use Rattle.counter_sets.specs.Sets.{AreDistinct, assigned, incremented, inherited, innermost, innermost_place, instantiated, is_missing_in, replaced_place, change_at, with_value};
 
-use crate::counters::{copy_valued_in, copy_with_value, copy_without, is_missing_in, last_place};
+use crate::counters::{are_equal, copy_with_value, copy_without, is_missing_in, last_place};
+use crate::inheriting::{copy_inherited, is_inherited};
 use plain_types::box_id::BoxId;
 use plain_types::count::{Count, add_counts};
 use plain_types::counter::Counter;
@@ -35,6 +36,14 @@ impl Model for CounterSet {
     ghost invariant = { λ set. AreDistinct set.counters.value };
 }
 
+#[cfg(test)]
+impl CounterSet {
+    /// Whether both sets hold one list in memory.
+    pub(crate) fn shares_with(&self, other: &CounterSet) -> bool {
+        Rc::ptr_eq(&self.counters, &other.counters)
+    }
+}
+
 impl CounterSet {
     /// The set without counters.
     pub fn empty(alloc: Global) -> Result<CounterSet, Memory>
@@ -44,8 +53,10 @@ impl CounterSet {
     }
 
     /// The set that a box inherits (CSS Lists 3, 4.4): the parent's counters, then those that the sibling
-    /// before it has besides, each with its value in the set of the box just before in tree order. It takes
-    /// time in the product of the sets' lengths.
+    /// before it has besides, each with its value in the set of the box just before in tree order. Where one
+    /// of these three is that set, its list is shared, as by `share`, and none is made. It takes time in the product
+    /// of the sets' lengths at worst; where counters that are the same have the same places, only those that the
+    /// sibling has besides are sought elsewhere.
     pub fn inherit(
         alloc: Global,
         parent: &CounterSet,
@@ -54,16 +65,11 @@ impl CounterSet {
     ) -> Result<CounterSet, Memory>
         ensures set { IfOk result (λ set. set ≡ inherited parent.now (option_copied sibling.entry) (option_copied preceding.entry)) }
     {
+        if let Some(set) = find_inherited(parent, sibling, preceding) {
+            return set.share(alloc);
+        }
         let values = counters_of(preceding);
-        let mut counters = List::new(alloc);
-        for counter in parent.as_slice() {
-            counters.push(copy_valued_in(alloc, values, counter)?)?;
-        }
-        for counter in counters_of(sibling) {
-            if is_missing_in(parent.as_slice(), counter) {
-                counters.push(copy_valued_in(alloc, values, counter)?)?;
-            }
-        }
+        let counters = copy_inherited(alloc, parent.as_slice(), counters_of(sibling), values)?;
         CounterSet::of(alloc, counters)
     }
 
@@ -88,7 +94,8 @@ impl CounterSet {
     }
 
     /// The set with the innermost counter of the name raised (CSS Lists 3, 4.2), saturated. Where there is
-    /// none, the box `creator` creates one with 0 first. It takes time linear in the set's length.
+    /// none, the box `creator` creates one with 0 first. Where the value stays as it is, the list is shared, as
+    /// by `share`, and none is made. It takes time linear in the set's length.
     pub fn increment(
         &self,
         alloc: Global,
@@ -109,7 +116,8 @@ impl CounterSet {
     }
 
     /// The set with another value for the innermost counter of the name (CSS Lists 3, 4.2). Where there is
-    /// none, the box `creator` creates one. It takes time linear in the set's length.
+    /// none, the box `creator` creates one. Where the counter has that value already, the list is shared, as by
+    /// `share`, and none is made. It takes time linear in the set's length.
     pub fn assign(
         &self,
         alloc: Global,
@@ -135,6 +143,14 @@ impl CounterSet {
             Ok(counters) => Ok(CounterSet { counters }),
             Err(_) => CounterSet::of(alloc, self.counters.duplicate(alloc)?),
         }
+    }
+
+    /// Whether both sets have the same counters with the same values, in the same order. It takes no memory, and time
+    /// linear in the sets' lengths, also where they share a list.
+    pub fn is_same(&self, other: &CounterSet) -> bool
+        ensures test { IsTrue result ↔ (self.now ≡ other.now) }
+    {
+        are_equal(self.as_slice(), other.as_slice())
     }
 
     /// The innermost counter of the name. It takes no memory, and time linear in the set's length.
@@ -171,23 +187,44 @@ impl CounterSet {
         last_place(self.as_slice(), name)
     }
 
+    /// Whether this is the set that a box inherits from these.
+    fn is_inherited(
+        &self,
+        parent: &CounterSet,
+        sibling: Option<&CounterSet>,
+        preceding: Option<&CounterSet>,
+    ) -> bool
+        ensures test { IsTrue result ↔ (self.now ≡ inherited parent.now (option_copied sibling.entry) (option_copied preceding.entry)) }
+    {
+        is_inherited(
+            self.as_slice(),
+            parent.as_slice(),
+            counters_of(sibling),
+            counters_of(preceding),
+        )
+    }
+
     /// The place of the counter whose place a new one of this name takes.
     fn replaced_place(&self, parent: &CounterSet, name: &str) -> Option<usize>
         ensures place { result ≡ replaced_place (is_missing_in parent.now) self.now (chars name.now) }
         ensures within { IfSome result (λ place. place < length self.now) }
     {
         let place = self.innermost_place(name)?;
-        if is_missing_in(parent.as_slice(), &self.as_slice()[place]) {
+        if is_missing_in(parent.as_slice(), place, &self.as_slice()[place]) {
             Some(place)
         } else {
             None
         }
     }
 
-    /// The set with another value for the counter at a place.
+    /// The set with this value for the counter at a place.
     fn with_value(&self, alloc: Global, place: usize, value: Count) -> Result<CounterSet, Memory>
+        requires within { place < length self.now }
         ensures set { IfOk result (λ set. set ≡ change_at (with_value (λ _. value)) self.now place) }
     {
+        if self.as_slice()[place].value == value {
+            return self.share(alloc);
+        }
         CounterSet::of(
             alloc,
             copy_with_value(alloc, self.as_slice(), place, value)?,
@@ -214,6 +251,27 @@ impl CounterSet {
         })?;
         CounterSet::of(alloc, counters)
     }
+}
+
+/// The first of the sets that is the one that a box inherits from them.
+fn find_inherited<'a>(
+    parent: &'a CounterSet,
+    sibling: Option<&'a CounterSet>,
+    preceding: Option<&'a CounterSet>,
+) -> Option<&'a CounterSet>
+    ensures found { IfSome result (λ set. set.now ≡ inherited parent.now (option_copied sibling.entry) (option_copied preceding.entry)) }
+    ensures parent { IfNone result (parent.now ≢ inherited parent.now (option_copied sibling.entry) (option_copied preceding.entry)) }
+    ensures sibling { IfNone result (option_copied sibling.entry ≢ Some (inherited parent.now (option_copied sibling.entry) (option_copied preceding.entry))) }
+    ensures preceding { IfNone result (option_copied preceding.entry ≢ Some (inherited parent.now (option_copied sibling.entry) (option_copied preceding.entry))) }
+{
+    for set in [Some(parent), sibling, preceding] {
+        if let Some(set) = set
+            && set.is_inherited(parent, sibling, preceding)
+        {
+            return Some(set);
+        }
+    }
+    None
 }
 
 /// The counters of a set, and none where there is no set.

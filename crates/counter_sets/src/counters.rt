@@ -1,9 +1,9 @@
 //! Lists of counters.
 
-ghost use Rattle.std.specs.Prelude.{◌≡◌, ◌<◌, IfOk, IfSome, find, length, option_copied, remove};
+ghost use Rattle.std.specs.Prelude.{◌≡◌, ◌↔◌, ◌<◌, IfOk, IfSome, IsSomeAnd, IsTrue, find, length, option_copied, remove, slice_get, true};
 ghost use Rattle.std.specs.List.{list_any};
 ghost use Rattle.std.specs.Str.{chars};
-ghost use Rattle.counter_sets.specs.Sets.{change_at, is_missing_in, is_named, is_same, last_place, valued_in, with_value};
+ghost use Rattle.counter_sets.specs.Sets.{AreDistinct, change_at, is_missing_in, is_named, is_same, last_place, with_value};
 
 use plain_types::count::Count;
 use plain_types::counter::Counter;
@@ -26,10 +26,45 @@ fn is_same(first: &Counter, second: &Counter) -> bool
     is_named(first.name.as_str(), second) && first.creator == second.creator
 }
 
-/// The counter in a list that is the same as this one.
-fn find_same<'a>(counters: &'a [Counter], counter: &Counter) -> Option<&'a Counter>
+/// Whether the first is the second with this value.
+pub(crate) fn is_with_value(first: &Counter, second: &Counter, value: Count) -> bool
+    ensures test { IsTrue result ↔ (first.now ≡ with_value (λ _. value) second.now) }
+{
+    is_same(first, second) && first.reversed == second.reversed && first.value == value
+}
+
+/// Whether both lists have the same counters with the same values, in the same order.
+pub(crate) fn are_equal(first: &[Counter], second: &[Counter]) -> bool
+    ensures test { IsTrue result ↔ (first.now ≡ second.now) }
+{
+    first.len() == second.len()
+        && first
+            .iter()
+            .zip(second)
+            .all(|(one, other)| is_with_value(one, other, other.value))
+}
+
+/// Whether the counter at a place is the same as this one.
+fn is_same_at(counters: &[Counter], place: usize, counter: &Counter) -> bool
+    ensures test { IsTrue result ↔ IsSomeAnd (slice_get counters.now place) (λ other. is_same counter.now other ≡ true) }
+{
+    counters
+        .get(place)
+        .is_some_and(|other| is_same(counter, other))
+}
+
+/// The counter in a list that is the same as this one. It is looked for at this place first.
+pub(crate) fn find_same<'a>(
+    counters: &'a [Counter],
+    place: usize,
+    counter: &Counter,
+) -> Option<&'a Counter>
+    requires distinct { AreDistinct counters.now }
     ensures found { option_copied result ≡ find (is_same counter.now) counters.now }
 {
+    if is_same_at(counters, place, counter) {
+        return counters.get(place);
+    }
     counters.iter().find(|other| is_same(counter, other))
 }
 
@@ -40,11 +75,11 @@ fn contains(counters: &[Counter], counter: &Counter) -> bool
     counters.iter().any(|other| is_same(counter, other))
 }
 
-/// Whether no counter in a list is the same as this one.
-pub(crate) fn is_missing_in(counters: &[Counter], counter: &Counter) -> bool
+/// Whether no counter in a list is the same as this one. It is looked for at this place first.
+pub(crate) fn is_missing_in(counters: &[Counter], place: usize, counter: &Counter) -> bool
     ensures test { result ≡ is_missing_in counters.now counter.now }
 {
-    !contains(counters, counter)
+    !(is_same_at(counters, place, counter) || contains(counters, counter))
 }
 
 /// The place of the last counter of a name.
@@ -60,21 +95,6 @@ pub(crate) fn last_place(counters: &[Counter], name: &str) -> Option<usize>
         front = before;
     }
     None
-}
-
-/// A copy of the counter, with the value that it has among these, where it is there.
-pub(crate) fn copy_valued_in(
-    alloc: Global,
-    counters: &[Counter],
-    counter: &Counter,
-) -> Result<Counter, Memory>
-    ensures copy { IfOk result (λ copy. copy ≡ valued_in counters.now counter.now) }
-{
-    let mut copy = counter.duplicate(alloc)?;
-    if let Some(same) = find_same(counters, counter) {
-        copy.value = same.value;
-    }
-    Ok(copy)
 }
 
 /// Copies of the counters but for that at a place.

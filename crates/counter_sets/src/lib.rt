@@ -3,7 +3,9 @@
 //! A `CounterSet` holds counters, the innermost of a name last. A box inherits its set from its parent, the
 //! sibling before it and the box just before it; `counter-reset` instantiates counters in it,
 //! `counter-increment` and `counter-set` change the innermost of a name, and `counter()` reads that. A set
-//! never changes: each of these calls makes a new one, and `share` hands out the same one again.
+//! never changes: each of these calls makes a new one, and `share` hands out the same one again. Where a box
+//! inherits a set that it was lent, or a counter keeps its value, the set is shared too, so that boxes that count
+//! nothing hold one list.
 //!
 //! A new counter takes the place of one that the box itself or an earlier sibling created. A `CounterSet`
 //! knows no siblings. It looks into the parent's set: in the set of a box, the counters that the parent's set
@@ -22,5 +24,6 @@
 
 pub mod counter_set;
 pub mod counters;
+mod inheriting;
 #[cfg(test)]
 mod tests;

@@ -32,7 +32,7 @@ fn reset(
         reversed: false,
         value: 0,
     };
-    if is_missing_in(set.as_slice(), &counter) {
+    if is_missing_in(set.as_slice(), 0, &counter) {
         return set.instantiate(alloc, parent, counter);
     }
     set.share(alloc)
@@ -119,7 +119,57 @@ fn a_shared_set_is_the_same(rt: HostRuntime) -> Result<(), Fail> {
     let root = CounterSet::empty(alloc)?;
     let set = reset(alloc, &root, &root, "n", 3)?;
     let shared = set.share(alloc)?;
+    assert!(rt; shared.shares_with(&set) && shared.is_same(&set));
     let changed = shared.assign(alloc, &root, &Text::from_str(alloc, "n")?, 5, element(4))?;
     assert!(rt; has(&set, &[(3, 0)]) && has(&shared, &[(3, 0)]) && has(&changed, &[(3, 5)]));
+    assert!(rt; !changed.shares_with(&set) && !changed.is_same(&set));
+    let again = reset(alloc, &root, &root, "n", 3)?;
+    assert!(rt; !again.shares_with(&set) && again.is_same(&set));
+    Ok(())
+}
+
+// which of the sets that a box inherits from lends its list
+#[test]
+fn inherited_lists_are_shared(rt: HostRuntime) -> Result<(), Fail> {
+    let alloc = rt.alloc();
+    let n = Text::from_str(alloc, "n")?;
+    let root = CounterSet::empty(alloc)?;
+    let parent = reset(alloc, &root, &root, "n", 0)?;
+    let sibling = parent.increment(alloc, &root, &n, 1, element(1))?;
+    let nested = sibling.increment(alloc, &root, &n, 1, element(2))?;
+    let deeper = reset(alloc, &nested, &nested, "n", 3)?;
+    for (row, (own, before, preceding, lends)) in [
+        (&root, None, None, &root),
+        (&parent, None, None, &parent),
+        (&parent, None, Some(&parent), &parent),
+        (&parent, Some(&parent), Some(&parent), &parent),
+        (&parent, Some(&sibling), Some(&sibling), &sibling),
+        (&parent, Some(&sibling), Some(&nested), &nested),
+        (&root, Some(&sibling), None, &sibling),
+    ]
+    .into_iter()
+    .enumerate()
+    {
+        let set = CounterSet::inherit(alloc, own, before, preceding)?;
+        assert!(rt; set.shares_with(lends), "row {row}");
+    }
+    let set = CounterSet::inherit(alloc, &parent, Some(&sibling), Some(&deeper))?;
+    assert!(rt; has(&set, &[(0, 2)]) && has(&parent, &[(0, 0)]) && has(&sibling, &[(0, 1)]));
+    Ok(())
+}
+
+// what is added to the counter `n`, or which value it takes, and whether the list is shared then
+#[test]
+fn lists_without_a_change_are_shared(rt: HostRuntime) -> Result<(), Fail> {
+    let alloc = rt.alloc();
+    let n = Text::from_str(alloc, "n")?;
+    let root = CounterSet::empty(alloc)?;
+    for (value, by, shared) in [(4, 0, true), (4, 1, false), (COUNT_HIGH, 1, true)] {
+        let set = root.assign(alloc, &root, &n, value, element(7))?;
+        let after = set.increment(alloc, &root, &n, by, element(8))?;
+        assert!(rt; after.shares_with(&set) == shared, "{value} and {by}");
+        let after = set.assign(alloc, &root, &n, value, element(8))?;
+        assert!(rt; after.shares_with(&set), "{value}");
+    }
     Ok(())
 }

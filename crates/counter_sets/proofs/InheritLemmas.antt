@@ -1,0 +1,166 @@
+-- What boxes inherit, found in a list.
+use Rattle.std.proofs.Common.{◌≡◌, ◌≢◌, ◌+◌, ◌∷◌, ◌++◌, ◌&&◌, ◌||◌, ◌==◌, ◌<◌, ℕ, zero, suc, ℤ, List, [], Bool, true, false, cond, Option, Some, None, length, take, drop, map, get_or, refl, sym, ap, ◌∙◌, arith, inl, inr, true≢false, append_assoc}
+use Rattle.std.specs.Prelude.{IfNone, IsSomeAnd, filter, find, option_copied, slice_get}
+use Rattle.std.specs.Slice.{IsItemAt}
+use Rattle.std.proofs.lemmas.Option.{slice_get_past, slice_get_read}
+use denote.Ref.{Bor}
+use Rattle.std.specs.Cmp.Lexicographic.{nat_list_eq_equiv}
+use Rattle.std.specs.List.{list_any}
+use Rattle.std.proofs.lemmas.Bool.{cases_Bool}
+use Rattle.std.proofs.lemmas.Bool.Decides.{Decides-eqb, nat_tests}
+use Rattle.std.proofs.lemmas.List.{append_cancel_left, append-nil, map-append, take_more, take-append-drop}
+use Rattle.std.proofs.lemmas.List.Elements.{filter-append}
+use Rattle.plain_types.specs.declared.box_id.BoxId.{BoxId}
+use Rattle.plain_types.specs.declared.box_kind.BoxKind.{BoxKind}
+use Rattle.plain_types.specs.declared.box_kind.BoxKind.TheVariants.{Element, Marker, Before, After}
+use Rattle.plain_types.specs.declared.counter.Counter.{Counter}
+use Rattle.counter_sets.specs.Sets.{AreDistinct, change_at, is_missing_in, is_named, is_same, is_same_box, is_same_kind, with_value}
+use Rattle.counter_sets.proofs.DistinctLemmas.{lacking}
+
+-- Counters that are the same as one are the same as each other.
+
+and_left : (a b : Bool) → (a && b) ≡ true → a ≡ true
+and_left true b h = refl
+and_left false b h = h
+
+and_right : (a b : Bool) → (a && b) ≡ true → b ≡ true
+and_right true b h = h
+and_right false b h = absurd (true≢false (sym h))
+
+kind_is : (a b : BoxKind) → is_same_kind a b ≡ true → a ≡ b
+kind_is Element Element h = refl
+kind_is Marker Marker h = refl
+kind_is Before Before h = refl
+kind_is After After h = refl
+kind_is _ _ h = absurd (true≢false (sym h))
+
+box_is : (a b : BoxId) → is_same_box a b ≡ true → a ≡ b
+box_is a b h =
+    let keys : a.key ≡ b.key = (Decides-eqb a.key b.key).0 (and_left (a.key == b.key) (is_same_kind a.kind b.kind) h) in
+    let kinds : a.kind ≡ b.kind = kind_is a.kind b.kind (and_right (a.key == b.key) (is_same_kind a.kind b.kind) h) in
+    ap (λ (key : ℕ). record a { key = key }) keys ∙ ap (λ (kind : BoxKind). record b { kind = kind }) kinds
+
+same_alike : (a b c : Counter) → is_same a b ≡ true → is_same b c ≡ is_same a c
+same_alike a b c h =
+    ap (λ t. t && is_same_box b.creator c.creator) (sym (nat_list_eq_equiv.congr a.name b.name c.name (and_left (is_named a.name b) (is_same_box a.creator b.creator) h)))
+    ∙ ap (λ (creator : BoxId). is_named a.name c && is_same_box creator c.creator) (sym (box_is a.creator b.creator (and_right (is_named a.name b) (is_same_box a.creator b.creator) h)))
+
+any_alike : (a b : Counter) (set : List Counter) → is_same a b ≡ true → list_any (is_same b) set ≡ list_any (is_same a) set
+any_alike a b [] h = refl
+any_alike a b (c ∷ set) h = ap (λ t. t || list_any (is_same b) set) (same_alike a b c h) ∙ ap (λ t. is_same a c || t) (any_alike a b set h)
+
+-- A counter that is looked for at a place first.
+
+pub any_there : (test : Counter → Bool) (set : List Counter) (place : ℕ) → IsSomeAnd (slice_get set place) (λ other. test other ≡ true) → list_any test set ≡ true
+any_there test [] place there = absurd there
+any_there test (c ∷ set) zero there = rw there refl
+any_there test (c ∷ set) (suc place) there = elim (cases_Bool (test c)) [
+  | inl e ↦ rw e refl
+  | inr e ↦ rw e (any_there test set place there)
+]
+
+pub found_there : (counter : Counter) (set : List Counter) (place : ℕ) → AreDistinct set → IsSomeAnd (slice_get set place) (λ other. is_same counter other ≡ true) → slice_get set place ≡ find (is_same counter) set
+found_there counter [] place h there = absurd there
+found_there counter (c ∷ set) zero h there = rw there refl
+found_there counter (c ∷ set) (suc place) h there = elim (cases_Bool (is_same counter c)) [
+  | inl e ↦ absurd (true≢false (sym (any_alike counter c set e ∙ any_there (is_same counter) set place there) ∙ lacking (list_any (is_same c) set) h.0))
+  | inr e ↦ rw e (found_there counter set place h.1 there)
+]
+
+-- A list that begins with what a list adds.
+
+module _ {X Y : Type 0} (keep : X → Bool) (f : X → Y) where
+  kept_more : (xs : List X) (i : ℕ) (x : X) → i < length xs → x ≡ get_or xs i x → keep x ≡ true → map f (filter keep (take (i + 1) xs)) ≡ map f (filter keep (take i xs)) ++ f x ∷ []
+  kept_more xs i x below read kept =
+      ap (λ ys. map f (filter keep ys)) (take_more xs i x below ∙ ap (λ y. take i xs ++ y ∷ []) (sym read))
+      ∙ ap (map f) (filter-append keep (take i xs) (x ∷ []))
+      ∙ map-append f (filter keep (take i xs)) (filter keep (x ∷ []))
+      ∙ ap (λ b. map f (filter keep (take i xs)) ++ map f (cond b (x ∷ []) [])) kept
+
+  pub skipped_more : (xs : List X) (i : ℕ) (x : X) → i < length xs → x ≡ get_or xs i x → keep x ≡ false → map f (filter keep (take (i + 1) xs)) ≡ map f (filter keep (take i xs))
+  skipped_more xs i x below read skipped =
+      ap (λ ys. map f (filter keep ys)) (take_more xs i x below ∙ ap (λ y. take i xs ++ y ∷ []) (sym read))
+      ∙ ap (map f) (filter-append keep (take i xs) (x ∷ []))
+      ∙ map-append f (filter keep (take i xs)) (filter keep (x ∷ []))
+      ∙ ap (λ b. map f (filter keep (take i xs)) ++ map f (cond b (x ∷ []) [])) skipped
+      ∙ append-nil (map f (filter keep (take i xs)))
+
+  -- one more item at the end of the copies
+  pub pushed_more : (xs : List X) (i : ℕ) (x : X) (before copies : List Y) → i < length xs → x ≡ get_or xs i x → keep x ≡ true → copies ≡ before ++ map f (filter keep (take i xs)) → copies ++ f x ∷ [] ≡ before ++ map f (filter keep (take (i + 1) xs))
+  pushed_more xs i x before copies below read kept so_far =
+      ap (λ ys. ys ++ f x ∷ []) so_far ∙ append_assoc before (map f (filter keep (take i xs))) (f x ∷ [])
+      ∙ ap (λ ys. before ++ ys) (sym (kept_more xs i x below read kept))
+
+  -- one more item taken from the front of a list
+  pub past_more : (xs : List X) (i : ℕ) (x : X) (all rest past : List Y) → i < length xs → x ≡ get_or xs i x → keep x ≡ true → all ≡ map f (filter keep (take i xs)) ++ rest → rest ≡ f x ∷ past → all ≡ map f (filter keep (take (i + 1) xs)) ++ past
+  past_more xs i x all rest past below read kept so_far next =
+      so_far ∙ ap (λ ys. map f (filter keep (take i xs)) ++ ys) next ∙ sym (append_assoc (map f (filter keep (take i xs))) (f x ∷ []) past)
+      ∙ ap (λ ys. ys ++ past) (sym (kept_more xs i x below read kept))
+
+  kept_split : (xs : List X) (i : ℕ) (x : X) → i < length xs → x ≡ get_or xs i x → keep x ≡ true → map f (filter keep xs) ≡ map f (filter keep (take i xs)) ++ f x ∷ map f (filter keep (drop (i + 1) xs))
+  kept_split xs i x below read kept =
+      let front = map f (filter keep (take i xs)) in
+      let behind = map f (filter keep (drop (i + 1) xs)) in
+      sym (ap (λ ys. map f (filter keep ys)) (take-append-drop (i + 1) xs))
+      ∙ ap (map f) (filter-append keep (take (i + 1) xs) (drop (i + 1) xs))
+      ∙ map-append f (filter keep (take (i + 1) xs)) (filter keep (drop (i + 1) xs))
+      ∙ ap (λ ys. ys ++ behind) (kept_more xs i x below read kept)
+      ∙ append_assoc front (f x ∷ []) behind
+
+  -- a list that goes on otherwise doesn't begin with all
+  pub stuck : (xs : List X) (i : ℕ) (x : X) (all rest : List Y) → i < length xs → x ≡ get_or xs i x → keep x ≡ true → all ≡ map f (filter keep (take i xs)) ++ rest → ((past : List Y) → rest ≢ f x ∷ past) → (past : List Y) → all ≢ map f (filter keep xs) ++ past
+  stuck xs i x all rest below read kept so_far otherwise past e =
+      let front = map f (filter keep (take i xs)) in
+      let behind = map f (filter keep (drop (i + 1) xs)) in
+      otherwise (behind ++ past)
+      (append_cancel_left front rest (f x ∷ (behind ++ past))
+      (sym so_far ∙ e ∙ ap (λ ys. ys ++ past) (kept_split xs i x below read kept) ∙ append_assoc front (f x ∷ behind) past))
+
+-- The parent's counters, and those that the sibling adds.
+
+all_missing : (set : List Counter) → filter (is_missing_in []) set ≡ set
+all_missing [] = refl
+all_missing (c ∷ set) = ap (λ counters. c ∷ counters) (all_missing set)
+
+module _ (change : Counter → Counter) (parent added : List Counter) where
+  -- what a box inherits, as what two lists add
+  pub inherited_parts : map change (filter (is_missing_in []) parent) ++ map change added ≡ map change (parent ++ added)
+  inherited_parts = ap (λ counters. map change counters ++ map change added) (all_missing parent) ∙ sym (map-append change parent added)
+
+  pub not_parent : (all : List Counter) → ((past : List Counter) → all ≢ map change (filter (is_missing_in []) parent) ++ past) → all ≢ map change (parent ++ added)
+  not_parent all otherwise e = otherwise (map change added) (e ∙ sym inherited_parts)
+
+  pub past_parent : (all others : List Counter) → all ≡ map change (filter (is_missing_in []) parent) ++ others → all ≡ map change (parent ++ added) → others ≡ map change added ++ []
+  past_parent all others begins e =
+      append_cancel_left (map change (filter (is_missing_in []) parent)) others (map change added ++ [])
+      (sym begins ∙ e ∙ sym inherited_parts ∙ ap (λ counters. map change (filter (is_missing_in []) parent) ++ counters) (sym (append-nil (map change added))))
+
+  pub whole : (all others rest : List Counter) → all ≡ map change (filter (is_missing_in []) parent) ++ others → others ≡ map change added ++ rest → rest ≡ [] → all ≡ map change (parent ++ added)
+  whole all others rest begins goes ends =
+      begins ∙ ap (λ counters. map change (filter (is_missing_in []) parent) ++ counters) (goes ∙ ap (λ counters. map change added ++ counters) ends ∙ append-nil (map change added))
+      ∙ inherited_parts
+
+  pub nothing_past : (all others rest : List Counter) → all ≡ map change (filter (is_missing_in []) parent) ++ others → others ≡ map change added ++ rest → all ≡ map change (parent ++ added) → rest ≡ []
+  nothing_past all others rest begins goes e =
+      append_cancel_left (map change added) rest [] (sym goes ∙ past_parent all others begins e)
+
+pub empty_is : (set : List Counter) → (length set == 0) ≡ true → set ≡ []
+empty_is [] h = refl
+empty_is (c ∷ set) h = let e : (suc (length set) == 0) ≡ false = grind (arith, nat_tests) in absurd (true≢false (sym h ∙ e))
+
+-- The value that a counter has already.
+
+pub change_kept : (value : ℤ) (set : List Counter) (place : ℕ) (counter : Counter) → place < length set → counter ≡ get_or set place counter → counter.value ≡ value → set ≡ change_at (with_value (λ _. value)) set place
+change_kept value [] place counter below read same = refl
+change_kept value (c ∷ set) zero counter below read same = ap (λ (v : ℤ). record c { value = v } ∷ set) (ap (λ (d : Counter). d.value) (sym read) ∙ same)
+change_kept value (c ∷ set) (suc place) counter below read same = ap (λ counters. c ∷ counters) (change_kept value set place counter (omega arith) read same)
+
+-- Options of lent counters.
+
+pub lent_at : (counters : List Counter) (place : ℕ) (lent : Option (Bor Counter)) → IsItemAt counters place lent → option_copied lent ≡ slice_get counters place
+lent_at counters place None h = sym (slice_get_past counters place h.3)
+lent_at counters place (Some counter) h = sym (slice_get_read counters (length counters) place counter.now refl h.3.0 h.1)
+
+pub if_none : {X : Type 0} (o : Option X) (P : Type 0) → P → IfNone o P
+if_none None P h = h
+if_none (Some x) P h = tt

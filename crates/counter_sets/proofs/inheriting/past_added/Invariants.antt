@@ -1,0 +1,6 @@
+use Rattle.std.proofs.Common.{◌≡◌, ◌++◌, filter, map, take}
+use Rattle.counter_sets.specs.Sets.{is_missing_in, valued_in}
+use Rattle.counter_sets.proofs.inheriting.past_added.Given as goal
+
+abbrev pub invariant-loop-place : goal.invariant-loop-place
+invariant-loop-place l = l.list ≡ map (valued_in l.values) (filter (is_missing_in l.others) (take l.place l.counters)) ++ l.past

@@ -1,0 +1,116 @@
+//! The counters that a box inherits (CSS Lists 3, 4.4).
+
+ghost use Rattle.std.specs.Prelude.{◌≡◌, ◌≢◌, ◌↔◌, ◌++◌, ◌∷◌, IfNone, IfOk, IfSome, IsTrue, List, OnOk, Some, filter, map};
+ghost use Rattle.plain_types.specs.declared.counter.Counter.{Counter};
+ghost use Rattle.counter_sets.specs.Sets.{AreDistinct, inherited, is_missing_in, valued_in, with_value};
+
+use crate::counters::{find_same, is_missing_in, is_with_value};
+use plain_types::count::Count;
+use plain_types::counter::Counter;
+use plain_types::duplicate::Duplicate;
+use plain_types::list::List;
+use plain_types::memory::Memory;
+use std::alloc::Global;
+
+/// The counters that a box inherits from its parent's and those of the sibling before it, each with its value among
+/// `values`.
+pub(crate) fn copy_inherited(
+    alloc: Global,
+    parent: &[Counter],
+    sibling: &[Counter],
+    values: &[Counter],
+) -> Result<List<Counter>, Memory>
+    requires distinct { AreDistinct values.now }
+    ensures copy { IfOk result (λ copy. copy ≡ inherited parent.now (Some sibling.now) (Some values.now)) }
+{
+    let mut list = List::new(alloc);
+    push_added(alloc, &mut list, &[], parent, values)?;
+    push_added(alloc, &mut list, parent, sibling, values)?;
+    Ok(list)
+}
+
+/// Whether `list` has the counters that a box inherits, as `copy_inherited` has them. It takes no memory.
+pub(crate) fn is_inherited(
+    list: &[Counter],
+    parent: &[Counter],
+    sibling: &[Counter],
+    values: &[Counter],
+) -> bool
+    requires distinct { AreDistinct values.now }
+    ensures test { IsTrue result ↔ (list.now ≡ inherited parent.now (Some sibling.now) (Some values.now)) }
+{
+    let Some(others) = past_added(list, &[], parent, values) else {
+        return false;
+    };
+    let Some(rest) = past_added(others, parent, sibling, values) else {
+        return false;
+    };
+    rest.is_empty()
+}
+
+/// Appends those of the counters that `others` lacks, each with its value among `values`.
+fn push_added(
+    alloc: Global,
+    list: &mut List<Counter>,
+    others: &[Counter],
+    counters: &[Counter],
+    values: &[Counter],
+) -> Result<(), Memory>
+    requires distinct { AreDistinct values.now }
+    ensures ok { OnOk result (list.new ≡ list.old ++ map (valued_in values.now) (filter (is_missing_in others.now) counters.now)) }
+{
+    for (place, counter) in counters.iter().enumerate() {
+        if is_missing_in(others, place, counter) {
+            let mut copy = counter.duplicate(alloc)?;
+            copy.value = value_in(values, place, counter);
+            list.push(copy)?;
+        }
+    }
+    Ok(())
+}
+
+/// What `list` has past those of the counters that `others` lacks, each with its value among `values`, where it begins
+/// with them.
+fn past_added<'a>(
+    list: &'a [Counter],
+    others: &[Counter],
+    counters: &[Counter],
+    values: &[Counter],
+) -> Option<&'a [Counter]>
+    requires distinct { AreDistinct values.now }
+    ensures past { IfSome result (λ past. list.now ≡ map (valued_in values.now) (filter (is_missing_in others.now) counters.now) ++ past.now) }
+    ensures none { IfNone result ((past : List Counter) → list.now ≢ map (valued_in values.now) (filter (is_missing_in others.now) counters.now) ++ past) }
+{
+    let mut past = list;
+    for (place, counter) in counters.iter().enumerate() {
+        if is_missing_in(others, place, counter) {
+            past = past_first(past, counter, value_in(values, place, counter))?;
+        }
+    }
+    Some(past)
+}
+
+/// What `list` has past its first counter, where that is this counter with this value.
+fn past_first<'a>(list: &'a [Counter], counter: &Counter, value: Count) -> Option<&'a [Counter]>
+    ensures past { IfSome result (λ past. list.now ≡ with_value (λ _. value) counter.now ∷ past.now) }
+    ensures none { IfNone result ((past : List Counter) → list.now ≢ with_value (λ _. value) counter.now ∷ past) }
+{
+    let (first, past) = list.split_first()?;
+    if is_with_value(first, counter, value) {
+        Some(past)
+    } else {
+        None
+    }
+}
+
+/// The value of this counter among `values`, where it is there, and else its own. It is looked for at this place
+/// first.
+fn value_in(values: &[Counter], place: usize, counter: &Counter) -> Count
+    requires distinct { AreDistinct values.now }
+    ensures value { with_value (λ _. result) counter.now ≡ valued_in values.now counter.now }
+{
+    match find_same(values, place, counter) {
+        Some(same) => same.value,
+        None => counter.value,
+    }
+}
