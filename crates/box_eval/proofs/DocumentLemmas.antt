@@ -466,6 +466,18 @@ with_earlier handed earlier = record handed { earlier = earlier }
 abbrev pub DiffersInEarlier : Handed → Handed → Type 0
 DiffersInEarlier first second = (earlier : List BoxId) × (second ≡ with_earlier first earlier)
 
+-- so it is where all else is the same
+pub differs_in_earlier : (first second : Handed) → first.parent ≡ second.parent → first.sibling ≡ second.sibling → first.preceding ≡ second.preceding → first.depth ≡ second.depth → DiffersInEarlier first second
+differs_in_earlier first second parent sibling preceding depth =
+    let handed : List Counter → Option (List Counter) → Option (List Counter) → ℕ → Handed =
+    λ counters before behind level. record { parent = counters; earlier = second.earlier; sibling = before; preceding = behind; depth = level } in (
+      second.earlier,
+      ap (λ counters. handed counters second.sibling second.preceding second.depth) (sym parent)
+          ∙ ap (λ before. handed first.parent before second.preceding second.depth) (sym sibling)
+          ∙ ap (λ behind. handed first.parent first.sibling behind second.depth) (sym preceding)
+          ∙ ap (handed first.parent first.sibling first.preceding) (sym depth),
+    )
+
 module _ (table : List CounterStyle) where
   within_any : (has : Bool) (key : ℕ) (label : StyledNode) (handed : Handed) (earlier : List BoxId) → DiffersInEarlier (within table by_parent has key label handed) (within table by_parent has key label (with_earlier handed earlier))
   within_any true key (Element element) handed earlier = ((children_handed table by_parent key element handed).earlier, refl)

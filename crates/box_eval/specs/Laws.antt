@@ -77,6 +77,15 @@ abbrev pub ParentsNeedNoPeers : Type 0
 ParentsNeedNoPeers =
     (table : List CounterStyle) (trees : Forest (Keyed StyledNode)) (boxed : Bool) (handed : Handed) (earlier : List BoxId) → ForgetsEarlier table boxed handed earlier trees
 
+-- So of trees side by side that two documents share, with the same styles and starts, the same is said in both where
+-- the first of them is handed the same: the counters of its parent, of its sibling before and of the box just before it,
+-- and the quote depth.
+abbrev pub SharedTreesAreToldByWhatTheyAreHanded : Type 0
+SharedTreesAreToldByWhatTheyAreHanded =
+    (table : List CounterStyle) (trees : Forest (Keyed StyledNode)) (boxed : Bool) (first second : Handed)
+    → first.parent ≡ second.parent → first.sibling ≡ second.sibling → first.preceding ≡ second.preceding → first.depth ≡ second.depth
+    → records table by_parent boxed first trees ≡ records table by_parent boxed second trees
+
 -- What the boxes of a document do to counters is what each of them does, in tree order.
 abbrev pub ChangesAreThoseOfBoxes : Type 0
 ChangesAreThoseOfBoxes =
