@@ -1,8 +1,10 @@
+pub mod ElementLemmas
 pub mod Remaining
 pub mod LevelLemmas
 pub mod OpeningLemmas
 pub mod TurnLemmas
 pub mod StackLemmas
+pub mod Turns
 pub mod LeavingLemmas
 pub mod StateLemmas
 pub mod WalkLemmas

@@ -16,7 +16,7 @@ use Rattle.box_eval.specs.Starts.{any_asks_for_start}
 use Rattle.box_eval.specs.Laws.{DoesParentTell, OfEachDocument}
 use Rattle.document_walk.specs.declared.frame.Frame.{Frame}
 use Rattle.document_walk.specs.declared.walk.Walk.{Walk}
-use Rattle.document_walk.specs.Turns.{HasEntered, HasLeft, frames_of}
+use Rattle.document_walk.proofs.Turns.{HasEntered, HasLeft, frames_of}
 use Rattle.document_walk.specs.Walking.{HandsOn, IsBehindBox, IsByNoAfter, IsByOther, handed_by, is_boxed_in, opened_in, style_over}
 use Rattle.document_walk.proofs.LevelLemmas.{styled_distinct}
 use Rattle.document_walk.proofs.WalkLemmas as walks
@@ -43,8 +43,8 @@ module _ (table : List CounterStyle) (style : ℕ → Option Style → ElementSt
       pub new_here : HandsOn (IsByOther key) (handed_by walk.around)
       new_here = walks.new_at table style start document walk key steps most at_key
 
-      pub steps_here : (later : ℕ) → later ≤ steps + 2 → later ≤ most
-      steps_here later few = walks.steps_to_enter table style start document walk key steps later most at_key few
+      pub steps_here : (later : ℕ) → is_some (name_of document key) ≡ true → later ≤ steps + 2 → later ≤ most
+      steps_here later named few = walks.steps_to_enter table style start document walk key steps later most at_key named few
 
       pub enters_here : (new : Walk) (link : Option ℕ) (later : ℕ) → IsKeyedDocument document → is_some (name_of document key) ≡ true
           → HasEntered walk new key (opened_in table style start document (is_boxed_in (frames_of walk)) key (style_over (frames_of walk)) (handed_by walk.around))

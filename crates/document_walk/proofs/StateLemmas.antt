@@ -17,7 +17,7 @@ use Rattle.plain_types.specs.declared.node.Node.{Node}
 use Rattle.plain_types.specs.declared.style.ElementStyle.{ElementStyle}
 use Rattle.plain_types.specs.declared.style.Style.{Style}
 use Rattle.counter_sets.specs.Sets.{is_same_box}
-use Rattle.node_arena.specs.Nodes.{attrs_of}
+use Rattle.node_arena.specs.Nodes.{attrs_of, node_name}
 use Rattle.box_eval.specs.declared.made.Made.{Made}
 use Rattle.box_eval.specs.Boxes.{box_of}
 use Rattle.box_eval.specs.Elements.{Handed, Styled, before_of, by_parent, marker_of, own_counted}
@@ -26,6 +26,7 @@ use Rattle.box_eval.proofs.DocumentLemmas.{AreGood, children_good, own_is_good}
 use Rattle.box_eval.proofs.ListLemmas.{each_imp}
 use Rattle.document_walk.specs.declared.frame.Frame.{Frame}
 use Rattle.document_walk.specs.declared.frame.Opened.{Opened}
+use Rattle.document_walk.specs.Elements.{one_where}
 use Rattle.document_walk.specs.Walking.{HandsOn, IsBehindBox, IsByNoAfter, IsByOther, handed_within, is_after_box, opened_with, set_of, style_over}
 use Rattle.document_walk.proofs.TurnLemmas.{inside_made}
 
@@ -60,6 +61,10 @@ module _ (document : Forest (Keyed Node)) where
 
   abbrev pub size_left : List Frame → Forest (Keyed Node) → ℕ
   size_left frames trees = weigh_left (λ _. 1) frames trees
+
+  -- elements are counted by their labels, so that a text is none
+  abbrev pub elements_left : List Frame → Forest (Keyed Node) → ℕ
+  elements_left frames trees = weigh_left (λ (node : Keyed Node). one_where (is_some (node_name node.label))) frames trees
 
   abbrev pub times_left : ℕ → List Frame → Forest (Keyed Node) → ℕ
   times_left key frames trees = weigh_left (λ (node : Keyed Node). if node.key == key then 1 else 0) frames trees

@@ -5,8 +5,8 @@ use Rattle.std.proofs.Math.Bool.{or_assoc, or-false}
 use Rattle.std.proofs.lemmas.Bool.{or_left}
 use Rattle.std.specs.Option.{option_and_then}
 use Rattle.std.specs.List.{AllByRecursion}
-use Rattle.forest.specs.Forest.{Forest, Empty, Tree, size}
-use Rattle.forest.specs.Keys.{Keyed, HasDistinctKeys}
+use Rattle.forest.specs.Forest.{Forest, Empty, Tree}
+use Rattle.forest.specs.Keys.{Keyed, HasDistinctKeys, without_keys}
 use Rattle.forest.specs.Spots.{IsLink, Spot, IsLive, after_of, children_of, first_child_of, first_key, keyed, label_of, next_sibling_of, on_link}
 use Rattle.forest.proofs.SpotLaws.{live-spot, on_first, on_key, on_next, on_root, root_link}
 use Rattle.plain_types.specs.declared.box_id.BoxId.{BoxId}
@@ -27,11 +27,13 @@ use Rattle.document_walk.specs.declared.evaluated.Evaluated.{Evaluated}
 use Rattle.document_walk.specs.declared.frame.Frame.{Frame}
 use Rattle.document_walk.specs.declared.frame.Opened.{Opened}
 use Rattle.document_walk.specs.declared.walk.Walk.{Walk}
-use Rattle.document_walk.specs.Turns.{HasEntered, HasLeft, frames_of, nothing_told, told_entering, told_leaving}
+use Rattle.document_walk.specs.Elements.{element_count, one_where}
+use Rattle.document_walk.proofs.Turns.{HasEntered, HasLeft, frames_of, nothing_told, told_entering, told_leaving}
 use Rattle.document_walk.specs.Walking.{HandsOn, IsBehindBox, IsByNoAfter, IsByOther, asks_before, changes_before, changes_behind, handed_by, handed_past, handed_within, is_boxed_in, opened_in, style_over, told_of}
+use Rattle.document_walk.proofs.ElementLemmas.{weigh-without_keys}
 use Rattle.document_walk.proofs.Remaining.{remaining_asks, remaining_changes, remaining_records}
 use Rattle.document_walk.proofs.TurnLemmas.{entered}
-use Rattle.document_walk.proofs.StateLemmas.{FrameHolds, FramesHold, IsDone, by_other, frames_hold, hands_on, has_open_box, opens_if, size_left, still_done, times_left}
+use Rattle.document_walk.proofs.StateLemmas.{FrameHolds, FramesHold, IsDone, by_other, elements_left, frames_hold, hands_on, has_open_box, opens_if, size_left, still_done, times_left}
 
 module _ (table : List CounterStyle) (style : ℕ → Option Style → ElementStyle) (start : BoxId → List ℕ → ℤ) (document : Forest (Keyed Node)) where
   -- these trees come next, of the open elements the first is the innermost, and this is told so far
@@ -44,13 +46,13 @@ module _ (table : List CounterStyle) (style : ℕ → Option Style → ElementSt
     pub done : HandsOn (IsDone document frames trees) handed
     pub kept : FramesHold document (IsDone document frames trees) frames
     pub behind : has_open_box document frames ≡ true → IsBehindBox handed
-    pub few : steps + 3 * size_left document frames trees + length frames ≤ most
+    pub few : steps + 3 * elements_left document frames trees + length frames ≤ most
 
   -- what is left falls at each turn
   abbrev pub left : List Frame → Forest (Keyed Node) → ℕ
   left frames trees = 2 * size_left document frames trees + length frames
 
-  begins : (steps : ℕ) → HasDistinctKeys document → Walks [] at_root document nothing_told steps (steps + 3 * size document)
+  begins : (steps : ℕ) → HasDistinctKeys document → Walks [] at_root document nothing_told steps (steps + 3 * element_count (without_keys document))
   begins steps distinct = record {
     records = append-nil (records table by_parent true at_root (styled_trees style start None document));
     changes = append-nil (changes table by_parent true at_root (styled_trees style start None document));
@@ -60,7 +62,7 @@ module _ (table : List CounterStyle) (style : ℕ → Option Style → ElementSt
     done = record { parent = tt; sibling = tt };
     kept = tt;
     behind = λ e. absurd (cc);
-    few = omega arith;
+    few = let all = weigh-without_keys (λ (label : Node). one_where (is_some (node_name label))) document in omega (arith, all);
   }
 
   module _ (frames : List Frame) (handed : Handed) (told : Evaluated) (steps later most : ℕ) where
@@ -178,11 +180,11 @@ module _ (table : List CounterStyle) (style : ℕ → Option Style → ElementSt
     )
 
   pub begins_at : (walk : Walk) (root steps : ℕ) → HasDistinctKeys document → Some root ≡ first_key document → frames_of walk ≡ [] → handed_by walk.around ≡ at_root → walk.told ≡ nothing_told
-      → IsAt walk (Some root) steps (steps + 3 * size document)
+      → IsAt walk (Some root) steps (steps + 3 * element_count (without_keys document))
   begins_at walk root steps distinct first frames handed told =
       let trees : on_link document (Some root) ≡ document = ap (on_link document) first ∙ on_root document in
       let live : IsLink document (Some root) = subst (IsLink document) (sym first) (root_link document) in
-      (moved steps (steps + 3 * size document) [] at_root document nothing_told walk (Some root) frames handed trees told live (left [] document + 1) (begins steps distinct, omega arith)).0
+      (moved steps (steps + 3 * element_count (without_keys document)) [] at_root document nothing_told walk (Some root) frames handed trees told live (left [] document + 1) (begins steps distinct, omega arith)).0
 
   module _ (walk : Walk) (key steps most : ℕ) (at : IsAt walk (Some key) steps most) where
     abbrev on_label : Node → Forest (Keyed Node)
@@ -285,13 +287,14 @@ module _ (table : List CounterStyle) (style : ℕ → Option Style → ElementSt
       }
 
   -- the steps of a turn are there
-  one_tree : (frames : List Frame) (trees : Forest (Keyed Node)) (label : Keyed Node) (children after : Forest (Keyed Node)) → trees ≡ Tree label children after → 1 ≤ size_left document frames trees
-  one_tree frames trees label children after e = subst (λ trees. 1 ≤ size_left document frames trees) (sym e) (omega arith)
+  one_element : (frames : List Frame) (trees : Forest (Keyed Node)) (label : Keyed Node) (children after : Forest (Keyed Node)) → trees ≡ Tree label children after → one_where (is_some (node_name label.label)) ≡ 1 → 1 ≤ elements_left document frames trees
+  one_element frames trees label children after e one = subst (λ trees. 1 ≤ elements_left document frames trees) (sym e) (omega (arith, one))
 
-  pub steps_to_enter : (walk : Walk) (key steps later most : ℕ) → IsAt walk (Some key) steps most → later ≤ steps + 2 → later ≤ most
-  steps_to_enter walk key steps later most at few =
+  pub steps_to_enter : (walk : Walk) (key steps later most : ℕ) → IsAt walk (Some key) steps most → is_some (name_of document key) ≡ true → later ≤ steps + 2 → later ≤ most
+  steps_to_enter walk key steps later most at named few =
       let label = its_label walk key steps most at in
-      let one = one_tree (frames_of walk) (on_link document (Some key)) (keyed key label.0) (children_of document key) (after_of document key) (on_key document key label.0 at.leads label.1) in
+      let element : one_where (is_some (node_name label.0)) ≡ 1 = ap one_where (ap (λ label. is_some (option_and_then node_name label)) label.1 ∙ named) in
+      let one = one_element (frames_of walk) (on_link document (Some key)) (keyed key label.0) (children_of document key) (after_of document key) (on_key document key label.0 at.leads label.1) element in
       omega (arith, at.walks.few, one, few)
 
   pub steps_to_leave : (walk popped : Walk) (frame : Frame) (steps later most : ℕ) (at : IsAt walk None steps most) → frames_of walk ≡ frame ∷ frames_of popped → later ≤ steps + 1 → later ≤ most

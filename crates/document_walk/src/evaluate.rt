@@ -1,14 +1,14 @@
 //! The walk over a whole document.
 
-ghost use Rattle.std.specs.Prelude.{◌≡◌, ◌+◌, ◌*◌, ◌≤◌, [], IfOk, OnOk, is_some, true};
-ghost use Rattle.forest.specs.Forest.{size};
+ghost use Rattle.std.specs.Prelude.{◌≡◌, ◌+◌, ◌*◌, ◌≤◌, [], IfOk, OnOk, is_some, true, false};
+ghost use Rattle.forest.specs.Keys.{without_keys};
 ghost use Rattle.forest.specs.Spots.{IsLive};
 ghost use Rattle.node_arena.specs.Nodes.{name_of};
 ghost use Rattle.mini_cascade.specs.Styles.{element_style};
 ghost use Rattle.box_eval.specs.Elements.{at_root};
 ghost use Rattle.box_eval.specs.Evaluation.{all_changes, evaluation, styled};
 ghost use Rattle.box_eval.specs.Starts.{any_asks_for_start};
-ghost use Rattle.document_walk.specs.Turns.{frames_of, nothing_told};
+ghost use Rattle.document_walk.specs.Elements.{element_count};
 ghost use Rattle.document_walk.specs.Walking.{handed_by};
 
 use crate::evaluated::Evaluated;
@@ -27,8 +27,8 @@ use steps::Steps;
 /// Evaluates a document, by the sheets of the user agent and of the author, the author's counter styles, and
 /// these starts of reversed counters.
 ///
-/// It takes at most three steps a node, whatever it answers: one for an element's style, and two for its boxes.
-/// Its stack is on the heap, of the size of the document's depth.
+/// It takes at most three steps an element, whatever it answers: one for its style, and two for its boxes. A text
+/// takes none. Its stack is on the heap, of the size of the document's depth.
 pub fn evaluate<L: Ledger, T: Starts>(
     alloc: Global,
     arena: &Arena,
@@ -41,7 +41,7 @@ pub fn evaluate<L: Ledger, T: Starts>(
     ensures records { IfOk result (λ evaluated. evaluated.records ≡ evaluation table.now (styled (element_style arena.now.tree agent.now author.now) (T.starts starts.now) arena.now.tree)) }
     ensures changes { IfOk result (λ evaluated. evaluated.changes ≡ all_changes table.now (styled (element_style arena.now.tree agent.now author.now) (T.starts starts.now) arena.now.tree)) }
     ensures asks { IfOk result (λ evaluated. evaluated.asks ≡ any_asks_for_start true (styled (element_style arena.now.tree agent.now author.now) (T.starts starts.now) arena.now.tree)) }
-    ensures steps { steps.new ≤ steps.old + 3 * size arena.now.tree }
+    ensures steps { steps.new ≤ steps.old + 3 * element_count (without_keys arena.now.tree) }
 {
     let sources = Sources {
         arena,
@@ -62,13 +62,15 @@ fn go<L: Ledger, T: Starts>(
     sources: &Sources<T>,
     steps: &mut Steps<L>,
 ) -> Result<(), Memory>
-    requires frames { frames_of walk.old ≡ [] }
+    requires stack { walk.old.stack.items ≡ [] }
     requires around { handed_by walk.old.around ≡ at_root }
-    requires nothing { walk.old.told ≡ nothing_told }
+    requires records { walk.old.told.records ≡ [] }
+    requires changes { walk.old.told.changes ≡ [] }
+    requires asks { walk.old.told.asks ≡ false }
     ensures records { OnOk result (walk.new.told.records ≡ evaluation sources.now.table.now (styled (element_style sources.now.arena.now.tree sources.now.agent.now sources.now.author.now) (T.starts sources.now.starts.now) sources.now.arena.now.tree)) }
     ensures changes { OnOk result (walk.new.told.changes ≡ all_changes sources.now.table.now (styled (element_style sources.now.arena.now.tree sources.now.agent.now sources.now.author.now) (T.starts sources.now.starts.now) sources.now.arena.now.tree)) }
     ensures asks { OnOk result (walk.new.told.asks ≡ any_asks_for_start true (styled (element_style sources.now.arena.now.tree sources.now.agent.now sources.now.author.now) (T.starts sources.now.starts.now) sources.now.arena.now.tree)) }
-    ensures steps { steps.new ≤ steps.old + 3 * size sources.now.arena.now.tree }
+    ensures steps { steps.new ≤ steps.old + 3 * element_count (without_keys sources.now.arena.now.tree) }
 {
     parents_tell_scopes();
     let mut link = Some(sources.arena.root());

@@ -1,8 +1,7 @@
 //! What the evaluation of a document gives.
 
-ghost use Rattle.std.specs.Prelude.{◌≡◌, ◌++◌, IfOk, OnOk, option_copied};
+ghost use Rattle.std.specs.Prelude.{◌≡◌, ◌++◌, ◌||◌, IfOk, OnOk, option_copied};
 ghost use Rattle.box_eval.specs.Evaluation.{changes_in, without_box};
-ghost use Rattle.document_walk.specs.Turns.{told_entering};
 ghost use Rattle.document_walk.specs.Walking.{asks_before, changes_before, told_opened};
 
 use crate::frame::Opened;
@@ -90,7 +89,9 @@ pub(crate) fn tell_opened(
     told: &mut Evaluated,
     opened: Option<&Opened>,
 ) -> Result<(), Memory>
-    ensures told { OnOk result (told.new ≡ told_entering told.old (option_copied opened.entry)) }
+    ensures records { OnOk result (told.new.records ≡ told.old.records) }
+    ensures changes { OnOk result (told.new.changes ≡ told.old.changes ++ changes_before (option_copied opened.entry)) }
+    ensures asks { OnOk result (told.new.asks ≡ (told.old.asks || asks_before (option_copied opened.entry))) }
 {
     add_opened(alloc, &mut told.changes, opened)?;
     told.asks |= asks_for_start(opened);

@@ -11,8 +11,9 @@
 //! evaluated; texts are passed.
 //!
 //! The layer above knows this crate by `evaluation` and `all_changes` of `box_eval`, which recurse on the tree and
-//! know nothing of keys, links and stacks. What is made of an element is in `specs/Walking.antt`, what a turn
-//! does in `specs/Turns.antt`, and what the walk has left to do at each moment in `proofs/Remaining.antt`.
+//! know nothing of keys, links and stacks, and by `element_count` of `specs/Elements.antt`, by which its steps are
+//! bounded. What is made of an element is in `specs/Walking.antt`; what a turn of the walk does, and what it has left
+//! to do at each moment, in `proofs/Turns.antt` and `proofs/Remaining.antt`.
 //!
 //! ```text
 //! let evaluated = evaluate(alloc, &arena, &agent, &author, &table, &NoStarts, steps)?;

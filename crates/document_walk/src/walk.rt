@@ -1,13 +1,12 @@
 //! The state of a walk over a document.
 
-ghost use Rattle.std.specs.Prelude.{◌≡◌, ◌+◌, ◌≤◌, ◌++◌, ◌∷◌, [], IfOk, OnOk, Some, is_some, true, false};
+ghost use Rattle.std.specs.Prelude.{◌≡◌, ◌+◌, ◌≤◌, ◌++◌, ◌∷◌, ◌||◌, [], IfOk, OnOk, Some, is_some, reverse, true, false};
 ghost use Rattle.forest.specs.Spots.{IsLive};
 ghost use Rattle.node_arena.specs.Nodes.{attrs_of};
 ghost use Rattle.mini_cascade.specs.Styles.{element_style};
 ghost use Rattle.box_eval.specs.Elements.{at_root, by_parent, closing_of};
 ghost use Rattle.box_eval.specs.Evaluation.{changes_in, without_box};
-ghost use Rattle.document_walk.specs.Walking.{HandsOn, IsBehindBox, IsByNoAfter, IsByOther, handed_behind, handed_by, handed_within, is_boxed_in, made_of_first, opened_in, style_over, told_opened};
-ghost use Rattle.document_walk.specs.Turns.{HasEntered, HasLeft, frames_of, told_entering};
+ghost use Rattle.document_walk.specs.Walking.{HandsOn, IsBehindBox, IsByNoAfter, IsByOther, asks_before, changes_before, changes_behind, handed_behind, handed_by, handed_past, handed_within, is_boxed_in, made_of_first, opened_in, style_over, told_of, told_opened};
 
 use crate::element::{close, open};
 use crate::evaluated::{Evaluated, add_made, tell_opened, told_opened, without_box};
@@ -39,7 +38,7 @@ pub(crate) struct Walk {
 impl Walk {
     /// A walk before the root.
     pub(crate) fn begin(alloc: Global) -> Result<Walk, Memory>
-        ensures frames { IfOk result (λ walk. frames_of walk ≡ []) }
+        ensures stack { IfOk result (λ walk. walk.stack.items ≡ []) }
         ensures around { IfOk result (λ walk. handed_by walk.around ≡ at_root) }
         ensures records { IfOk result (λ walk. walk.told.records ≡ []) }
         ensures changes { IfOk result (λ walk. walk.told.changes ≡ []) }
@@ -66,7 +65,11 @@ impl Walk {
     ) -> Result<(), Memory>
         requires live { IsLive sources.now.arena.now.tree key }
         requires new { HandsOn (IsByOther key) (handed_by self.old.around) }
-        ensures entered { OnOk result (HasEntered self.old self.new key (opened_in sources.now.table.now (element_style sources.now.arena.now.tree sources.now.agent.now sources.now.author.now) (T.starts sources.now.starts.now) sources.now.arena.now.tree (is_boxed_in (frames_of self.old)) key (style_over (frames_of self.old)) (handed_by self.old.around))) }
+        ensures stack { OnOk result (self.new.stack.items ≡ self.old.stack.items ++ record { key = key; opened = opened_in sources.now.table.now (element_style sources.now.arena.now.tree sources.now.agent.now sources.now.author.now) (T.starts sources.now.starts.now) sources.now.arena.now.tree (is_boxed_in (reverse self.old.stack.items)) key (style_over (reverse self.old.stack.items)) (handed_by self.old.around) } ∷ []) }
+        ensures around { OnOk result (handed_by self.new.around ≡ handed_within (made_of_first (reverse self.new.stack.items)) (handed_by self.old.around)) }
+        ensures records { OnOk result (self.new.told.records ≡ self.old.told.records) }
+        ensures changes { OnOk result (self.new.told.changes ≡ self.old.told.changes ++ changes_before (made_of_first (reverse self.new.stack.items))) }
+        ensures asks { OnOk result (self.new.told.asks ≡ (self.old.told.asks || asks_before (made_of_first (reverse self.new.stack.items)))) }
         ensures steps { steps.new ≤ steps.old + 2 }
     {
         let opened = self.open_next(alloc, sources, key, steps)?;
@@ -78,8 +81,10 @@ impl Walk {
     /// Goes to the children of the innermost open element, of which nothing is told yet.
     fn go_inside(&mut self, alloc: Global) -> Result<(), Memory>
         ensures stack { OnOk result (self.new.stack ≡ self.old.stack) }
-        ensures around { OnOk result (handed_by self.new.around ≡ handed_within (made_of_first (frames_of self.old)) (handed_by self.old.around)) }
-        ensures told { OnOk result (self.new.told ≡ told_entering self.old.told (made_of_first (frames_of self.old))) }
+        ensures around { OnOk result (handed_by self.new.around ≡ handed_within (made_of_first (reverse self.old.stack.items)) (handed_by self.old.around)) }
+        ensures records { OnOk result (self.new.told.records ≡ self.old.told.records) }
+        ensures changes { OnOk result (self.new.told.changes ≡ self.old.told.changes ++ changes_before (made_of_first (reverse self.old.stack.items))) }
+        ensures asks { OnOk result (self.new.told.asks ≡ (self.old.told.asks || asks_before (made_of_first (reverse self.old.stack.items)))) }
     {
         let opened = innermost(self.stack.as_slice());
         tell_opened(alloc, &mut self.told, opened)?;
@@ -97,7 +102,7 @@ impl Walk {
     ) -> Result<Option<Opened>, Memory>
         requires live { IsLive sources.now.arena.now.tree key }
         requires new { HandsOn (IsByOther key) (handed_by self.now.around) }
-        ensures opened { IfOk result (λ opened. opened ≡ opened_in sources.now.table.now (element_style sources.now.arena.now.tree sources.now.agent.now sources.now.author.now) (T.starts sources.now.starts.now) sources.now.arena.now.tree (is_boxed_in (frames_of self.now)) key (style_over (frames_of self.now)) (handed_by self.now.around)) }
+        ensures opened { IfOk result (λ opened. opened ≡ opened_in sources.now.table.now (element_style sources.now.arena.now.tree sources.now.agent.now sources.now.author.now) (T.starts sources.now.starts.now) sources.now.arena.now.tree (is_boxed_in (reverse self.now.stack.items)) key (style_over (reverse self.now.stack.items)) (handed_by self.now.around)) }
         ensures steps { steps.new ≤ steps.old + 2 }
     {
         match self.stack.as_slice().split_last() {
@@ -123,7 +128,11 @@ impl Walk {
         requires live { IsLive sources.now.arena.now.tree frame.key }
         requires behind { is_some frame.opened ≡ true → IsBehindBox (handed_by self.old.around) }
         requires new { HandsOn IsByNoAfter (handed_by self.old.around) }
-        ensures left { OnOk result (HasLeft sources.now.table.now sources.now.arena.now.tree self.old self.new frame) }
+        ensures stack { OnOk result (self.new.stack ≡ self.old.stack) }
+        ensures around { OnOk result (handed_by self.new.around ≡ handed_past sources.now.table.now sources.now.arena.now.tree frame.key frame.opened (handed_by self.old.around)) }
+        ensures records { OnOk result (self.new.told.records ≡ self.old.told.records ++ (frame.key, told_of sources.now.table.now sources.now.arena.now.tree frame.key frame.opened (handed_by self.old.around)) ∷ []) }
+        ensures changes { OnOk result (self.new.told.changes ≡ self.old.told.changes ++ changes_behind sources.now.table.now sources.now.arena.now.tree frame.key frame.opened (handed_by self.old.around)) }
+        ensures asks { OnOk result (self.new.told.asks ≡ self.old.told.asks) }
         ensures steps { steps.new ≤ steps.old + 1 }
     {
         let Frame { key, opened } = frame;
@@ -161,7 +170,11 @@ impl Walk {
         requires live { IsLive sources.now.arena.now.tree key }
         requires behind { IsBehindBox (handed_by self.old.around) }
         requires new { HandsOn IsByNoAfter (handed_by self.old.around) }
-        ensures left { OnOk result (HasLeft sources.now.table.now sources.now.arena.now.tree self.old self.new (record { key = key; opened = Some opened })) }
+        ensures stack { OnOk result (self.new.stack ≡ self.old.stack) }
+        ensures around { OnOk result (handed_by self.new.around ≡ handed_past sources.now.table.now sources.now.arena.now.tree key (Some opened) (handed_by self.old.around)) }
+        ensures records { OnOk result (self.new.told.records ≡ self.old.told.records ++ (key, told_of sources.now.table.now sources.now.arena.now.tree key (Some opened) (handed_by self.old.around)) ∷ []) }
+        ensures changes { OnOk result (self.new.told.changes ≡ self.old.told.changes ++ changes_behind sources.now.table.now sources.now.arena.now.tree key (Some opened) (handed_by self.old.around)) }
+        ensures asks { OnOk result (self.new.told.asks ≡ self.old.told.asks) }
         ensures steps { steps.new ≤ steps.old + 1 }
     {
         let Opened {

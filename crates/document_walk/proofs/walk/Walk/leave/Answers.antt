@@ -1,16 +1,41 @@
-use Rattle.std.proofs.Common.{Option, OnOk, sym, subst}
+use Rattle.std.proofs.Common.{◌≡◌, ◌∙◌, ◌++◌, ◌∷◌, [], Option, OnOk, append-nil, ap, subst, sym}
 use Rattle.document_walk.specs.declared.frame.Opened.{Opened}
-use Rattle.document_walk.specs.Turns.{HasLeft}
-use Rattle.document_walk.proofs.LeavingLemmas.{left_none}
+use Rattle.document_walk.specs.Walking.{changes_behind, handed_by, handed_past, told_of}
 use Rattle.document_walk.proofs.walk.Walk.leave.Goals as goal
 
-pub returns-in-Some-clause-left : goal.returns-in-Some-clause-left
-returns-in-Some-clause-left g c =
-    subst
-    (λ (opened : Option Opened). OnOk c.leave_box.result (HasLeft c.args.sources.now.table.now c.args.sources.now.arena.now.tree c.args.self.now c.leave_box.new.self (record { key = c.args.frame.key; opened = opened })))
-    (sym c.in-Some.is) c.leave_box.ensures.left
+-- An element with a box is left.
 
-pub returns-in_ok-leave_boxless-in-None-clause-left : goal.returns-in_ok-leave_boxless-in-None-clause-left
-returns-in_ok-leave_boxless-in-None-clause-left g c =
-    let left = c.in_ok-leave_boxless-in-None.ensures in
-    left_none c.args.sources.now.table.now c.args.sources.now.arena.now.tree c.args.self.now c.leave_boxless.new.self c.args.frame c.in-None.is left.stack left.around left.records left.changes left.asks
+pub returns-in-Some-clause-around : goal.returns-in-Some-clause-around
+returns-in-Some-clause-around g c =
+    subst
+    (λ (opened : Option Opened). OnOk c.leave_box.result (handed_by c.leave_box.new.self.around ≡ handed_past c.args.sources.now.table.now c.args.sources.now.arena.now.tree c.args.frame.key opened (handed_by c.args.self.now.around)))
+    (sym c.in-Some.is) c.leave_box.ensures.around
+
+pub returns-in-Some-clause-records : goal.returns-in-Some-clause-records
+returns-in-Some-clause-records g c =
+    subst
+    (λ (opened : Option Opened). OnOk c.leave_box.result (c.leave_box.new.self.told.records ≡ c.args.self.now.told.records ++ (c.args.frame.key, told_of c.args.sources.now.table.now c.args.sources.now.arena.now.tree c.args.frame.key opened (handed_by c.args.self.now.around)) ∷ []))
+    (sym c.in-Some.is) c.leave_box.ensures.records
+
+pub returns-in-Some-clause-changes : goal.returns-in-Some-clause-changes
+returns-in-Some-clause-changes g c =
+    subst
+    (λ (opened : Option Opened). OnOk c.leave_box.result (c.leave_box.new.self.told.changes ≡ c.args.self.now.told.changes ++ changes_behind c.args.sources.now.table.now c.args.sources.now.arena.now.tree c.args.frame.key opened (handed_by c.args.self.now.around)))
+    (sym c.in-Some.is) c.leave_box.ensures.changes
+
+-- One without a box is left.
+
+pub returns-in_ok-leave_boxless-in-None-clause-around : goal.returns-in_ok-leave_boxless-in-None-clause-around
+returns-in_ok-leave_boxless-in-None-clause-around g c =
+    ap handed_by c.in_ok-leave_boxless-in-None.ensures.around
+    ∙ ap (λ (opened : Option Opened). handed_past c.args.sources.now.table.now c.args.sources.now.arena.now.tree c.args.frame.key opened (handed_by c.args.self.now.around)) (sym c.in-None.is)
+
+pub returns-in_ok-leave_boxless-in-None-clause-records : goal.returns-in_ok-leave_boxless-in-None-clause-records
+returns-in_ok-leave_boxless-in-None-clause-records g c =
+    c.in_ok-leave_boxless-in-None.ensures.records
+    ∙ ap (λ (opened : Option Opened). c.args.self.now.told.records ++ (c.args.frame.key, told_of c.args.sources.now.table.now c.args.sources.now.arena.now.tree c.args.frame.key opened (handed_by c.args.self.now.around)) ∷ []) (sym c.in-None.is)
+
+pub returns-in_ok-leave_boxless-in-None-clause-changes : goal.returns-in_ok-leave_boxless-in-None-clause-changes
+returns-in_ok-leave_boxless-in-None-clause-changes g c =
+    c.in_ok-leave_boxless-in-None.ensures.changes ∙ sym (append-nil c.args.self.now.told.changes)
+    ∙ ap (λ (opened : Option Opened). c.args.self.now.told.changes ++ changes_behind c.args.sources.now.table.now c.args.sources.now.arena.now.tree c.args.frame.key opened (handed_by c.args.self.now.around)) (sym c.in-None.is)
