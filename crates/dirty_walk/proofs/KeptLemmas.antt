@@ -1,9 +1,9 @@
 -- What is kept under keys, entry by entry.
-use Rattle.std.proofs.Common.{◌≡◌, ◌<◌, ◌+◌, ◌==◌, ℕ, Bool, true, false, cond, List, [], ◌∷◌, ◌++◌, Option, Some, None, get_or, length, map, take, refl, sym, ap, ◌∙◌, arith, Bor}
+use Rattle.std.proofs.Common.{◌≡◌, ◌<◌, ◌+◌, ◌==◌, ℕ, Bool, true, false, cond, List, [], ◌∷◌, ◌++◌, Option, Some, None, get_or, length, take, refl, sym, ap, ◌∙◌, arith, Bor}
 use Rattle.std.specs.Prelude.{is_some, option_copied}
 use Rattle.std.specs.Option.{option_or}
 use Rattle.std.proofs.lemmas.Bool.Decides.{nat_tests}
-use Rattle.std.proofs.lemmas.List.{map-append, take_more}
+use Rattle.std.proofs.lemmas.List.{take_more}
 use Rattle.generated_texts.specs.References.{kept_at}
 
 same_number : (a b : ℕ) → (a == b) ≡ true → a ≡ b
@@ -77,12 +77,3 @@ module _ {V : Type 0} where
           let same : entry.0 ≡ key = same_number entry.0 key e in
           rw e (some_first (before key) (Some entry.1) (ap (λ k. is_some (before k)) (sym same) ∙ some))
       by_case false e = rw e (sym (or_none (before key)))
-
--- the same of entries that are made of others under the same keys
-pub kept_mapped-next : {V W : Type 0} (f : V → W) (kept : List (ℕ × V)) (place : ℕ) (entry : ℕ × V) (key : ℕ) → place < length kept → entry ≡ get_or kept place entry
-    → kept_at (map (λ (e : ℕ × V). (e.0, f e.1)) (take (place + 1) kept)) key ≡ or_that (kept_at (map (λ (e : ℕ × V). (e.0, f e.1)) (take place kept)) key) (entry.0, f entry.1) key
-kept_mapped-next {V} {W} f kept place entry key below is =
-    let mapped : List (ℕ × V) → List (ℕ × W) = map (λ (e : ℕ × V). (e.0, f e.1)) in
-    ap (λ xs. kept_at (mapped xs) key) (take_more kept place entry below ∙ ap (λ e. take place kept ++ e ∷ []) (sym is))
-    ∙ ap (λ xs. kept_at xs key) (map-append (λ (e : ℕ × V). (e.0, f e.1)) (take place kept) (entry ∷ []))
-    ∙ kept-last (mapped (take place kept)) (entry.0, f entry.1) key

@@ -1,7 +1,9 @@
 -- Books under edits that are planned.
-use Rattle.std.proofs.Common.{◌≡◌, ℕ, true, List, Option, Some, None, option_copied, unwrap_or, refl, ap, sym, ◌∙◌}
+use Rattle.std.proofs.Common.{◌≡◌, ◌<◌, ◌≤◌, ℕ, Bool, true, List, Option, Some, None, option_copied, unwrap_or, refl, ap, sym, ◌∙◌, arith}
+use Rattle.std.specs.Prelude.{is_some}
 use Rattle.std.specs.Borrow.{Bor}
-use Rattle.std.specs.HashMap.{HashMap}
+use Rattle.std.specs.FinMap.{FinMap, get}
+use Rattle.std.specs.Ordering.{nat_cmp}
 use Rattle.std.specs.Option.{is_none}
 use Rattle.forest.specs.Forest.{Forest}
 use Rattle.forest.specs.Keys.{Keyed}
@@ -9,13 +11,18 @@ use Rattle.plain_types.specs.declared.node.Node.{Node}
 use Rattle.plain_types.specs.declared.sheet.Sheet.{Sheet}
 use Rattle.node_arena.specs.declared.reversal.Reversal.{Reversal}
 use Rattle.node_arena.specs.Document.{Document}
+use Rattle.node_arena.specs.Nodes.{name_of}
 use Rattle.generated_texts.specs.declared.entry.NodeEntry.{NodeEntry}
 use Rattle.css_reader.specs.Features.{features}
 use Rattle.generated_texts.specs.StyleElements.{author_sheet, style_texts}
 use Rattle.node_arena.specs.Reversals.{IsSettled}
 use Rattle.dirty_walk.specs.declared.document_styles.DocumentStyles.{DocumentStyles}
 use Rattle.dirty_walk.specs.DocumentStyles.{document_styles, read_styles}
-use Rattle.dirty_walk.specs.Books.{StyledDocument, fresh_entry, settled_on, Keeps, IsBook, UsesItsKeys}
+use Rattle.snapshot_board.specs.Records.{Records}
+use Rattle.target_index.specs.declared.index.Index.{Index}
+use Rattle.target_index.specs.Holders.{is_holder}
+use Rattle.dirty_walk.specs.Holding.{IsIndexOf, holds_id}
+use Rattle.dirty_walk.specs.Books.{StyledDocument, fresh_entry, HasRoomFor, IsBook, Keeps, UsesItsKeys}
 
 -- the value behind a reference that may be there, or else behind another
 pub now-unwrap_or : {A : Type 0} (given : Option (Bor A)) (other : Bor A) → (unwrap_or given other).now ≡ unwrap_or (option_copied given) other.now
@@ -53,32 +60,55 @@ pub its_features : (styles : DocumentStyles) (text : List ℕ) (tree : Forest (K
 unfolding read_styles
 its_features styles text tree are = ap (λ (styles : DocumentStyles). styles.features) are
 
+-- what a book of these stands for
+abbrev pub stands : Forest (Keyed Node) → List ℕ → Option Reversal → FinMap nat_cmp NodeEntry → StyledDocument
+stands tree text planned entries = record { tree = tree; sheet = text; settled = is_none planned; entries = entries }
+
 -- of equal documents and texts, fresh evaluations are equal
-pub kept_where : (tree other_tree : Forest (Keyed Node)) (text other_text : List ℕ) {S : Type 0} (entries : HashMap ℕ NodeEntry S)
-    → other_tree ≡ tree → other_text ≡ text → Keeps entries (settled_on tree text) → Keeps entries (settled_on other_tree other_text)
-kept_where tree other_tree text other_text entries same_tree same_text kept key =
-    kept key
-    ∙ ap (λ (text : List ℕ). fresh_entry (settled_on tree text) key) (sym same_text)
-    ∙ ap (λ (tree : Forest (Keyed Node)). fresh_entry (settled_on tree other_text) key) (sym same_tree)
+pub kept_where : (tree other_tree : Forest (Keyed Node)) (text other_text : List ℕ) (entries other : FinMap nat_cmp NodeEntry) (settled other_settled : Bool)
+    → other_tree ≡ tree → other_text ≡ text → other ≡ entries
+    → Keeps (record { tree = tree; sheet = text; settled = settled; entries = entries })
+    → Keeps (record { tree = other_tree; sheet = other_text; settled = other_settled; entries = other })
+kept_where tree other_tree text other_text entries other settled other_settled same_tree same_text same kept key =
+    ap (λ (held : FinMap nat_cmp NodeEntry). get held key) same
+    ∙ kept key
+    ∙ ap (λ (text : List ℕ). fresh_entry (stands tree text None entries) key) (sym same_text)
+    ∙ ap (λ (tree : Forest (Keyed Node)). fresh_entry (stands tree other_text None entries) key) (sym same_tree)
 
--- a book is settled on a document and a text where it has them and no edit is planned
-pub is_settled_on : (tree other_tree : Forest (Keyed Node)) (text other_text : List ℕ) (planned : Option Reversal)
-    → other_tree ≡ tree → other_text ≡ text → planned ≡ None
-    → record { tree = other_tree; sheet = other_text; settled = is_none planned } ≡ settled_on tree text
-is_settled_on tree other_tree text other_text planned same_tree same_text none =
-    let other : Forest (Keyed Node) → List ℕ → Option Reversal → StyledDocument = λ t x p. record { tree = t; sheet = x; settled = is_none p } in
-    ap (λ t. other t other_text planned) same_tree ∙ ap (λ x. other tree x planned) same_text ∙ ap (λ p. other tree text p) none
+-- a book is settled on a document, a text and what it keeps where it has them and no edit is planned
+pub is_settled : (tree other_tree : Forest (Keyed Node)) (text other_text : List ℕ) (entries other : FinMap nat_cmp NodeEntry) (planned : Option Reversal)
+    → other_tree ≡ tree → other_text ≡ text → other ≡ entries → planned ≡ None
+    → stands other_tree other_text planned other ≡ record { tree = tree; sheet = text; settled = true; entries = entries }
+is_settled tree other_tree text other_text entries other planned same_tree same_text same none =
+    ap (λ t. stands t other_text planned other) same_tree
+    ∙ ap (λ x. stands tree x planned other) same_text
+    ∙ ap (λ m. stands tree text planned m) same
+    ∙ ap (λ p. stands tree text p entries) none
 
--- where no edit is planned, a book may have another arena of the same document, which uses its keys alone
-pub same_document : (old new : Document) (agent : Sheet) (styles : DocumentStyles) (planned : Option Reversal) {S : Type 0} (entries : HashMap ℕ NodeEntry S)
+-- the index of an equal document, with equal answers
+pub index_where : (tree other : Forest (Keyed Node)) (index new : Index) → other ≡ tree → ((id : List ℕ) (key : ℕ) → is_holder new id key ≡ is_holder index id key) → IsIndexOf index tree → IsIndexOf new other
+index_where tree other index new same answers indexed id key = answers id key ∙ indexed id key ∙ ap (λ (t : Forest (Keyed Node)). holds_id t id key) (sym same)
+
+-- and its room, or more
+pub room_where : (tree other : Forest (Keyed Node)) (room more : ℕ) → other ≡ tree → room ≤ more → HasRoomFor room tree → HasRoomFor more other
+room_where tree other room more same grown has key named =
+    let low : key < room = has key (ap (λ (t : Forest (Keyed Node)). is_some (name_of t key)) (sym same) ∙ named) in
+    omega (arith, low, grown)
+
+-- Where no edit is planned, a book may have another arena of the same document, which uses its keys alone, another board
+-- that holds the same and has as much room, and another index of the same answers.
+pub same_document : (old new : Document) (agent : Sheet) (styles : DocumentStyles) (planned : Option Reversal) (board other : Records NodeEntry) (index changed : Index)
     → is_none planned ≡ true → new.tree ≡ old.tree → (IsSettled old → IsSettled new)
-    → IsBook old agent styles planned entries (record { tree = old.tree; sheet = styles.sheet; settled = is_none planned })
-    → IsBook new agent styles planned entries (record { tree = new.tree; sheet = styles.sheet; settled = is_none planned })
-same_document old new agent styles (Some reversal) entries none same still book = cc
-same_document old new agent styles None entries none same still book = record {
+    → other.held ≡ board.held → board.room ≤ other.room → ((id : List ℕ) (key : ℕ) → is_holder changed id key ≡ is_holder index id key)
+    → IsBook old agent styles board index planned (stands old.tree styles.sheet planned board.held)
+    → IsBook new agent styles other changed planned (stands new.tree styles.sheet planned other.held)
+same_document old new agent styles (Some reversal) board other index changed none same still held grown answers book = cc
+same_document old new agent styles None board other index changed none same still held grown answers book = record {
   agent_is = book.agent_is;
   styles_are = book.styles_are ∙ ap (λ (tree : Forest (Keyed Node)). document_styles styles.sheet tree) (sym same);
-  kept = λ settled key. book.kept settled key ∙ ap (λ (tree : Forest (Keyed Node)). fresh_entry (settled_on tree styles.sheet) key) (sym same);
+  kept = λ settled. kept_where old.tree new.tree styles.sheet styles.sheet board.held other.held true true same refl held (book.kept settled);
+  room = room_where old.tree new.tree board.room other.room same grown book.room;
+  indexed = index_where old.tree new.tree index changed same answers book.indexed;
   back = tt;
   keys = still book.keys;
 }

@@ -1,43 +1,47 @@
 //! A document and its sheet, evaluated.
 
-ghost use Rattle.std.specs.Prelude.{◌≡◌, ◌≤◌, ◌+◌, ◌*◌, ℕ, true, List, Some, None, IsSome, is_some, unwrap_or, IfOk, OnErr, option_copied};
+ghost use Rattle.std.specs.Prelude.{◌≡◌, ◌≤◌, ◌+◌, ◌*◌, true, Some, None, IsSome, unwrap_or, IfOk, OnErr};
+ghost use Rattle.std.specs.FinMap.{get};
 ghost use Rattle.std.specs.Str.{chars};
-ghost use Rattle.forest.specs.Forest.{size};
 ghost use Rattle.forest.specs.Keys.{without_keys};
 ghost use Rattle.node_arena.specs.Document.{HasElementRoot};
 ghost use Rattle.node_arena.specs.Edits.{place_fault, edited, edited_sheet, IsEdited};
 ghost use Rattle.node_arena.specs.Nodes.{name_of};
 ghost use Rattle.node_arena.specs.Reversals.{IsSettled};
 ghost use Rattle.css_reader.specs.Features.{features};
-ghost use Rattle.generated_texts.specs.Documents.{agent_sheet};
 ghost use Rattle.generated_texts.specs.StyleElements.{author_sheet};
-ghost use Rattle.dirty_walk.specs.Books.{fresh_entry, settled_on, Keeps};
-ghost use Rattle.dirty_walk.specs.DocumentStyles.{document_styles, read_styles};
-ghost use Rattle.dirty_walk.specs.Plans.{settled_after, IsPlannedBy};
+ghost use Rattle.document_walk.specs.Elements.{element_count};
+ghost use Rattle.dirty_walk.specs.Books.{fresh_entry, Keeps};
+ghost use Rattle.dirty_walk.specs.DocumentStyles.{document_styles};
+ghost use Rattle.dirty_walk.specs.Plans.{settled_after, IsPlannedBy, plan_size};
 
+use crate::board::{put_changes, take_entries};
 use crate::document_styles::DocumentStyles;
-use crate::fresh::{agent_sheet, fresh_entries};
+use crate::exchange::{inserts_one_tree, leaving_elements, taken_keys};
+use crate::fresh::{agent_sheet, fresh_board};
+use crate::index::index_of;
 use crate::plan::Plan;
+use crate::planning::evaluated;
 use crate::style_elements::style_texts;
 use generated_texts::entry::NodeEntry;
 use generated_texts::laws::elements_have_entries;
 use node_arena::arena::Arena;
 use node_arena::laws::arena_holds_document;
 use node_arena::reversal::Reversal;
-use plain_types::duplicate::Duplicate;
 use plain_types::edit::Edit;
 use plain_types::memory::Memory;
 use plain_types::sheet::{Features, Sheet};
 use plain_types::text::Text;
 use plain_types::tree::Tree;
+use snapshot_board::board::Board;
 use std::alloc::Global;
-use std::collections::HashMap;
 use std::marker::Model;
 use std::sync::ledger::Ledger;
 use steps::Steps;
+use target_index::index::Index;
 
-/// A document and the text of its sheet, with what they say of styles, and what a fresh evaluation keeps of each
-/// element. Each sheet is read once.
+/// A document and the text of its sheet, with what they say of styles, the index of the ids, and what a fresh
+/// evaluation keeps of each element. Each sheet is read once.
 ///
 /// Where an edit is planned the document and the styles are the edited ones already, and only `commit` may follow.
 #[derive(Drop)]
@@ -46,7 +50,9 @@ pub struct Book {
     /// The user agent's sheet.
     agent: Sheet,
     styles: DocumentStyles,
-    entries: HashMap<usize, NodeEntry>,
+    /// What is kept of the elements. While an edit is planned it is what was kept before.
+    board: Board<NodeEntry>,
+    index: Index,
     /// The way back from an edit that is planned.
     planned: Option<Reversal>,
 }
@@ -54,25 +60,25 @@ pub struct Book {
 impl Model for Book {
     ghost use Rattle.std.specs.Prelude.{is_none};
     ghost use Rattle.plain_types.specs.contracts.node.Node as node;
+    ghost use Rattle.generated_texts.specs.contracts.entry.NodeEntry as entry;
     ghost use Rattle.dirty_walk.specs.Books.{IsBook, StyledDocument, coded_styled_document};
 
     ghost Value = { StyledDocument };
 
-    ghost coded = { coded_styled_document node.the_row.coded };
+    ghost coded = { coded_styled_document node.the_row.coded entry.the_row.coded };
 
-    ghost view = { λ book. record { tree = book.arena.tree; sheet = book.styles.sheet; settled = is_none book.planned } };
+    ghost view = { λ book. record { tree = book.arena.tree; sheet = book.styles.sheet; settled = is_none book.planned; entries = book.board.held } };
 
-    ghost invariant = { λ book. IsBook book.arena book.agent book.styles book.planned book.entries (record { tree = book.arena.tree; sheet = book.styles.sheet; settled = is_none book.planned }) };
+    ghost invariant = { λ book. IsBook book.arena book.agent book.styles book.board book.index book.planned (record { tree = book.arena.tree; sheet = book.styles.sheet; settled = is_none book.planned; entries = book.board.held }) };
 }
 
-/// The text to which an edit replaces the sheet.
-fn new_sheet(alloc: Global, edit: &Edit) -> Result<Option<Text>, Memory>
-    ensures sheet { IfOk result (λ sheet. (old : List ℕ) → unwrap_or sheet old ≡ edited_sheet edit.now old) }
+/// The styles of a document under the sheet of this text, read.
+fn first_styles(alloc: Global, arena: &Arena, sheet: &str) -> Result<DocumentStyles, Memory>
+    ensures styles { IfOk result (λ styles. styles ≡ document_styles (chars sheet.now) arena.now.tree) }
 {
-    match edit {
-        Edit::ReplaceSheet { text } => Ok(Some(text.duplicate(alloc)?)),
-        _ => Ok(None),
-    }
+    let sheet = Text::from_str(alloc, sheet)?;
+    let texts = style_texts(alloc, arena)?;
+    DocumentStyles::read(alloc, sheet, texts)
 }
 
 fn replace_styles(styles: &mut DocumentStyles, new: Option<DocumentStyles>)
@@ -81,29 +87,6 @@ fn replace_styles(styles: &mut DocumentStyles, new: Option<DocumentStyles>)
     if let Some(new) = new {
         *styles = new;
     }
-}
-
-/// What an edit makes of the styles of a document, where it makes others of them, and what is kept of the elements
-/// then. The document is the edited one already, and the sheet is this one, or else the one before. No sheet is read
-/// where no text of the author is another.
-fn evaluated<L: Ledger>(
-    alloc: Global,
-    arena: &Arena,
-    agent: &Sheet,
-    styles: &DocumentStyles,
-    sheet: Option<Text>,
-    steps: &mut Steps<L>,
-) -> Result<(Option<DocumentStyles>, HashMap<usize, NodeEntry>), Memory>
-    requires agent { agent.now ≡ agent_sheet }
-    requires read { styles.now ≡ read_styles styles.now.sheet styles.now.texts }
-    ensures styles { IfOk result (λ made. unwrap_or made.0 styles.now ≡ document_styles (unwrap_or sheet styles.now.sheet) arena.now.tree) }
-    ensures entries { IfOk result (λ made. Keeps made.1 (settled_on arena.now.tree (unwrap_or sheet styles.now.sheet))) }
-    ensures steps { steps.new ≤ steps.old + 6 * size arena.now.tree }
-{
-    let texts = style_texts(alloc, arena)?;
-    let new = styles.renewed(alloc, sheet, texts)?;
-    let entries = fresh_entries(alloc, arena, agent, new.as_ref().unwrap_or(styles), steps)?;
-    Ok((new, entries))
 }
 
 impl Book {
@@ -122,19 +105,20 @@ impl Book {
         ensures tree { IfOk result (λ book. without_keys book.tree ≡ document.now) }
         ensures sheet { IfOk result (λ book. book.sheet ≡ chars sheet.now) }
         ensures settled { IfOk result (λ book. book.settled ≡ true) }
-        ensures steps { steps.new ≤ steps.old + 6 * size document.now }
+        ensures keeps { IfOk result (λ book. Keeps book) }
+        ensures steps { steps.new ≤ steps.old + 7 * element_count document.now }
     {
         let arena = Arena::from_tree(alloc, document)?;
-        let sheet = Text::from_str(alloc, sheet)?;
-        let texts = style_texts(alloc, &arena)?;
-        let styles = DocumentStyles::read(alloc, sheet, texts)?;
+        let styles = first_styles(alloc, &arena, sheet)?;
         let agent = agent_sheet(alloc)?;
-        let entries = fresh_entries(alloc, &arena, &agent, &styles, steps)?;
+        let index = index_of(alloc, &arena)?;
+        let board = fresh_board(alloc, &arena, &agent, &styles, &index, steps)?;
         Ok(Book {
             arena,
             agent,
             styles,
-            entries,
+            board,
+            index,
             planned: None,
         })
     }
@@ -143,7 +127,8 @@ impl Book {
     /// memory is taken that `commit` needs; `Memory` where that is wanting, and then the book is as before.
     ///
     /// The edited document is evaluated whole, which costs what `begin` costs, beside what the arena's `prepare` and
-    /// `commit` cost. Where the texts of the sheet and of the style elements are as before, none is read.
+    /// `commit` cost. Where the texts of the sheet and of the style elements are as before, none is read. An entry that
+    /// is as before stays where it is, and with it what it has in memory.
     pub fn plan<L: Ledger>(
         &mut self,
         alloc: Global,
@@ -153,19 +138,36 @@ impl Book {
         requires settled { self.old.settled ≡ true }
         requires allowed { place_fault edit.now (without_keys self.old.tree) ≡ None }
         ensures planned { IfOk result (λ plan. IsPlannedBy self.new plan) }
+        ensures entries { IfOk result (λ _. self.new.entries ≡ self.old.entries) }
         ensures document { IfOk result (λ plan. IsEdited edit.now self.old.tree (settled_after self.new plan).tree) }
         ensures sheet { IfOk result (λ plan. (settled_after self.new plan).sheet ≡ edited_sheet edit.now self.old.sheet) }
         ensures err { OnErr result (self.new ≡ self.old) }
-        ensures steps { steps.new ≤ steps.old + 6 * size (edited edit.now (without_keys self.old.tree)) }
+        ensures steps { steps.new ≤ steps.old + 7 * element_count (edited edit.now (without_keys self.old.tree)) }
+        ensures size { IfOk result (λ plan. plan_size plan ≤ element_count (edited edit.now (without_keys self.old.tree)) + element_count (without_keys self.old.tree)) }
     {
-        let sheet = new_sheet(alloc, edit)?;
+        arena_holds_document(&self.arena);
+        inserts_one_tree(edit);
+        let leaving = leaving_elements(alloc, &self.arena, edit)?;
+        let gone = leaving.as_slice();
+        let takes = taken_keys(alloc, edit, gone)?;
         let prepared = self.arena.prepare(alloc, edit)?;
         let reversal = self.arena.commit(prepared);
-        match evaluated(alloc, &self.arena, &self.agent, &self.styles, sheet, steps) {
-            Ok((styles, entries)) => {
+        arena_holds_document(&self.arena);
+        match evaluated(
+            alloc,
+            &self.arena,
+            &self.agent,
+            &self.styles,
+            &mut self.index,
+            &mut self.board,
+            edit,
+            gone,
+            steps,
+        ) {
+            Ok((styles, puts)) => {
                 replace_styles(&mut self.styles, styles);
                 self.planned = Some(reversal);
-                Ok(Plan { entries })
+                Ok(Plan { puts, takes })
             }
             Err(memory) => {
                 self.arena.revert(reversal);
@@ -174,15 +176,17 @@ impl Book {
         }
     }
 
-    /// Does the planned edit. It takes no memory, and time linear in what is let go: the entries from before, and
-    /// the nodes that the edit took out.
+    /// Does the planned edit: of what is kept some goes, and then some comes. It takes no memory, and time linear in
+    /// that and in the nodes that the edit took out. It is a step for each entry that comes or goes.
     pub fn commit<L: Ledger>(&mut self, plan: Plan, steps: &mut Steps<L>)
         requires planned { IsPlannedBy self.old plan }
         ensures settled { self.new ≡ settled_after self.old plan }
-        ensures steps { steps.new ≡ steps.old }
+        ensures keeps { Keeps self.new }
+        ensures steps { steps.new ≡ steps.old + plan_size plan }
     {
-        let Plan { entries } = plan;
-        self.entries = entries;
+        let Plan { puts, takes } = plan;
+        take_entries(&mut self.board, takes.as_slice(), steps);
+        put_changes(&mut self.board, puts, steps);
         if let Some(reversal) = self.planned.take() {
             self.arena.settle(reversal);
         }
@@ -222,26 +226,18 @@ impl Book {
         self.styles.features
     }
 
-    /// What is kept of the element of this key. It takes no memory and constant time, and counts one step at most.
+    /// What is kept of the element of this key, as it was put there. It takes no memory, constant time, and one step at
+    /// most.
     pub fn entry<L: Ledger>(&self, key: usize, steps: &mut Steps<L>) -> &NodeEntry
         requires settled { self.now.settled ≡ true }
         requires element { IsSome (name_of self.now.tree key) }
         ensures entry { Some result.now ≡ fresh_entry self.now key }
+        ensures held { Some result.now ≡ get self.now.entries key }
         ensures steps { steps.new ≤ steps.old + 1 }
-    {
-        self.find_entry(key).unwrap()
-    }
-
-    /// What is kept of the element of this key; None exactly where no element has it. It takes no memory and constant
-    /// time.
-    pub fn find_entry(&self, key: usize) -> Option<&NodeEntry>
-        requires settled { self.now.settled ≡ true }
-        ensures entry { option_copied result ≡ fresh_entry self.now key }
-        ensures element { is_some result ≡ is_some (name_of self.now.tree key) }
     {
         // The document has distinct keys, and then exactly its elements have entries.
         arena_holds_document(&self.arena);
         elements_have_entries();
-        self.entries.get(&key)
+        self.board.get(key, steps).unwrap()
     }
 }

@@ -1,9 +1,10 @@
 //! What is kept of elements, from what their evaluation says.
 
-ghost use Rattle.std.specs.Prelude.{◌≡◌, ◌==◌, ℕ, nat_eq, cond, IfOk, OnOk, Some, option_map};
-ghost use Rattle.std.specs.HashMap.{get};
+ghost use Rattle.std.specs.Prelude.{◌≡◌, ◌↔◌, ◌+◌, ◌≤◌, ◌++◌, ◌∷◌, [], length, IfNone, IfOk, IfSome, IsTrue, OnOk, Some, option_map};
+ghost use Rattle.std.specs.FinMap.{get};
 ghost use Rattle.generated_texts.specs.Entries.{box_text, node_entries, node_entry};
-ghost use Rattle.generated_texts.specs.References.{kept_at};
+ghost use Rattle.snapshot_board.specs.Records.{put_all};
+ghost use Rattle.dirty_walk.specs.Changes.{AreBelow, AreChanges};
 
 use box_eval::element_record::ElementRecord;
 use box_eval::made::Made;
@@ -12,8 +13,10 @@ use content_eval::texts::{flat_text, full_text};
 use generated_texts::entry::{BoxText, NodeEntry};
 use plain_types::memory::Memory;
 use plain_types::table::Table;
+use snapshot_board::board::Board;
 use std::alloc::Global;
-use std::collections::HashMap;
+use std::sync::ledger::Ledger;
+use steps::Steps;
 
 /// The texts of a box, where there is one.
 fn box_text<T: Targets>(
@@ -53,28 +56,87 @@ fn node_entry<T: Targets>(
     })
 }
 
-fn put(entries: &mut HashMap<usize, NodeEntry>, key: usize, entry: NodeEntry) -> Result<(), Memory>
-    ensures put { OnOk result ((other : ℕ) → get nat_eq entries.new other ≡ cond (key == other) (Some entry) (get nat_eq entries.old other)) }
+/// Whether a board holds this entry under this key, in one step.
+fn is_held<L: Ledger>(
+    board: &Board<NodeEntry>,
+    key: usize,
+    entry: &NodeEntry,
+    steps: &mut Steps<L>,
+) -> bool
+    ensures test { IsTrue result ↔ get board.now.held key ≡ Some entry.now }
+    ensures step { steps.new ≡ steps.old + 1 }
 {
-    entries.insert(key, entry)?;
+    match board.get(key, steps) {
+        Some(held) => held.is_same(entry),
+        None => false,
+    }
+}
+
+/// The entry, unless a board holds it under this key; then it is let go. One step.
+fn unless_held<L: Ledger>(
+    board: &Board<NodeEntry>,
+    key: usize,
+    entry: NodeEntry,
+    steps: &mut Steps<L>,
+) -> Option<NodeEntry>
+    ensures some { IfSome result (λ new. (new ≡ entry) × (get board.now.held key ≡ Some entry → ⊥)) }
+    ensures none { IfNone result (get board.now.held key ≡ Some entry) }
+    ensures step { steps.new ≡ steps.old + 1 }
+{
+    if is_held(board, key, &entry, steps) {
+        None
+    } else {
+        Some(entry)
+    }
+}
+
+fn push(changes: &mut Vec<(usize, NodeEntry)>, key: usize, entry: NodeEntry) -> Result<(), Memory>
+    ensures ok { OnOk result (changes.new.items ≡ changes.old.items ++ (key, entry) ∷ []) }
+{
+    changes.push((key, entry))?;
     Ok(())
 }
 
-/// What is kept of all elements, by key.
-pub(crate) fn all_entries<T: Targets>(
+/// Puts what is kept of the elements on a board that has room for it. It is a step for each.
+pub(crate) fn put_entries<T: Targets, L: Ledger>(
     alloc: Global,
     table: &Table,
     records: &[(usize, ElementRecord)],
     targets: &T,
-) -> Result<HashMap<usize, NodeEntry>, Memory>
-    ensures entries { IfOk result (λ entries. (key : ℕ) → get nat_eq entries key ≡ kept_at (node_entries table.now (T.known targets.now) records.now) key) }
+    board: &mut Board<NodeEntry>,
+    steps: &mut Steps<L>,
+) -> Result<(), Memory>
+    requires room { AreBelow board.old.room records.now }
+    ensures held { OnOk result (board.new.held ≡ put_all (node_entries table.now (T.known targets.now) records.now) board.old.held) }
+    ensures room { board.new.room ≡ board.old.room }
+    ensures steps { steps.new ≤ steps.old + length records.now }
 {
-    let mut entries = HashMap::new(alloc);
     for (key, element) in records {
-        if !entries.contains_key(key) {
-            let entry = node_entry(alloc, table, element, targets)?;
-            put(&mut entries, *key, entry)?;
+        let entry = node_entry(alloc, table, element, targets)?;
+        board.put(*key, entry, steps);
+    }
+    Ok(())
+}
+
+/// What is kept of the elements and is not on a board: an entry that is there already is let go at once. It is a step
+/// for each element.
+pub(crate) fn changed_entries<T: Targets, L: Ledger>(
+    alloc: Global,
+    table: &Table,
+    records: &[(usize, ElementRecord)],
+    targets: &T,
+    board: &Board<NodeEntry>,
+    steps: &mut Steps<L>,
+) -> Result<Vec<(usize, NodeEntry)>, Memory>
+    ensures changes { IfOk result (λ changes. AreChanges board.now.held (node_entries table.now (T.known targets.now) records.now) changes.items) }
+    ensures steps { steps.new ≤ steps.old + length records.now }
+{
+    let mut changes = Vec::new(alloc);
+    for (key, element) in records {
+        let entry = node_entry(alloc, table, element, targets)?;
+        if let Some(entry) = unless_held(board, *key, entry, steps) {
+            push(&mut changes, *key, entry)?;
         }
     }
-    Ok(entries)
+    Ok(changes)
 }

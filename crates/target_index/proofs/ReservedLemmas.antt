@@ -1,8 +1,9 @@
 -- Changes that were reserved.
-use Rattle.std.proofs.Common.{◌≡◌, ◌<◌, ◌≤◌, ◌+◌, ◌∙◌, ℕ, cond, List, [], ◌∷◌, ◌++◌, Some, count_by, drop, get_or, length, slice_get, suc, ap, refl, subst, sym, inl, inr, add-one, drop-cons, append-nil, arith}
+use Rattle.std.proofs.Common.{◌≡◌, ◌<◌, ◌≤◌, ◌+◌, ◌∙◌, ℕ, cond, List, [], ◌∷◌, ◌++◌, Some, count_by, drop, get_or, length, slice_get, suc, ap, refl, subst, sym, inl, inr, add-one, drop-cons, arith}
 use Rattle.std.specs.Option.{option_to_list}
 use Rattle.std.specs.Str.{bytes_eq}
 use Rattle.std.proofs.lemmas.Bool.{cases_Bool}
+use Rattle.std.proofs.lemmas.Grind.{flat_map-append}
 use Rattle.std.proofs.lemmas.List.Sums.{sum_by-append, sum_by-cons}
 use Rattle.std.proofs.lemmas.Slice.Eq.{bytes_eq-Decides}
 use Rattle.target_index.specs.declared.change.IndexChange.{IndexChange}
@@ -33,14 +34,15 @@ module _ (old new : Pairs) (ids : List (List ℕ)) where
 room_of_front : (pairs : Pairs) (front rest : List (List ℕ)) → HasRoomFor pairs (front ++ rest) → HasRoomFor pairs front
 room_of_front pairs front rest h id = omega (arith, h id, sum_by-append (λ x. cond (bytes_eq id x) 1 0) front rest)
 
-front_reserved : (relation : Relation) (pairs : Pairs) (change : IndexChange) (changes : List IndexChange) → HasRoomFor pairs (added_ids relation (change ∷ changes)) → HasRoomFor pairs (added_ids relation (change ∷ []))
-front_reserved relation pairs change changes h =
-    subst (HasRoomFor pairs) (sym (append-nil (option_to_list (added_id relation change)))) (room_of_front pairs (option_to_list (added_id relation change)) (added_ids relation changes) h)
+front_room : (relation : Relation) (pairs : Pairs) (front rest : List IndexChange) → HasRoomFor pairs (added_ids relation (front ++ rest)) → HasRoomFor pairs (added_ids relation front)
+front_room relation pairs front rest h =
+    room_of_front pairs (added_ids relation front) (added_ids relation rest) (subst (HasRoomFor pairs) (flat_map-append (λ change. option_to_list (added_id relation change)) front rest) h)
 
-pub first_reserved : (index : Index) (change : IndexChange) (changes : List IndexChange) → AreReserved index (change ∷ changes) → AreReserved index (change ∷ [])
-first_reserved index change changes h = record {
-  holders = front_reserved Holder index.holders change changes h.holders;
-  references = front_reserved Reference index.references change changes h.references;
+-- what is reserved with other changes behind it is reserved
+pub front_reserved : (index : Index) (front rest : List IndexChange) → AreReserved index (front ++ rest) → AreReserved index front
+front_reserved index front rest h = record {
+  holders = front_room Holder index.holders front rest h.holders;
+  references = front_room Reference index.references front rest h.references;
 }
 
 -- there is room for ids as often as they are counted

@@ -1,6 +1,6 @@
 //! The index of a document.
 
-ghost use Rattle.std.specs.Prelude.{◌≡◌, ◌∷◌, ℕ, nat_eq, List, [], true, IfNone, IfSome, OnOk};
+ghost use Rattle.std.specs.Prelude.{◌≡◌, ◌∷◌, ◌++◌, ℕ, nat_eq, List, [], true, IfNone, IfSome, OnOk};
 ghost use Rattle.std.specs.List.{IsDistinct};
 ghost use Rattle.std.specs.Str.{chars};
 ghost use Rattle.forest.specs.Spots.{IsLive};
@@ -48,11 +48,13 @@ impl Index {
         Ok(())
     }
 
-    /// Makes the changes, in their order. It takes no memory, and time linear in the changes and their ids.
+    /// Makes the changes, in their order. What was reserved after them stays reserved, so changes and their way back
+    /// can be reserved together. It takes no memory, and time linear in the changes and their ids.
     pub fn commit(&mut self, changes: List<IndexChange>)
         requires reserved { AreReserved self.old changes }
         ensures holders { (id : List ℕ) (key : ℕ) → is_holder self.new id key ≡ holds_after_all changes id key (is_holder self.old id key) }
         ensures references { (id : List ℕ) (key : ℕ) → is_reference self.new id key ≡ refers_after_all changes id key (is_reference self.old id key) }
+        ensures reserved { (more : List IndexChange) → AreReserved self.old (changes ++ more) → AreReserved self.new more }
     {
         for change in changes.as_slice() {
             self.apply(change);

@@ -8,7 +8,7 @@
 //!
 //! Changes come in two steps. [`index::Index::reserve_for`] takes all memory that they need and leaves the pairs
 //! as they are; [`index::Index::commit`] makes them, takes none, and cannot fail. So a change of a document can be
-//! given up until it is made.
+//! given up until it is made; and also after that, where its way back was reserved behind it in the same call.
 //!
 //! The layer above knows this crate by `holders_of`, `references_of` and `IsFirstHolder` of
 //! `specs/Holders.antt`, and by `holds_after_all`, `refers_after_all` and `AreReserved` of `specs/Changes.antt`.

@@ -1,8 +1,9 @@
 //! Changes of an index, as a table.
 
-ghost use Rattle.std.specs.Prelude.{◌≡◌, ℕ, nat_eq, true, IsTrue};
+ghost use Rattle.std.specs.Prelude.{◌≡◌, ◌∷◌, [], ℕ, nat_eq, true, codes, IfOk, IsTrue};
 ghost use Rattle.std.specs.List.{list_any};
 ghost use Rattle.forest.specs.Spots.{IsLive};
+ghost use Rattle.target_index.specs.declared.change.IndexChange.TheVariants.{Hold, Unhold};
 
 use crate::change::IndexChange;
 use crate::index::Index;
@@ -250,5 +251,46 @@ fn rows_come_out(rt: HostRuntime) -> Result<(), Fail> {
     for (place, row) in ROWS.iter().enumerate() {
         assert!(rt; comes_out(alloc, &arena, row)?, "row {place}");
     }
+    Ok(())
+}
+
+/// That the element of key 1 holds `x`.
+fn held(alloc: Global) -> Result<IndexChange, Memory>
+    ensures change { IfOk result (λ change. change ≡ Hold (codes "x") 1) }
+{
+    let id = Text::from_str(alloc, "x")?;
+    Ok(IndexChange::Hold { id, key: 1 })
+}
+
+/// That it does not.
+fn unheld(alloc: Global) -> Result<IndexChange, Memory>
+    ensures change { IfOk result (λ change. change ≡ Unhold (codes "x") 1) }
+{
+    let id = Text::from_str(alloc, "x")?;
+    Ok(IndexChange::Unhold { id, key: 1 })
+}
+
+/// The list of one change.
+fn alone(alloc: Global, change: IndexChange) -> Result<List<IndexChange>, Memory>
+    ensures list { IfOk result (λ changes. changes ≡ change ∷ []) }
+{
+    let mut changes = List::new(alloc);
+    changes.push(change)?;
+    Ok(changes)
+}
+
+#[test]
+fn a_change_and_its_way_back_are_reserved_together(rt: HostRuntime) -> Result<(), Fail> {
+    let alloc = rt.alloc();
+    let mut index = Index::new(alloc);
+    let mut both = alone(alloc, held(alloc)?)?;
+    both.push(unheld(alloc)?)?;
+    index.reserve_for(alloc, both.as_slice())?;
+    let change = alone(alloc, held(alloc)?)?;
+    let back = alone(alloc, unheld(alloc)?)?;
+    index.commit(change);
+    assert!(rt; index.holders("x") == [1].as_slice());
+    index.commit(back);
+    assert!(rt; index.holders("x").is_empty());
     Ok(())
 }

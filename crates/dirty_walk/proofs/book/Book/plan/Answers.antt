@@ -1,34 +1,73 @@
-use Rattle.std.proofs.Common.{◌≡◌, ◌∙◌, true, refl, unwrap_or, ap, sym, subst, arith}
+use Rattle.std.proofs.Common.{◌≡◌, ◌∙◌, ◌≤◌, ◌+◌, true, None, refl, ap, sym, subst, arith, length, List, ℕ}
+use Rattle.std.specs.FinMap.{FinMap, get}
 use Rattle.std.specs.Option.{is_none}
-use Rattle.forest.specs.Forest.{Forest, size}
+use Rattle.std.specs.Ordering.{nat_cmp}
+use Rattle.forest.specs.Forest.{Forest}
 use Rattle.forest.specs.Keys.{Keyed, without_keys}
+use Rattle.plain_types.specs.declared.edit.Edit.{Edit}
 use Rattle.plain_types.specs.declared.node.Node.{Node}
 use Rattle.node_arena.proofs.KeyLaws.{committed, reverted, still_settled}
-use Rattle.node_arena.proofs.RowFacts.{size-without_keys}
-use Rattle.node_arena.specs.Edits.{edited, edited_sheet, IsEdited}
-use Rattle.generated_texts.specs.StyleElements.{style_texts}
+use Rattle.node_arena.specs.Document.{IsKeyedDocument}
+use Rattle.node_arena.specs.Edits.{IsEdited, edited, edited_sheet, place_fault}
+use Rattle.generated_texts.specs.declared.entry.NodeEntry.{NodeEntry}
+use Rattle.generated_texts.specs.Entries.{document_entries}
+use Rattle.generated_texts.specs.References.{kept_at}
+use Rattle.generated_texts.specs.StyleElements.{author_sheet, style_texts}
+use Rattle.document_walk.specs.Elements.{element_count}
+use Rattle.snapshot_board.specs.Records.{put_all, take_all}
 use Rattle.dirty_walk.specs.Books.{StyledDocument}
-use Rattle.dirty_walk.specs.Plans.{settled_after, IsPlannedBy}
-use Rattle.dirty_walk.proofs.PlanLemmas.{as_read, its_keys, its_text, kept_where, same_document, under_its_text}
+use Rattle.dirty_walk.specs.Exchanges.{InsertsOneTree, IsDone, taken_keys}
+use Rattle.dirty_walk.specs.Plans.{settled_after, AreOthers, IsPlannedBy}
+use Rattle.dirty_walk.proofs.ChangeLemmas.{are_others}
+use Rattle.dirty_walk.proofs.PlanLemmas.{as_read, its_keys, its_text, same_document, under_its_text}
+use Rattle.dirty_walk.proofs.SettlingLemmas.{few, has_room, keeps_all, of_elements}
 use Rattle.dirty_walk.proofs.book.Book.plan.Goals as goal
+
+-- the edit that is allowed, prepared and committed is done
+done_by : (edit : Edit) (old after new : Forest (Keyed Node)) (styled : StyledDocument) → IsKeyedDocument old → IsKeyedDocument new → old ≡ styled.tree → place_fault edit (without_keys styled.tree) ≡ None
+    → InsertsOneTree edit → IsEdited edit old after → new ≡ after → IsDone edit old new
+done_by edit old after new styled before document same allowed fragment edits is = record {
+  before = before;
+  after = document;
+  allowed = ap (λ (tree : Forest (Keyed Node)). place_fault edit (without_keys tree)) same ∙ allowed;
+  fragment = fragment;
+  edited = subst (λ (tree : Forest (Keyed Node)). IsEdited edit old tree) (sym is) edits;
+}
 
 pub evaluated-requires-clause-read : goal.evaluated-requires-clause-read
 evaluated-requires-clause-read g c = as_read c.self.inside.styles c.self.inside.styles.sheet c.self.inside.arena.tree c.self.invariant.styles_are
 
+pub evaluated-requires-clause-before : goal.evaluated-requires-clause-before
+evaluated-requires-clause-before g c = record {
+  old = c.self.inside.arena.tree;
+  done = done_by c.args.edit.now c.self.inside.arena.tree _ c.commit-reversal.new.self.tree c.args.self.now c.arena_holds_document.ensures.document c.arena_holds_document-2.ensures.document
+      (ap (λ (styled : StyledDocument). styled.tree) c.self.view_is) c.requires.allowed c.inserts_one_tree.ensures c.in_ok-prepared.ensures.edits c.commit-reversal.ensures.tree;
+  gone_are = c.as_slice-gone.ensures.items ∙ c.in_ok-leaving.ensures.elements;
+  indexed = c.self.invariant.indexed;
+}
+
 pub invariant_of-self : goal.invariant_of-self
 invariant_of-self g c =
     let none : is_none c.self.inside.planned ≡ true = ap (λ (styled : StyledDocument). styled.settled) c.self.view_is ∙ c.requires.settled in
-    same_document _ _ _ _ _ _ none c.prepare.ensures.tree (λ were. still_settled _ _ were c.prepare.ensures.tree c.in_err-prepared.ensures.err) c.self.invariant
+    same_document _ _ _ _ _ _ _ _ _ none c.prepare.ensures.tree (λ were. still_settled _ _ were c.prepare.ensures.tree c.in_err-prepared.ensures.err) refl (omega arith) (λ id key. refl) c.self.invariant
 
 pub invariant_of-self-in-Ok : goal.invariant_of-self-in-Ok
 invariant_of-self-in-Ok g c =
     let none : is_none c.self.inside.planned ≡ true = ap (λ (styled : StyledDocument). styled.settled) c.self.view_is ∙ c.requires.settled in
+    let old = c.self.inside.arena.tree in
+    let tree = c.commit-reversal.new.self.tree in
+    let text = edited_sheet c.args.edit.now c.self.inside.styles.sheet in
+    let done =
+    done_by c.args.edit.now old _ tree c.args.self.now c.arena_holds_document.ensures.document c.arena_holds_document-2.ensures.document
+    (ap (λ (styled : StyledDocument). styled.tree) c.self.view_is) c.requires.allowed c.inserts_one_tree.ensures c.in_ok-prepared.ensures.edits c.commit-reversal.ensures.tree in
+    let taken = c.in_ok-takes.ensures.keys ∙ ap (taken_keys c.args.edit.now) (c.as_slice-gone.ensures.items ∙ c.in_ok-leaving.ensures.elements) in
     record {
       agent_is = c.self.invariant.agent_is;
-      styles_are =
-          let tree = c.commit-reversal.new.self.tree in
-          under_its_text c.replace_styles.new.styles (unwrap_or c.in_ok-sheet.sheet c.self.inside.styles.sheet) tree (c.replace_styles.ensures ∙ c.in-Ok.ensures.styles);
+      styles_are = under_its_text c.replace_styles.new.styles text tree (c.replace_styles.ensures ∙ c.in-Ok.ensures.styles);
       kept = λ settled. cc;
+      room = has_room c.args.edit.now old tree done c.self.inside.styles.sheet text c.self.inside.board.held c.in-Ok.puts.items c.in_ok-takes.takes (c.self.invariant.kept none) c.in-Ok.ensures.changes taken
+          c.self.inside.board.room c.evaluated.new.board.room c.self.invariant.room c.evaluated.ensures.grown c.in-Ok.ensures.room;
+      indexed = c.in-Ok.ensures.indexed;
       back = c.commit-reversal.ensures.reversal;
       keys =
           committed _ _ _ _ _ (its_keys c.self.inside.arena c.self.inside.planned none c.self.invariant.keys) c.prepare.ensures.tree c.in_ok-prepared.ensures.reserves
@@ -38,20 +77,42 @@ invariant_of-self-in-Ok g c =
 pub invariant_of-self-in-Err : goal.invariant_of-self-in-Err
 invariant_of-self-in-Err g c =
     let none : is_none c.self.inside.planned ≡ true = ap (λ (styled : StyledDocument). styled.settled) c.self.view_is ∙ c.requires.settled in
-    same_document _ _ _ _ _ _ none (c.revert.ensures.tree ∙ c.commit-reversal.ensures.before ∙ c.prepare.ensures.tree)
+    same_document _ _ _ _ _ _ _ _ _ none (c.revert.ensures.tree ∙ c.commit-reversal.ensures.before ∙ c.prepare.ensures.tree)
     (λ were.
     reverted _ _ _
     (committed _ _ _ _ _ were c.prepare.ensures.tree c.in_ok-prepared.ensures.reserves c.commit-reversal.ensures.tree c.commit-reversal.ensures.before c.commit-reversal.ensures.used)
     c.revert.ensures.tree c.revert.ensures.freed)
-    c.self.invariant
+    c.evaluated.ensures.held c.evaluated.ensures.grown c.in-Err.ensures.err c.self.invariant
 
 pub returns-in-Ok-clause-planned : goal.returns-in-Ok-clause-planned
 unfolding IsPlannedBy settled_after
 returns-in-Ok-clause-planned g c =
-    let text = unwrap_or c.in_ok-sheet.sheet c.self.inside.styles.sheet in
+    let none : is_none c.self.inside.planned ≡ true = ap (λ (styled : StyledDocument). styled.settled) c.self.view_is ∙ c.requires.settled in
+    let old = c.self.inside.arena.tree in
     let tree = c.commit-reversal.new.self.tree in
-    let styles = c.replace_styles.new.styles in
-    (refl, kept_where tree tree text styles.sheet c.in-Ok.entries refl (its_text styles text (style_texts tree) (c.replace_styles.ensures ∙ c.in-Ok.ensures.styles)) c.in-Ok.ensures.entries)
+    let before = c.self.inside.styles.sheet in
+    let text = edited_sheet c.args.edit.now before in
+    let held = c.self.inside.board.held in
+    let puts = c.in-Ok.puts.items in
+    let takes = c.in_ok-takes.takes in
+    let sheet = its_text c.replace_styles.new.styles text (style_texts tree) (c.replace_styles.ensures ∙ c.in-Ok.ensures.styles) in
+    let done =
+    done_by c.args.edit.now old _ tree c.args.self.now c.arena_holds_document.ensures.document c.arena_holds_document-2.ensures.document
+    (ap (λ (styled : StyledDocument). styled.tree) c.self.view_is) c.requires.allowed c.inserts_one_tree.ensures c.in_ok-prepared.ensures.edits c.commit-reversal.ensures.tree in
+    let taken = c.in_ok-takes.ensures.keys ∙ ap (taken_keys c.args.edit.now) (c.as_slice-gone.ensures.items ∙ c.in_ok-leaving.ensures.elements) in
+    let kept = c.self.invariant.kept none in (
+      refl,
+      λ key.
+          ap (λ (map : FinMap nat_cmp NodeEntry). get (put_all puts (take_all takes map)) key) c.evaluated.ensures.held
+          ∙ keeps_all c.args.edit.now old tree done before text held puts takes kept c.in-Ok.ensures.changes taken key
+          ∙ ap (λ (text : List ℕ). kept_at (document_entries (author_sheet text tree) tree) key) (sym sheet),
+      of_elements c.args.edit.now old tree done before text held puts takes kept c.in-Ok.ensures.changes taken,
+      subst (λ (map : FinMap nat_cmp NodeEntry). AreOthers map puts) (sym c.evaluated.ensures.held)
+          (are_others held (document_entries (author_sheet text tree) tree) puts c.in-Ok.ensures.changes),
+    )
+
+pub returns-in-Ok-clause-entries : goal.returns-in-Ok-clause-entries
+returns-in-Ok-clause-entries g c = c.evaluated.ensures.held ∙ ap (λ (styled : StyledDocument). styled.entries) c.self.view_is
 
 pub returns-in-Ok-clause-document : goal.returns-in-Ok-clause-document
 unfolding settled_after
@@ -63,26 +124,43 @@ returns-in-Ok-clause-document g c =
 pub returns-in-Ok-clause-sheet : goal.returns-in-Ok-clause-sheet
 unfolding settled_after
 returns-in-Ok-clause-sheet g c =
-    let text = unwrap_or c.in_ok-sheet.sheet c.self.inside.styles.sheet in
-    let tree = c.commit-reversal.new.self.tree in
-    its_text c.replace_styles.new.styles text (style_texts tree) (c.replace_styles.ensures ∙ c.in-Ok.ensures.styles)
-    ∙ c.in_ok-sheet.ensures.sheet c.self.inside.styles.sheet
+    its_text c.replace_styles.new.styles (edited_sheet c.args.edit.now c.self.inside.styles.sheet) (style_texts c.commit-reversal.new.self.tree) (c.replace_styles.ensures ∙ c.in-Ok.ensures.styles)
     ∙ ap (λ (styled : StyledDocument). edited_sheet c.args.edit.now styled.sheet) c.self.view_is
 
 pub returns-in-Ok-clause-steps : goal.returns-in-Ok-clause-steps
 returns-in-Ok-clause-steps g c =
-    let same : size c.commit-reversal.new.self.tree ≡ size (edited c.args.edit.now (without_keys c.args.self.now.tree)) =
-    ap size c.commit-reversal.ensures.tree
-    ∙ sym (size-without_keys _)
-    ∙ ap size c.in_ok-prepared.ensures.edits.tree
-    ∙ ap (λ (styled : StyledDocument). size (edited c.args.edit.now (without_keys styled.tree))) c.self.view_is in
+    let same : element_count (without_keys c.commit-reversal.new.self.tree) ≡ element_count (edited c.args.edit.now (without_keys c.args.self.now.tree)) =
+    ap (λ (tree : Forest (Keyed Node)). element_count (without_keys tree)) c.commit-reversal.ensures.tree
+    ∙ ap element_count c.in_ok-prepared.ensures.edits.tree
+    ∙ ap (λ (styled : StyledDocument). element_count (edited c.args.edit.now (without_keys styled.tree))) c.self.view_is in
     omega (arith, same, c.evaluated.ensures.steps)
 
-pub returns-in-Err-clause-steps : goal.returns-in-Err-clause-steps
-returns-in-Err-clause-steps g c =
-    let same : size c.commit-reversal.new.self.tree ≡ size (edited c.args.edit.now (without_keys c.args.self.now.tree)) =
-    ap size c.commit-reversal.ensures.tree
-    ∙ sym (size-without_keys _)
-    ∙ ap size c.in_ok-prepared.ensures.edits.tree
-    ∙ ap (λ (styled : StyledDocument). size (edited c.args.edit.now (without_keys styled.tree))) c.self.view_is in
+pub returns-in-Ok-clause-size : goal.returns-in-Ok-clause-size
+returns-in-Ok-clause-size g c =
+    let none : is_none c.self.inside.planned ≡ true = ap (λ (styled : StyledDocument). styled.settled) c.self.view_is ∙ c.requires.settled in
+    let old = c.self.inside.arena.tree in
+    let tree = c.commit-reversal.new.self.tree in
+    let before = c.self.inside.styles.sheet in
+    let text = edited_sheet c.args.edit.now before in
+    let puts = c.in-Ok.puts.items in
+    let takes = c.in_ok-takes.takes in
+    let done =
+    done_by c.args.edit.now old _ tree c.args.self.now c.arena_holds_document.ensures.document c.arena_holds_document-2.ensures.document
+    (ap (λ (styled : StyledDocument). styled.tree) c.self.view_is) c.requires.allowed c.inserts_one_tree.ensures c.in_ok-prepared.ensures.edits c.commit-reversal.ensures.tree in
+    let taken = c.in_ok-takes.ensures.keys ∙ ap (taken_keys c.args.edit.now) (c.as_slice-gone.ensures.items ∙ c.in_ok-leaving.ensures.elements) in
+    let same : element_count (without_keys tree) ≡ element_count (edited c.args.edit.now (without_keys c.args.self.now.tree)) =
+    ap (λ (tree : Forest (Keyed Node)). element_count (without_keys tree)) c.commit-reversal.ensures.tree
+    ∙ ap element_count c.in_ok-prepared.ensures.edits.tree
+    ∙ ap (λ (styled : StyledDocument). element_count (edited c.args.edit.now (without_keys styled.tree))) c.self.view_is in
+    let was : element_count (without_keys old) ≡ element_count (without_keys c.args.self.now.tree) = ap (λ (styled : StyledDocument). element_count (without_keys styled.tree)) c.self.view_is in
+    let count : length puts + length takes ≤ element_count (without_keys tree) + element_count (without_keys old) =
+    few c.args.edit.now old tree done before text c.self.inside.board.held puts takes (c.self.invariant.kept none) c.in-Ok.ensures.changes taken in
+    omega (arith, same, was, count)
+
+pub returns-clause-steps : goal.returns-clause-steps
+returns-clause-steps g c =
+    let same : element_count (without_keys c.commit-reversal.new.self.tree) ≡ element_count (edited c.args.edit.now (without_keys c.args.self.now.tree)) =
+    ap (λ (tree : Forest (Keyed Node)). element_count (without_keys tree)) c.commit-reversal.ensures.tree
+    ∙ ap element_count c.in_ok-prepared.ensures.edits.tree
+    ∙ ap (λ (styled : StyledDocument). element_count (edited c.args.edit.now (without_keys styled.tree))) c.self.view_is in
     omega (arith, same, c.evaluated.ensures.steps)

@@ -1,0 +1,6 @@
+use Rattle.std.proofs.Common.{◌≡◌, ◌++◌, flat_map, take}
+use Rattle.dirty_walk.specs.Exchanges.{held}
+use Rattle.dirty_walk.proofs.exchange.put_held.Given as goal
+
+abbrev pub invariant-loop-element : goal.invariant-loop-element
+invariant-loop-element l = l.changes ≡ l.fn.changes ++ flat_map held (take l.element-index l.elements)
