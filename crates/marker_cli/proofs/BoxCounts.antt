@@ -6,8 +6,10 @@ use Rattle.forest.specs.Keys.{HasDistinctKeys, Keyed, without_keys}
 use Rattle.plain_types.specs.declared.node.Node.{Node}
 use Rattle.node_arena.specs.Nodes.{name_of, node_name}
 use Rattle.generated_texts.specs.declared.entry.NodeEntry.{NodeEntry}
-use Rattle.marker_engine.specs.Census.{boxes_in, element_count, lines_in, one_where}
-use Rattle.marker_engine.proofs.Counts.{weigh-labels, weigh-without_keys}
+use Rattle.document_walk.specs.Elements.{element_count, one_where}
+use Rattle.document_walk.proofs.ElementLemmas.{weigh-without_keys}
+use Rattle.marker_engine.specs.Census.{boxes_in, lines_in}
+use Rattle.marker_engine.proofs.Counts.{weigh-labels}
 
 -- each element has an entry that says that it has its box
 abbrev pub EachHasABox : (ℕ → Option NodeEntry) → Forest (Keyed Node) → Type 0

@@ -27,7 +27,8 @@ use Rattle.generated_texts.specs.Lines.{document_lines}
 use Rattle.generated_texts.specs.References.{kept_at}
 use Rattle.generated_texts.specs.StyleElements.{author_sheet, has_sheet, style_texts}
 use Rattle.generated_texts.proofs.BoxesOfAll.{each_has_box}
-use Rattle.marker_engine.specs.Census.{box_count, element_count}
+use Rattle.document_walk.specs.Elements.{element_count}
+use Rattle.marker_engine.specs.Census.{box_count}
 use Rattle.marker_engine.specs.Edited.{edited}
 use Rattle.marker_engine.specs.Engines.{Source}
 use Rattle.marker_engine.proofs.Counts.{line_count}

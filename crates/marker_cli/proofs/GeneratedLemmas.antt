@@ -2,11 +2,12 @@
 use Rattle.std.proofs.Common.{◌≡◌, ℕ, zero, suc, ◌<◌, ◌+◌, List, [], ◌∷◌, Result, arith, drop, get_or, length, refl, ◌∙◌, ap, add-one}
 use Rattle.std.specs.Prelude.{Ok, Err}
 use Rattle.std.proofs.Math.Seq.{drop-cons}
+use Rattle.document_walk.specs.Elements.{element_count}
 use Rattle.edit_script.specs.Draws.{state_after}
 use Rattle.edit_script.specs.Generator.{document, draws_of, edits, edits_of, kind_drawn, section_count, sheet}
 use Rattle.forest.specs.Forest.{Forest}
 use Rattle.generated_texts.specs.Lines.{document_lines}
-use Rattle.marker_engine.specs.Census.{box_count, element_count, saturated}
+use Rattle.marker_engine.specs.Census.{box_count, saturated}
 use Rattle.marker_engine.specs.Edited.{edited}
 use Rattle.marker_engine.specs.Engines.{Source}
 use Rattle.node_arena.specs.Document.{HasElementRoot}

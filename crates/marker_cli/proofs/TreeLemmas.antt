@@ -4,7 +4,8 @@ use Rattle.std.specs.Prelude.{Ok, Err}
 use Rattle.xml_definitions.specs.Documents.{IsDocument, document}
 use Rattle.xml_definitions.specs.Items.{Item}
 use Rattle.xml_definitions.specs.Texts.{IsDocumentText}
-use Rattle.forest.specs.Forest.{Forest, size}
+use Rattle.document_walk.specs.Elements.{element_count}
+use Rattle.forest.specs.Forest.{Forest}
 use Rattle.node_arena.specs.Document.{HasElementRoot}
 use Rattle.plain_types.specs.declared.node.Node.{Node}
 use Rattle.marker_cli.specs.Dump.{Reading, most_steps, tree_of}
@@ -17,6 +18,6 @@ document_element text tree is = by is.allowed
     by (document after prolog element misc) = tt
 
 -- an evaluation of the tree that a text has
-pub most_of : (reading : Reading) (tree : Forest Node) → tree_of reading ≡ Ok tree → 6 * size tree ≡ most_steps reading
-most_of (Ok other) tree is = let same : other ≡ tree = cc is in ap (λ t. 6 * size t) (sym same)
+pub most_of : (reading : Reading) (tree : Forest Node) → tree_of reading ≡ Ok tree → 8 * element_count tree ≡ most_steps reading
+most_of (Ok other) tree is = let same : other ≡ tree = cc is in ap (λ t. 8 * element_count t) (sym same)
 most_of (Err place) tree is = absurd (cc is)

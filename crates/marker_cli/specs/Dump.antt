@@ -1,6 +1,7 @@
 -- The command `dump DOC SHEET` (our own).
 use Rattle.std.specs.Prelude.{◌≡◌, ℕ, ◌*◌, List, Result, Ok, Err}
-use Rattle.forest.specs.Forest.{Forest, size}
+use Rattle.document_walk.specs.Elements.{element_count}
+use Rattle.forest.specs.Forest.{Forest}
 use Rattle.generated_texts.specs.Lines.{fresh_dump}
 use Rattle.plain_types.specs.declared.node.Node.{Node}
 use Rattle.ports.specs.Files.{Files}
@@ -34,7 +35,7 @@ dump_output files document sheet reading =
     goes_on (tree_of reading) (λ tree.
     writes (fresh_dump style tree) (ends status.Ok))))
 
--- an evaluation has two walks, of at most three steps a node
+-- of each element an evaluation takes three steps in each of its two walks, its entry is kept, and it is shown
 abbrev pub most_steps : Reading → ℕ
-most_steps (Ok tree) = 6 * size tree
+most_steps (Ok tree) = 8 * element_count tree
 most_steps (Err place) = 0

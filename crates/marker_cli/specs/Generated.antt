@@ -1,9 +1,10 @@
 -- The command `gen SEED COUNT` (our own).
 use Rattle.std.specs.Prelude.{ℕ, ◌+◌, List, [], ◌∷◌, ◌++◌, length, Result, Ok, Err, codes}
 use Rattle.std.specs.Fmt.{decimal}
+use Rattle.document_walk.specs.Elements.{element_count}
 use Rattle.edit_script.specs.Generator.{document, edits_of, sheet}
 use Rattle.generated_texts.specs.Lines.{document_lines}
-use Rattle.marker_engine.specs.Census.{box_count, element_count, saturated}
+use Rattle.marker_engine.specs.Census.{box_count, saturated}
 use Rattle.marker_engine.specs.Edited.{edited}
 use Rattle.marker_engine.specs.Engines.{Source}
 use Rattle.node_arena.specs.declared.place_fault.PlaceFault.{PlaceFault}

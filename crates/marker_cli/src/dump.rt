@@ -2,7 +2,7 @@
 
 ghost use Rattle.std.specs.Prelude.{◌≡◌, ◌≤◌, ◌+◌, ◌*◌, Some, IfErr, OnOk, OnErr};
 ghost use Rattle.std.specs.Str.{chars};
-ghost use Rattle.forest.specs.Forest.{size};
+ghost use Rattle.document_walk.specs.Elements.{element_count};
 ghost use Rattle.generated_texts.specs.Lines.{fresh_dump};
 ghost use Rattle.node_arena.specs.Document.{HasElementRoot};
 ghost use Rattle.ports.specs.Causes.{Raises, Rose, RoseAbove};
@@ -38,7 +38,7 @@ fn put_dump<O: Sink, L: Ledger>(
     ensures failed { OnErr result (GrowsByFront (O.out out.old) (O.out out.new) (fresh_dump (chars sheet.now) tree)) }
     ensures cause { IsPutCaused (Rose (O.faults out.old) (O.faults out.new)) result }
     ensures faults { O.faults out.old ≤ O.faults out.new }
-    ensures steps { steps.new ≤ steps.old + 6 * size tree }
+    ensures steps { steps.new ≤ steps.old + 8 * element_count tree }
 {
     let engine = Engine::start(alloc, tree, sheet, steps)?;
     show(alloc, &engine, out, steps)

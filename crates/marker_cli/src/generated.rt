@@ -2,11 +2,14 @@
 
 ghost use Rattle.std.specs.Prelude.{◌≡◌, ◌≤◌, ◌<◌, ◌+◌, ◌^◌, IfErr, IfOk, OnOk, OnErr};
 ghost use Rattle.marker_engine.specs.Edited.{edited};
+ghost use Rattle.marker_engine.specs.Engines.{source_of};
 ghost use Rattle.ports.specs.Causes.{HasCause, Rose};
 ghost use Rattle.ports.specs.Grown.{grown, GrowsByFront};
 ghost use Rattle.marker_cli.specs.Ends.{EndsAs, IsCaused, IsStop, part_status};
-ghost use Rattle.marker_cli.specs.Generated.{after_edits, generated_output, number_lines, unedited, with_answer};
+ghost use Rattle.marker_cli.specs.Generated.{after_edits, generated_output, number_lines, numbers, unedited, with_answer};
+ghost use Rattle.marker_cli.specs.Output.{ends, writes};
 ghost use Rattle.marker_cli.specs.Tallies.{tallied};
+ghost use Rattle.marker_cli.specs.declared.status.Status.TheVariants as status;
 
 use crate::put_number::put_numbered;
 use crate::status::Status;
@@ -39,7 +42,7 @@ fn apply_counted<L: Ledger>(
     steps: &mut Steps<L>,
 ) -> Result<Tally, Memory>
     requires few { tally.accepted + tally.refused + 1 < 2 ^ 64 }
-    ensures counted { IfOk result (λ new. tallied engine.new new ≡ with_answer (tallied engine.old tally) (edited engine.old edit.now)) }
+    ensures counted { IfOk result (λ new. tallied (source_of engine.new) new ≡ with_answer (tallied (source_of engine.old) tally) (edited (source_of engine.old) edit.now)) }
     ensures sum { IfOk result (λ new. new.accepted + new.refused ≡ tally.accepted + tally.refused + 1) }
 {
     match engine.apply(alloc, edit, steps) {
@@ -62,7 +65,7 @@ fn apply_all<L: Ledger>(
     engine: &mut Engine,
     steps: &mut Steps<L>,
 ) -> Result<Tally, Memory>
-    ensures tally { IfOk result (λ tally. tallied engine.new tally ≡ after_edits edits.now (unedited engine.old)) }
+    ensures tally { IfOk result (λ tally. tallied (source_of engine.new) tally ≡ after_edits edits.now (unedited (source_of engine.old))) }
 {
     let mut tally = Tally {
         accepted: 0,
@@ -87,6 +90,24 @@ fn put_numbers<O: Sink>(census: Census, tally: Tally, out: &mut O) -> Result<(),
     put_numbered(b"lines ", census.lines, b"\n", out)
 }
 
+/// Does the edits of a run, and writes how much there is of its document then, and how many edits were accepted and
+/// refused.
+fn put_outcome<O: Sink, L: Ledger>(
+    alloc: Global,
+    edits: &[Edit],
+    engine: &mut Engine,
+    out: &mut O,
+    steps: &mut Steps<L>,
+) -> Result<(), Status>
+    ensures told { EndsAs ⊥ (Rose (O.faults out.old) (O.faults out.new)) (writes (numbers (after_edits edits.now (unedited (source_of engine.old)))) (ends status.Ok)) (O.out out.old) (O.out out.new) (part_status result) }
+    ensures cause { IsCaused ⊥ ⊥ ⊥ (Rose (O.faults out.old) (O.faults out.new)) (part_status result) }
+    ensures stops { IfErr result IsStop }
+    ensures faults { O.faults out.old ≤ O.faults out.new }
+{
+    let tally = apply_all(alloc, edits, engine, steps)?;
+    Ok(put_numbers(engine.census(steps), tally, out)?)
+}
+
 /// Makes up the run of this seed with so many edits, does it, and writes how much there is of its document then,
 /// and how many edits were accepted and refused.
 pub fn generated<O: Sink, L: Ledger>(
@@ -107,6 +128,5 @@ pub fn generated<O: Sink, L: Ledger>(
         edits,
     } = generate(alloc, seed, count)?;
     let mut engine = Engine::start(alloc, document, sheet.as_str(), steps)?;
-    let tally = apply_all(alloc, edits.as_slice(), &mut engine, steps)?;
-    Ok(put_numbers(engine.census(steps), tally, out)?)
+    put_outcome(alloc, edits.as_slice(), &mut engine, out, steps)
 }

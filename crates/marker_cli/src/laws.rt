@@ -1,8 +1,9 @@
 //! What is true of all runs that are made up. No function here has anything to do: its contract is the law.
 
 ghost use Rattle.std.specs.Prelude.{◌≡◌, ◌+◌, ℕ, length};
+ghost use Rattle.document_walk.specs.Elements.{element_count};
 ghost use Rattle.generated_texts.specs.Lines.{document_lines};
-ghost use Rattle.marker_engine.specs.Census.{box_count, element_count};
+ghost use Rattle.marker_engine.specs.Census.{box_count};
 ghost use Rattle.marker_cli.specs.Generated.{generated};
 
 /// Each edit of such a run is accepted or refused.

@@ -3,7 +3,7 @@
 ghost use Rattle.std.specs.Prelude.{◌≡◌, ◌≤◌, ◌⊎◌, ℕ, List, Option, Some, IfErr, OnOk, OnErr};
 ghost use Rattle.std.specs.Str.{chars};
 ghost use Rattle.marker_engine.specs.Edited.{edited};
-ghost use Rattle.marker_engine.specs.Engines.{Source};
+ghost use Rattle.marker_engine.specs.Engines.{Source, source_of};
 ghost use Rattle.ports.specs.Causes.{Raises, Rose, RoseAbove};
 ghost use Rattle.ports.specs.Files.{Files};
 ghost use Rattle.ports.specs.Grown.{grown, GrowsByFront};
@@ -42,7 +42,7 @@ fn play_edit<O: Sink, L: Ledger>(
     steps: &mut Steps<L>,
 ) -> Result<(), Status>
     ensures told { (next : Source → Output) → Goes ⊥ (Rose (O.faults out.old) (O.faults out.new))
-        (after_edit number engine.old (edited engine.old edit.now) next) (O.out out.old) (O.out out.new) (next engine.new) result }
+        (after_edit number (source_of engine.old) (edited (source_of engine.old) edit.now) next) (O.out out.old) (O.out out.new) (next (source_of engine.new)) result }
     ensures cause { IsCaused ⊥ ⊥ ⊥ (Rose (O.faults out.old) (O.faults out.new)) (part_status result) }
     ensures stops { IfErr result IsStop }
     ensures faults { O.faults out.old ≤ O.faults out.new }
@@ -67,7 +67,7 @@ fn replace_sheet<L: Ledger>(
     engine: &mut Engine,
     steps: &mut Steps<L>,
 ) -> Result<(), Status>
-    ensures ok { OnOk result (engine.new ≡ with_sheet text engine.old) }
+    ensures ok { OnOk result (source_of engine.new ≡ with_sheet text (source_of engine.old)) }
     ensures cause { IfErr result (λ error. error ≡ status.Memory) }
 {
     match engine.apply(alloc, &Edit::ReplaceSheet { text }, steps) {
@@ -87,7 +87,7 @@ fn play_sheet<S: Shelf, L: Ledger>(
 ) -> Result<(), Status>
     ensures told { (files : Files) (before : Option (List ℕ)) (next : Source → Output) → S.held shelf.old ≡ Some files
         → Goes (ReadsFailed (S.honest shelf.old) (S.faults shelf.old) (S.faults shelf.new)) ⊥
-        (with_text files (Line number) (chars name.now) (λ text. next (with_sheet text engine.old))) before before (next engine.new) result }
+        (with_text files (Line number) (chars name.now) (λ text. next (with_sheet text (source_of engine.old)))) before before (next (source_of engine.new)) result }
     ensures cause { IsCaused ⊥ (Rose (S.faults shelf.old) (S.faults shelf.new)) (RoseAbove 16777216 (S.taken shelf.old) (S.taken shelf.new)) ⊥ (part_status result) }
     ensures stops { IfErr result IsStop }
     ensures faults { S.faults shelf.old ≤ S.faults shelf.new }
@@ -108,8 +108,8 @@ fn put_shown<O: Sink, L: Ledger>(
     out: &mut O,
     steps: &mut Steps<L>,
 ) -> Result<(), Status>
-    ensures ok { OnOk result (O.out out.new ≡ grown (O.out out.old) (shown number engine.now)) }
-    ensures failed { OnErr result (GrowsByFront (O.out out.old) (O.out out.new) (shown number engine.now)) }
+    ensures ok { OnOk result (O.out out.new ≡ grown (O.out out.old) (shown number (source_of engine.now))) }
+    ensures failed { OnErr result (GrowsByFront (O.out out.old) (O.out out.new) (shown number (source_of engine.now))) }
     ensures cause { IsPutCaused (Rose (O.faults out.old) (O.faults out.new)) result }
     ensures faults { O.faults out.old ≤ O.faults out.new }
 {
@@ -129,7 +129,7 @@ fn play_command<S: Shelf, O: Sink, L: Ledger>(
 ) -> Result<(), Status>
     ensures told { (files : Files) (next : Source → Output) → S.held shelf.old ≡ Some files
         → Goes (ReadsFailed (S.honest shelf.old) (S.faults shelf.old) (S.faults shelf.new)) (Rose (O.faults out.old) (O.faults out.new))
-        (action_output files command.now.line command.now.action engine.old next) (O.out out.old) (O.out out.new) (next engine.new) result }
+        (action_output files command.now.line command.now.action (source_of engine.old) next) (O.out out.old) (O.out out.new) (next (source_of engine.new)) result }
     ensures cause { IsCaused ⊥ (Rose (S.faults shelf.old) (S.faults shelf.new)) (RoseAbove 16777216 (S.taken shelf.old) (S.taken shelf.new))
         (Rose (O.faults out.old) (O.faults out.new)) (part_status result) }
     ensures stops { IfErr result IsStop }
@@ -160,7 +160,7 @@ pub fn play<S: Shelf, O: Sink, L: Ledger>(
 ) -> Result<(), Status>
     ensures told { (files : Files) → S.held shelf.old ≡ Some files
         → EndsAs (ReadsFailed (S.honest shelf.old) (S.faults shelf.old) (S.faults shelf.new)) (Rose (O.faults out.old) (O.faults out.new))
-        (play files commands.now engine.old) (O.out out.old) (O.out out.new) (part_status result) }
+        (play files commands.now (source_of engine.old)) (O.out out.old) (O.out out.new) (part_status result) }
     ensures cause { IsCaused ⊥ (Rose (S.faults shelf.old) (S.faults shelf.new)) (RoseAbove 16777216 (S.taken shelf.old) (S.taken shelf.new))
         (Rose (O.faults out.old) (O.faults out.new)) (part_status result) }
     ensures stops { IfErr result IsStop }

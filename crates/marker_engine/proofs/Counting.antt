@@ -1,5 +1,5 @@
 -- The numbers of a document, while its nodes are counted in tree order.
-use Rattle.std.proofs.Common.{◌≡◌, ◌∙◌, ap, ℕ, ◌+◌, Bool, is_some, List, [], ◌∷◌, Option, take}
+use Rattle.std.proofs.Common.{◌≡◌, ◌∙◌, ap, ℕ, ◌+◌, is_some, List, [], ◌∷◌, Option, None, Some, Bor, option_copied, refl, take}
 use Rattle.std.specs.Option.{option_map_or}
 use Rattle.forest.specs.Forest.{Forest, size}
 use Rattle.forest.specs.Keys.{Keyed, keys}
@@ -8,15 +8,21 @@ use Rattle.plain_types.specs.declared.node.Node.{Node}
 use Rattle.generated_texts.specs.declared.entry.NodeEntry.{NodeEntry}
 use Rattle.node_arena.specs.Nodes.{name_of}
 use Rattle.marker_engine.specs.declared.census.Census.{Census}
-use Rattle.marker_engine.specs.Census.{boxes_in, lines_in, one_where, saturated}
+use Rattle.document_walk.specs.Elements.{one_where}
+use Rattle.marker_engine.specs.Census.{boxes_in, lines_in, saturated}
 
--- the numbers with one more node, and what is kept of it
-abbrev pub with_node : Census → Bool → Option NodeEntry → Census
-with_node census is_element entry = record {
-  elements = saturated (census.elements + one_where is_element);
+-- the numbers with one more node, of which this is kept
+abbrev pub with_node : Census → Option NodeEntry → Census
+with_node census entry = record {
+  elements = saturated (census.elements + one_where (is_some entry));
   boxes = saturated (census.boxes + option_map_or boxes_in entry 0);
   lines = saturated (census.lines + option_map_or lines_in entry 0);
 }
+
+-- something behind a reference is something
+pub some_copied : {A : Type 0} (o : Option (Bor A)) → is_some (option_copied o) ≡ is_some o
+some_copied None = refl
+some_copied (Some value) = refl
 
 -- three numbers are the same one by one
 pub same_numbers : (one other : Census) → one.elements ≡ other.elements → one.boxes ≡ other.boxes → one.lines ≡ other.lines → one ≡ other
@@ -31,6 +37,10 @@ total weight [] = 0
 total weight (key ∷ rest) = weight key + total weight rest
 
 module _ (document : Forest (Keyed Node)) where
+  -- the node of this key weighs 1 where it is an element, and else nothing
+  abbrev pub element_weight : ℕ → ℕ
+  element_weight key = one_where (is_some (name_of document key))
+
   -- how many nodes come before the one at which a walk in tree order stands; at its end all of them
   abbrev pub nodes_before : Option ℕ → ℕ
   nodes_before link = option_map_or (place_of document) link (size document)
@@ -42,7 +52,7 @@ module _ (document : Forest (Keyed Node)) where
   -- the numbers of these
   abbrev pub census_before : (ℕ → Option NodeEntry) → Option ℕ → Census
   census_before entry_of link = record {
-    elements = saturated (total_before (λ key. one_where (is_some (name_of document key))) link);
+    elements = saturated (total_before element_weight link);
     boxes = saturated (total_before (λ key. option_map_or boxes_in (entry_of key) 0) link);
     lines = saturated (total_before (λ key. option_map_or lines_in (entry_of key) 0) link);
   }

@@ -1,5 +1,5 @@
 -- Nodes counted one by one, in tree order.
-use Rattle.std.proofs.Common.{◌≡◌, ◌==◌, ◌<◌, ◌≤◌, ◌+◌, ◌-◌, ℕ, zero, suc, Bool, cond, List, [], ◌∷◌, ◌++◌, Option, Some, None, length, take, slice_get, refl, sym, ap, ◌∙◌, ◌⊎◌, inl, inr, arith, add-one, eq-eqb, length-append}
+use Rattle.std.proofs.Common.{◌≡◌, ◌==◌, ◌<◌, ◌≤◌, ◌+◌, ◌-◌, ℕ, zero, suc, cond, List, [], ◌∷◌, ◌++◌, Option, Some, None, length, take, slice_get, refl, sym, ap, ◌∙◌, ◌⊎◌, inl, inr, arith, add-one, eq-eqb, length-append}
 use Rattle.std.specs.Prelude.{is_some, option_and_then}
 use Rattle.std.specs.List.{position_or_len}
 use Rattle.std.specs.Option.{option_map_or}
@@ -8,8 +8,8 @@ use Rattle.std.proofs.lemmas.Option.{none-some, same_Some, slice_get_cases}
 use Rattle.forest.specs.Forest.{Forest, Empty, Tree, size, weigh}
 use Rattle.forest.specs.Keys.{HasDistinctKeys, Keyed, keys, times, without_keys}
 use Rattle.forest.specs.Order.{next_in_order_of, place_of}
-use Rattle.forest.specs.Spots.{IsLink, IsLive, Spot, first_key, label_of, spot}
-use Rattle.forest.proofs.OrderLaws.{keys-tree, length-keys, place-root, place-within}
+use Rattle.forest.specs.Spots.{IsLink, IsLive, Spot, label_of, spot}
+use Rattle.forest.proofs.OrderLaws.{keys-tree, length-keys, place-within}
 use Rattle.forest.proofs.SpotLaws.{distinct-parts, live-counted, spot-below, spot-beside, spot-root}
 use Rattle.forest.proofs.WalkLaws.{key-at-place}
 use Rattle.plain_types.specs.declared.box_kind.BoxKind.{BoxKind}
@@ -20,8 +20,10 @@ use Rattle.generated_texts.specs.declared.entry.NodeEntry.{NodeEntry}
 use Rattle.generated_texts.specs.Lines.{first_lines, last_lines, lines_of, tree_lines}
 use Rattle.node_arena.specs.Nodes.{name_of, node_name}
 use Rattle.marker_engine.specs.declared.census.Census.{Census}
-use Rattle.marker_engine.specs.Census.{boxes_in, element_count, lines_in, one_where, saturated}
-use Rattle.marker_engine.proofs.Counting.{census_before, nodes_before, total, total_before, with_node}
+use Rattle.document_walk.proofs.ElementLemmas.{weigh-without_keys}
+use Rattle.document_walk.specs.Elements.{element_count, one_where}
+use Rattle.marker_engine.specs.Census.{boxes_in, lines_in, saturated}
+use Rattle.marker_engine.proofs.Counting.{census_before, nodes_before, total, total_before, with_node, element_weight}
 
 -- Lists of keys.
 
@@ -129,13 +131,6 @@ module _ {L : Type 0} where
       weigh-same (λ node. weight (Some node.label)) (λ node. weight (label_of trees node.key)) trees
       (each_weaker (IsSpotOf None [] trees) (λ node. weight (Some node.label) ≡ weight (label_of trees node.key)) (λ node at. rw at.1 (ap (λ l. weight (Some l)) (sym at.2))) trees (spots None [] trees distinct))
 
-  pub weigh-without_keys : (weight : L → ℕ) (trees : Forest (Keyed L)) → weigh weight (without_keys trees) ≡ weigh (λ (node : Keyed L). weight node.label) trees
-  weigh-without_keys weight Empty = refl
-  weigh-without_keys weight (Tree node children after) =
-      let below = weigh-without_keys weight children in
-      let beside = weigh-without_keys weight after in
-      omega (arith, below, beside)
-
 module _ (f : Forest (Keyed Node)) (d : HasDistinctKeys f) where
   -- from one node to the next in tree order
   next_place : (key : ℕ) → IsLive f key → nodes_before f (next_in_order_of f key) ≡ suc (place_of f key)
@@ -161,33 +156,43 @@ module _ (f : Forest (Keyed Node)) (d : HasDistinctKeys f) where
         ap (λ n. total weight (take n (keys f))) (next_place key live)
         ∙ total-next weight (keys f) (place_of f key) key (key-at-place f key d live)
 
-    total-start : (root : ℕ) → Some root ≡ first_key f → total_before f weight (Some root) ≡ 0
-    total-start root is = by f is
-      where
-        by : (g : Forest (Keyed Node)) → Some root ≡ first_key g → total weight (take (place_of g root) (keys g)) ≡ 0
-        by Empty is = absurd (none-some root (sym is))
-        by (Tree node children after) is = rw (place-root node children after root (sym (same_Some _ _ is))) refl
-
     total-end : total_before f weight None ≡ weigh (λ (node : Keyed Node). weight node.key) f
     total-end = total-all weight (keys f) (size f) (let many = length-keys f in omega (arith, many)) ∙ sym (weigh-keys weight f)
 
+  -- the elements of a document, by the keys of its nodes
+  pub element-weights : weigh (λ (node : Keyed Node). element_weight f node.key) f ≡ element_count (without_keys f)
+  element-weights =
+      let named : Option Node → ℕ = λ o. one_where (is_some (option_and_then node_name o)) in
+      sym (weigh-labels named f d) ∙ sym (weigh-without_keys (λ (node : Node). one_where (is_some (node_name node))) f)
+
+  -- at the end all are counted
+  pub elements-end : total_before f (element_weight f) None ≡ element_count (without_keys f)
+  elements-end = total-end (element_weight f) ∙ element-weights
+
   module _ (entry_of : ℕ → Option NodeEntry) where
     -- The turn of the code.
-    pub turn : (key : ℕ) (link next : Option ℕ) (before now : Census) (is_element : Bool) (entry : Option NodeEntry) → link ≡ Some key → IsLink f link
-        → before ≡ census_before f entry_of link → is_element ≡ is_some (name_of f key) → entry ≡ entry_of key → now ≡ with_node before is_element entry → next ≡ next_in_order_of f key
-        → (now ≡ census_before f entry_of next) × (size f - nodes_before f next < size f - nodes_before f link)
-    turn key link next before now is_element entry at link_is was element kept is follows =
+    pub turn : (key : ℕ) (link next : Option ℕ) (before now : Census) (entry : Option NodeEntry) → link ≡ Some key → IsLink f link
+        → before ≡ census_before f entry_of link → is_some entry ≡ is_some (name_of f key) → entry ≡ entry_of key → now ≡ with_node before entry → next ≡ next_in_order_of f key
+        → (now ≡ census_before f entry_of next) × ((size f - nodes_before f next < size f - nodes_before f link) × (total_before f (element_weight f) next ≡ total_before f (element_weight f) link + element_weight f key))
+    turn key link next before now entry at link_is was element kept is follows =
         let live : IsLive f key = rw at at link_is in
-        let elements : ℕ → ℕ = λ k. one_where (is_some (name_of f k)) in
         let boxes : ℕ → ℕ = λ k. option_map_or boxes_in (entry_of k) 0 in
         let lines : ℕ → ℕ = λ k. option_map_or lines_in (entry_of k) 0 in
         let here : before ≡ census_before f entry_of (Some key) = rw at at was in
+        let more : (weight : ℕ → ℕ) → total_before f weight next ≡ total_before f weight (Some key) + weight key =
+        λ weight. ap (total_before f weight) follows ∙ total-turn weight key live in
         let added : (weight : ℕ → ℕ) → saturated (saturated (total_before f weight (Some key)) + weight key) ≡ saturated (total_before f weight next) =
-        λ weight. saturated-more (total_before f weight (Some key)) (weight key) ∙ ap saturated (sym (total-turn weight key live) ∙ ap (total_before f weight) (sym follows)) in
+        λ weight. saturated-more (total_before f weight (Some key)) (weight key) ∙ ap saturated (sym (more weight)) in
+        let named : is_some (entry_of key) ≡ is_some (name_of f key) = ap is_some (sym kept) ∙ element in
+        let counted : saturated (saturated (total_before f (element_weight f) (Some key)) + one_where (is_some (entry_of key))) ≡ saturated (total_before f (element_weight f) next) =
+        ap (λ b. saturated (saturated (total_before f (element_weight f) (Some key)) + one_where b)) named ∙ added (element_weight f) in
         let later = next_place key live in
         let within = place-within f key (live-counted f key live) in (
-          is ∙ (λ i. with_node (here i) (element i) (kept i)) ∙ (λ i. record { elements = added elements i; boxes = added boxes i; lines = added lines i }),
-          rw (at, follows, later) (omega (arith, within)),
+          is ∙ (λ i. with_node (here i) (kept i)) ∙ (λ i. record { elements = counted i; boxes = added boxes i; lines = added lines i }),
+          (
+            rw (at, follows, later) (omega (arith, within)),
+            more (element_weight f) ∙ ap (λ l. total_before f (element_weight f) l + element_weight f key) (sym at),
+          ),
         )
 
     -- At the end all nodes are counted.
@@ -229,10 +234,8 @@ module _ (f : Forest (Keyed Node)) (d : HasDistinctKeys f) where
         × ((census.boxes ≡ saturated (weigh (λ (node : Keyed Node). option_map_or boxes_in (entry_of node.key) 0) f))
         × (census.lines ≡ saturated (length (tree_lines f entry_of f))))
     ends link census at is =
-        let all : census ≡ census_before f entry_of None = rw at at is in
-        let named : Option Node → ℕ = λ o. one_where (is_some (option_and_then node_name o)) in (
-          ap (λ (c : Census). c.elements) all
-              ∙ ap saturated (total-end (λ key. one_where (is_some (name_of f key))) ∙ sym (weigh-labels named f d) ∙ sym (weigh-without_keys (λ (node : Node). one_where (is_some (node_name node))) f)),
+        let all : census ≡ census_before f entry_of None = rw at at is in (
+          ap (λ (c : Census). c.elements) all ∙ ap saturated elements-end,
           (
             ap (λ (c : Census). c.boxes) all ∙ ap saturated (total-end (λ key. option_map_or boxes_in (entry_of key) 0)),
             ap (λ (c : Census). c.lines) all ∙ ap saturated (total-end (λ key. option_map_or lines_in (entry_of key) 0) ∙ sym (line_count f)),

@@ -1,18 +1,14 @@
 -- How much there is of a document and its evaluation (our own).
-use Rattle.std.specs.Prelude.{ℕ, ◌+◌, ◌-◌, ◌^◌, min, cond, Bool, is_some, List}
+use Rattle.std.specs.Prelude.{ℕ, ◌+◌, ◌-◌, ◌^◌, min, is_some, List}
 use Rattle.std.specs.Option.{option_map_or}
 use Rattle.forest.specs.Forest.{Forest, weigh}
 use Rattle.forest.specs.Keys.{Keyed, numbered}
 use Rattle.plain_types.specs.declared.node.Node.{Node}
+use Rattle.document_walk.specs.Elements.{one_where}
 use Rattle.generated_texts.specs.StyleElements.{author_sheet}
 use Rattle.generated_texts.specs.declared.entry.NodeEntry.{NodeEntry}
 use Rattle.generated_texts.specs.Entries.{document_entries}
 use Rattle.generated_texts.specs.References.{kept_at}
-use Rattle.node_arena.specs.Nodes.{node_name}
-
--- 1 where this holds
-abbrev pub one_where : Bool → ℕ
-one_where holds = cond holds 1 0
 
 -- the marker, before and after boxes of an element, each of which has a line in the dump
 abbrev pub lines_in : NodeEntry → ℕ
@@ -21,10 +17,6 @@ lines_in entry = one_where (is_some entry.marker) + (one_where (is_some entry.be
 -- these boxes and its own
 abbrev pub boxes_in : NodeEntry → ℕ
 boxes_in entry = one_where entry.has_box + lines_in entry
-
--- the elements of trees: a node is one where it has a name
-abbrev pub element_count : Forest Node → ℕ
-element_count trees = weigh (λ (node : Node). one_where (is_some (node_name node))) trees
 
 -- the boxes of a document whose nodes have keys, under the sheet of this text
 abbrev pub keyed_box_count : List ℕ → Forest (Keyed Node) → ℕ

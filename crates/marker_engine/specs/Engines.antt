@@ -1,21 +1,19 @@
 -- What an engine stands for (our own).
-use Rattle.std.specs.Prelude.{ℕ, List, refl}
-use Rattle.std.specs.Coded.{Coded, code_by, coded×, coded_list, coded_ℕ}
-use Rattle.forest.specs.Forest.{Forest, coded_forest}
+use Rattle.std.specs.Prelude.{◌≡◌, ℕ, List, true}
+use Rattle.forest.specs.Forest.{Forest}
 use Rattle.forest.specs.Keys.{without_keys}
 use Rattle.plain_types.specs.declared.node.Node.{Node}
-use Rattle.dirty_walk.specs.Books.{StyledDocument}
+use Rattle.dirty_walk.specs.Books.{StyledDocument, Keeps}
 
 -- a document, and the text of its style sheet
 pub record Source : Type 0 where
   pub tree : Forest Node
   pub sheet : List ℕ
 
-abbrev pub coded_source : Coded Node → Coded Source
-coded_source coded =
-    code_by (Forest Node × List ℕ) (coded× (coded_forest coded) (coded_list coded_ℕ))
-    (λ source. (source.tree, source.sheet)) (λ pair. record { tree = pair.0; sheet = pair.1 }) (λ _. refl)
-
--- the same without keys
+-- those of a document whose nodes have keys
 abbrev pub source_of : StyledDocument → Source
 source_of styled = record { tree = without_keys styled.tree; sheet = styled.sheet }
+
+-- a book is settled, and keeps what a fresh evaluation does
+abbrev pub IsEvaluated : StyledDocument → Type 0
+IsEvaluated book = (book.settled ≡ true) × Keeps book

@@ -2,14 +2,17 @@
 
 ghost use Rattle.std.specs.Prelude.{◌≡◌, ◌≤◌, ◌+◌, ◌*◌, Some, None, Ok, Err, IfOk, IfErr, OnOk, OnErr, length};
 ghost use Rattle.std.specs.Str.{chars};
-ghost use Rattle.forest.specs.Forest.{size};
+ghost use Rattle.dirty_walk.specs.Books.{Keeps};
 ghost use Rattle.generated_texts.specs.Lines.{document_lines, fresh_dump};
 ghost use Rattle.node_arena.specs.Document.{HasElementRoot};
+ghost use Rattle.node_arena.specs.Edits.{IsEdited};
 ghost use Rattle.ports.specs.Grown.{grown, GrowsByFront};
 ghost use Rattle.ports.specs.Puts.{HasPutCause};
 ghost use Rattle.marker_engine.specs.declared.edit_fault.EditFault.TheVariants as faults;
-ghost use Rattle.marker_engine.specs.Census.{box_count, element_count, saturated};
+ghost use Rattle.document_walk.specs.Elements.{element_count};
+ghost use Rattle.marker_engine.specs.Census.{box_count, saturated};
 ghost use Rattle.marker_engine.specs.Edited.{edited, edit_fault};
+ghost use Rattle.marker_engine.specs.Engines.{source_of};
 
 use crate::census::{Census, census_of};
 use crate::edit_fault::EditFault;
@@ -34,17 +37,18 @@ pub struct Engine {
 }
 
 impl Model for Engine {
-    ghost use Rattle.std.specs.Prelude.{◌≡◌, true};
     ghost use Rattle.plain_types.specs.contracts.node.Node as node;
-    ghost use Rattle.marker_engine.specs.Engines.{Source, coded_source, source_of};
+    ghost use Rattle.generated_texts.specs.contracts.entry.NodeEntry as entry;
+    ghost use Rattle.dirty_walk.specs.Books.{StyledDocument, coded_styled_document};
+    ghost use Rattle.marker_engine.specs.Engines.{IsEvaluated};
 
-    ghost Value = { Source };
+    ghost Value = { StyledDocument };
 
-    ghost coded = { coded_source node.the_row.coded };
+    ghost coded = { coded_styled_document node.the_row.coded entry.the_row.coded };
 
-    ghost view = { λ engine. source_of engine.book };
+    ghost view = { λ engine. engine.book };
 
-    ghost invariant = { λ engine. engine.book.settled ≡ true };
+    ghost invariant = { λ engine. IsEvaluated engine.book };
 }
 
 impl Engine {
@@ -60,9 +64,10 @@ impl Engine {
         steps: &mut Steps<L>,
     ) -> Result<Engine, Memory>
         requires element { HasElementRoot document }
-        ensures tree { IfOk result (λ engine. engine.tree ≡ document) }
+        ensures tree { IfOk result (λ engine. (source_of engine).tree ≡ document) }
         ensures sheet { IfOk result (λ engine. engine.sheet ≡ chars sheet.now) }
-        ensures steps { steps.new ≤ steps.old + 6 * size document }
+        ensures keeps { IfOk result (λ engine. Keeps engine) }
+        ensures steps { steps.new ≤ steps.old + 7 * element_count document }
     {
         let book = Book::begin(alloc, &document, sheet, steps)?;
         Ok(Engine { book })
@@ -71,31 +76,34 @@ impl Engine {
     /// Why an edit can't be done, if it can't: the fault that `apply` would answer, want of memory aside. It takes no
     /// memory, and time linear in the lengths of the edit's paths.
     pub fn can_apply(&self, edit: &Edit) -> Option<EditFault>
-        ensures allowed { IfOk (edited self.now edit.now) (λ _. result ≡ None) }
-        ensures refused { IfErr (edited self.now edit.now) (λ fault. result ≡ Some (edit_fault fault)) }
+        ensures allowed { IfOk (edited (source_of self.now) edit.now) (λ _. result ≡ None) }
+        ensures refused { IfErr (edited (source_of self.now) edit.now) (λ fault. result ≡ Some (edit_fault fault)) }
     {
         self.book.arena().allows(edit).map(EditFault::from)
     }
 
-    /// Does an edit. After a fault the document and the sheet are as before, and a refused edit counts no step.
+    /// Does an edit. After a fault the document, its keys, the sheet and what is kept are as before, and a refused edit
+    /// counts no step.
     ///
     /// The edited document is evaluated whole, which costs what `start` costs, beside what the calls of the arena
-    /// cost by which the edit is done.
+    /// cost by which the edit is done. An entry that is another is put, and one whose element goes is taken.
     pub fn apply<L: Ledger>(
         &mut self,
         alloc: Global,
         edit: &Edit,
         steps: &mut Steps<L>,
     ) -> Result<(), EditFault>
-        ensures ok { OnOk result (edited self.old edit.now ≡ Ok self.new) }
-        ensures refused { IfErr (edited self.old edit.now) (λ fault. result ≡ Err (edit_fault fault)) }
-        ensures memory { IfOk (edited self.old edit.now) (λ _. IfErr result (λ fault. fault ≡ faults.Memory)) }
+        ensures ok { OnOk result (edited (source_of self.old) edit.now ≡ Ok (source_of self.new)) }
+        ensures keys { OnOk result (IsEdited edit.now self.old.tree self.new.tree) }
+        ensures keeps { Keeps self.new }
+        ensures refused { IfErr (edited (source_of self.old) edit.now) (λ fault. result ≡ Err (edit_fault fault)) }
+        ensures memory { IfOk (edited (source_of self.old) edit.now) (λ _. IfErr result (λ fault. fault ≡ faults.Memory)) }
         ensures failed { OnErr result (self.new ≡ self.old) }
-        ensures steps { IfOk (edited self.old edit.now) (λ source. steps.new ≤ steps.old + 6 * size source.tree) }
-        ensures no_steps { IfErr (edited self.old edit.now) (λ _. steps.new ≡ steps.old) }
+        ensures steps { IfOk (edited (source_of self.old) edit.now) (λ source. steps.new ≤ steps.old + (8 * element_count source.tree + element_count (source_of self.old).tree)) }
+        ensures no_steps { IfErr (edited (source_of self.old) edit.now) (λ _. steps.new ≡ steps.old) }
     {
-        if let Some(fault) = self.can_apply(edit) {
-            return Err(fault);
+        if let Some(fault) = self.book.arena().allows(edit) {
+            return Err(fault.into());
         }
         let plan = self.book.plan(alloc, edit, steps)?;
         self.book.commit(plan, steps);
@@ -105,7 +113,7 @@ impl Engine {
     /// The document, a copy of its own. It takes memory of the size of the document, and time linear in it; `Memory`
     /// where that is wanting.
     pub fn document(&self, alloc: Global) -> Result<Tree, Memory>
-        ensures tree { IfOk result (λ tree. tree ≡ self.now.tree) }
+        ensures tree { IfOk result (λ tree. tree ≡ (source_of self.now).tree) }
     {
         self.book.arena().to_tree(alloc)
     }
@@ -114,22 +122,22 @@ impl Engine {
     /// it fails, a front of the dump went out.
     ///
     /// It takes time linear in the document and the bytes of the dump, and memory for the path of a node and for
-    /// the nodes that it is in. The texts are there already, so it counts no step.
+    /// the nodes that it is in. The texts are there already: what is kept of an element is looked up once.
     pub fn show<O: Sink, L: Ledger>(
         &self,
         alloc: Global,
         out: &mut O,
         steps: &mut Steps<L>,
     ) -> Result<(), PutFault>
-        ensures ok { OnOk result (O.out out.new ≡ grown (O.out out.old) (fresh_dump self.now.sheet self.now.tree)) }
-        ensures failed { OnErr result (GrowsByFront (O.out out.old) (O.out out.new) (fresh_dump self.now.sheet self.now.tree)) }
+        ensures ok { OnOk result (O.out out.new ≡ grown (O.out out.old) (fresh_dump self.now.sheet (source_of self.now).tree)) }
+        ensures failed { OnErr result (GrowsByFront (O.out out.old) (O.out out.new) (fresh_dump self.now.sheet (source_of self.now).tree)) }
         ensures cause { HasPutCause (O.faults out.old) (O.faults out.new) result }
-        ensures steps { steps.new ≡ steps.old }
+        ensures steps { steps.new ≤ steps.old + element_count (source_of self.now).tree }
     {
         // The book has keys of its own, and the lines are those of any keys.
         arena_holds_document(self.book.arena());
         keys_do_not_matter();
-        put_lines(alloc, &self.book, out)
+        put_lines(alloc, &self.book, out, steps)
     }
 
     /// The text of the sheet. It takes no memory and constant time.
@@ -141,15 +149,15 @@ impl Engine {
 
     /// The numbers of the document's elements, of the boxes of its evaluation, and of the lines of its dump.
     ///
-    /// It takes time linear in the document and no memory. What is counted is there already, so it counts no step.
+    /// It takes time linear in the document and no memory. What is kept of an element is looked up once.
     pub fn census<L: Ledger>(&self, steps: &mut Steps<L>) -> Census
-        ensures elements { result.elements ≡ saturated (element_count self.now.tree) }
-        ensures boxes { result.boxes ≡ saturated (box_count self.now.sheet self.now.tree) }
-        ensures lines { result.lines ≡ saturated (length (document_lines self.now.sheet self.now.tree)) }
-        ensures steps { steps.new ≡ steps.old }
+        ensures elements { result.elements ≡ saturated (element_count (source_of self.now).tree) }
+        ensures boxes { result.boxes ≡ saturated (box_count self.now.sheet (source_of self.now).tree) }
+        ensures lines { result.lines ≡ saturated (length (document_lines self.now.sheet (source_of self.now).tree)) }
+        ensures steps { steps.new ≤ steps.old + element_count (source_of self.now).tree }
     {
         arena_holds_document(self.book.arena());
         keys_do_not_matter();
-        census_of(&self.book)
+        census_of(&self.book, steps)
     }
 }

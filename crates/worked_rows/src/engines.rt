@@ -1,22 +1,23 @@
 //! The numbers of documents under their sheets, counted by hand.
 
-ghost use Rattle.std.specs.Prelude.{◌≡◌, ◌<◌};
-ghost use Rattle.node_arena.specs.Document.{HasElementRoot};
+ghost use Rattle.std.specs.Prelude.{◌≡◌, ◌≤◌, ◌<◌, ◌+◌, ◌*◌, IfOk, IsTrue};
 
 use crate::trees::tree_of;
 use marker_engine::census::Census;
 use marker_engine::edit_fault::EditFault;
 use marker_engine::engine::Engine;
-use plain_types::memory::Memory;
-use plain_types::text::Text;
-use plain_types::tree::Tree;
+use plain_types::list::List;
+use ports::memory_sink::MemorySink;
+use std::alloc::Global;
 use std::marker::Brand;
 use std::sync::ledger::{Blank, Ledger};
 use std::test::Fail;
 use steps::Steps;
 
-/// Documents, their sheets, and how many elements, boxes and lines they have.
-static NUMBERS: [(&str, &str, usize, usize, usize); 7] = [
+/// A document, its sheet, and how many elements, boxes and lines it has.
+type Counted = (&'static str, &'static str, usize, usize, usize);
+
+static NUMBERS: [Counted; 7] = [
     ("<p/>", "", 1, 1, 0),
     // texts are no elements
     ("<ol><li>a</li><li>b</li></ol>", "", 3, 5, 2),
@@ -41,47 +42,52 @@ static NUMBERS: [(&str, &str, usize, usize, usize); 7] = [
     ),
 ];
 
-/// The numbers of the tree under this sheet.
-fn numbers_of<L: Ledger>(
-    rt: &HostRuntime,
-    blank: Blank,
-    tree: Tree,
-    sheet: &Text,
-) -> Result<Census, Memory>
+/// Whether the document of an engine has these numbers. It is shown and counted, each of which takes a step for each
+/// element at most. Code cannot read how many steps were taken, so the contract tells it.
+fn has_numbers<L: Ledger>(
+    alloc: Global,
+    engine: &Engine,
+    numbers: Census,
+    steps: &mut Steps<L>,
+) -> Result<bool, Fail>
+    ensures steps { IfOk result (λ same. IsTrue same → steps.new ≤ steps.old + 2 * numbers.elements) }
+{
+    let mut out = MemorySink::new(alloc, 1000, List::new(alloc))?;
+    engine.show(alloc, &mut out, steps)?;
+    let found = engine.census(steps);
+    Ok(found == numbers && found.elements < usize::MAX)
+}
+
+/// Whether a document has the numbers that its row says.
+fn are_numbers<L: Ledger>(rt: &HostRuntime, blank: Blank, row: &Counted) -> Result<bool, Fail>
     requires name { blank.name ≡ L.name }
     requires parts { blank.parts ≡ L.parts }
     requires some { 0 < L.parts }
-    requires element { HasElementRoot tree }
 {
+    let (document, sheet, elements, boxes, lines) = row;
+    let alloc = rt.alloc();
     let mut steps = Steps::<L>::open(rt, blank);
-    let engine = Engine::start(rt.alloc(), tree, sheet.as_str(), &mut steps)?;
-    Ok(engine.census(&mut steps))
-}
-
-/// Whether the document has these numbers under this sheet.
-fn has_numbers(
-    rt: &HostRuntime,
-    document: &str,
-    sheet: &str,
-    numbers: Census,
-) -> Result<bool, Memory> {
-    let Some(tree) = tree_of(rt.alloc(), document)? else {
+    let Some(tree) = tree_of(alloc, document)? else {
         return Ok(false);
     };
-    let text = Text::from_str(rt.alloc(), sheet)?;
-    let found = numbers_of::<Brand>(rt, Blank::new(1), tree, &text)?;
-    Ok(found == numbers)
+    let engine = Engine::start(alloc, tree, sheet, &mut steps)?;
+    let numbers = Census {
+        elements: *elements,
+        boxes: *boxes,
+        lines: *lines,
+    };
+    has_numbers(alloc, &engine, numbers, &mut steps)
+}
+
+/// The same, with steps that nobody reads.
+fn come_out(rt: &HostRuntime, row: &Counted) -> Result<bool, Fail> {
+    are_numbers::<Brand>(rt, Blank::new(1), row)
 }
 
 #[test]
 fn elements_boxes_and_lines(rt: HostRuntime) -> Result<(), Fail> {
-    for (place, (document, sheet, elements, boxes, lines)) in NUMBERS.iter().enumerate() {
-        let census = Census {
-            elements: *elements,
-            boxes: *boxes,
-            lines: *lines,
-        };
-        assert!(rt; has_numbers(&rt, document, sheet, census)?, "row {place}");
+    for (place, row) in NUMBERS.iter().enumerate() {
+        assert!(rt; come_out(&rt, row)?, "row {place}");
     }
     Ok(())
 }

@@ -328,7 +328,7 @@ fn handed_inside(alloc: Global, key: usize, entry: &Entry) -> Result<Inputs, Mem
 }
 
 /// The counters of a set, as `(a 1, reversed b 2)`.
-fn show_set(alloc: Global, set: &CounterSet, out: &mut Text) -> Result<(), Memory> {
+pub fn show_set(alloc: Global, set: &CounterSet, out: &mut Text) -> Result<(), Memory> {
     let mut between = "(";
     for counter in set.as_slice() {
         out.push_str(between)?;

@@ -15,7 +15,8 @@
 //! | `references` | what content gives that refers to other elements |
 //! | `starts` | the starts of reversed counters, by what boxes do to counters |
 //! | `edits` | edits of documents and sheets by calls, without a script |
-//! | `engines` | how many elements, boxes and lines there are |
+//! | `books` | what is kept of elements under such edits, by key |
+//! | `engines` | how many elements, boxes and lines there are, and how many steps it takes to show and to count them |
 //! | `values` | the plain types: each call once, and copies |
 //!
 //! A row of a run has the words, the files in memory, and what must come out on both sinks and as code (`rows`). Trees
@@ -24,6 +25,8 @@
 //! above the other crates, so that those are proved once.
 #![tactic(auto)]
 
+#[cfg(test)]
+mod books;
 #[cfg(test)]
 mod cascade;
 #[cfg(test)]

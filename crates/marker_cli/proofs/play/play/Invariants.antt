@@ -1,5 +1,6 @@
 use Rattle.std.proofs.Common.{◌≡◌, ◌≤◌, drop}
 use Rattle.std.specs.Prelude.{Some}
+use Rattle.marker_engine.specs.Engines.{source_of}
 use Rattle.ports.specs.Files.{Files}
 use Rattle.marker_cli.specs.Edit.{play}
 use Rattle.marker_cli.specs.Stands.{IsAt}
@@ -9,7 +10,7 @@ use Rattle.marker_cli.proofs.play.play.Given as goal
 abbrev pub invariant-loop-command : goal.invariant-loop-command
 invariant-loop-command g l = record {
   told : (files : Files) → g.S.Shelf.held l.initial.shelf ≡ Some files
-      → IsAt (play files l.commands l.initial.engine) (g.O.Sink.out l.initial.out) (g.O.Sink.out l.out) (play files (drop l.command-index l.commands) l.engine);
+      → IsAt (play files l.commands (source_of l.initial.engine)) (g.O.Sink.out l.initial.out) (g.O.Sink.out l.out) (play files (drop l.command-index l.commands) (source_of l.engine));
   held : g.S.Shelf.held l.shelf ≡ g.S.Shelf.held l.initial.shelf;
   honest : g.S.Shelf.honest l.shelf ≡ g.S.Shelf.honest l.initial.shelf;
   faults : g.S.Shelf.faults l.initial.shelf ≤ g.S.Shelf.faults l.shelf;

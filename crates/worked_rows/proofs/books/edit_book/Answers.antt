@@ -2,7 +2,7 @@ use Rattle.std.proofs.Common.{◌≡◌, ◌∙◌, true, ap, refl}
 use Rattle.dirty_walk.specs.Books.{StyledDocument}
 use Rattle.dirty_walk.specs.Plans.{settled_after}
 use Rattle.dirty_walk.specs.declared.plan.Plan.{Plan}
-use Rattle.worked_rows.proofs.edits.edit_book.Goals as goal
+use Rattle.worked_rows.proofs.books.edit_book.Goals as goal
 
 -- a plan that is committed leaves a settled book
 is_settled : (book : StyledDocument) (plan : Plan) → (settled_after book plan).settled ≡ true
