@@ -1,0 +1,4 @@
+pub mod Ancestors
+pub mod TouchedSheets
+pub mod Reaches
+pub mod Laws
