@@ -1,0 +1,29 @@
+pub mod EntryLaws
+pub mod MergeLaws
+mod StopLaws
+mod CountLaws
+mod SkipLaws
+mod TurnLists
+mod EnterTurns
+mod PassTurns
+pub mod WalkLaws
+pub mod FitTurns
+mod ShallowStops
+pub mod AtStops
+pub mod ToldLaws
+mod SettleLaws
+mod EditLaws
+mod PutLaws
+mod WayStops
+pub mod WayLaws
+mod JoinWords
+mod JoinLaws
+mod MoveParts
+mod MoveLaws
+mod RoomLaws
+mod TurnedMerges
+mod WayOrder
+mod TurnedStops
+mod InputLaws
+mod WorkLaws
+pub mod LawLemmas

@@ -1,0 +1,12 @@
+pub mod Merges
+pub mod Stops
+pub mod Evaluators
+pub mod Entries
+pub mod Counts
+pub mod Walks
+pub mod WalkTurns
+pub mod Edits
+pub mod EditStops
+pub mod TurnedNodes
+pub mod Work
+pub mod Laws
