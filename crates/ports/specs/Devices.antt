@@ -11,7 +11,16 @@ pub record MemoryFiles : Type 0 where
   pub faults : ℕ
   pub taken : ℕ
 
--- of an `HonestShelf`: the same, where no call fails by its number
+-- of a `TrickleShelf`: the same, and how many bytes a call answers at most
+pub record TrickleFiles : Type 0 where
+  pub files : List NamedFile
+  pub step : ℕ
+  pub failing : List ℕ
+  pub calls : ℕ
+  pub faults : ℕ
+  pub taken : ℕ
+
+-- of an `HonestShelf`: that of a `MemoryShelf`, where no call fails by its number
 pub record HonestFiles : Type 0 where
   pub files : List NamedFile
   pub faults : ℕ
@@ -31,7 +40,16 @@ pub record MemoryBytes : Type 0 where
   pub calls : ℕ
   pub faults : ℕ
 
--- of a `FixedSink`: the same, where no call fails by its number
+-- of a `TrickleSink`: the same, and how many bytes a call takes at most
+pub record TrickleBytes : Type 0 where
+  pub bytes : List ℕ
+  pub room : ℕ
+  pub step : ℕ
+  pub failing : List ℕ
+  pub calls : ℕ
+  pub faults : ℕ
+
+-- of a `FixedSink`: that of a `MemorySink`, where no call fails by its number
 pub record FixedBytes : Type 0 where
   pub bytes : List ℕ
   pub room : ℕ

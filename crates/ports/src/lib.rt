@@ -13,8 +13,10 @@
 //! | `StdSink` | a writer of the system, as standard output | nothing |
 //! | `HonestShelf` | files in memory | its files |
 //! | `MemoryShelf` | files in memory, where the calls of given numbers fail | its files |
+//! | `TrickleShelf` | the same, where a call answers no more than so many bytes | its files |
 //! | `FixedSink` | bytes in memory, up to a given room | its bytes |
 //! | `MemorySink` | the same, where the calls of given numbers fail | its bytes |
+//! | `TrickleSink` | the same, where a call takes no more than so many bytes | its bytes |
 //!
 //! `fetch` reads a whole file, `put_all` puts a whole slice. Of a file nothing is known but what the
 //! shelf answers: the two devices of the system are the edge where proofs end.
@@ -51,3 +53,5 @@ pub mod sink;
 pub mod std_sink;
 #[cfg(test)]
 mod tests;
+pub mod trickle_shelf;
+pub mod trickle_sink;

@@ -12,6 +12,8 @@ use crate::put_fault::PutFault;
 use crate::shelf::Shelf;
 use crate::sink::{Sink, put_all};
 use crate::std_sink::StdSink;
+use crate::trickle_shelf::TrickleShelf;
+use crate::trickle_sink::TrickleSink;
 use plain_types::list::List;
 use plain_types::memory::Memory;
 use plain_types::text::Text;
@@ -86,6 +88,38 @@ fn a_memory_sink_fails_at_its_numbers(rt: HostRuntime) -> Result<(), Fail> {
     assert!(rt; put_all(&mut sink, b"cd").is_err());
     assert!(rt; put_all(&mut sink, b"efgh").is_err());
     assert_eq!(rt; sink.bytes(), "abefg".as_bytes());
+    Ok(())
+}
+
+#[test]
+fn a_trickle_shelf_answers_little(rt: HostRuntime) -> Result<(), Fail> {
+    let alloc = rt.alloc();
+    let files = two_files(alloc)?;
+    let mut failing = List::new(alloc);
+    failing.push(1u64)?;
+    let mut shelf = TrickleShelf::new(files, 2, failing);
+    let mut buf = [0u8; 3];
+    assert_eq!(rt; shelf.read_at("d.xhtml", 0, &mut buf).ok(), Some(2));
+    assert!(rt; shelf.read_at("d.xhtml", 2, &mut buf).is_err());
+    assert_eq!(rt; shelf.read_at("d.xhtml", 3, &mut buf).ok(), Some(1));
+    assert_eq!(rt; buf[0], b'>');
+    match fetch(alloc, &mut shelf, "d.xhtml") {
+        Ok(bytes) => assert_eq!(rt; bytes.as_slice(), "<p/>".as_bytes()),
+        Err(_) => assert!(rt; false, "not read"),
+    }
+    Ok(())
+}
+
+#[test]
+fn a_trickle_sink_takes_little(rt: HostRuntime) -> Result<(), Fail> {
+    let alloc = rt.alloc();
+    let mut failing = List::new(alloc);
+    failing.push(1u64)?;
+    let mut sink = TrickleSink::new(alloc, 5, 2, failing)?;
+    assert_eq!(rt; sink.put(b"abc").ok(), Some(2));
+    assert!(rt; put_all(&mut sink, b"cd").is_err());
+    assert!(rt; put_all(&mut sink, b"cdefg").is_err());
+    assert_eq!(rt; sink.bytes(), "abcde".as_bytes());
     Ok(())
 }
 

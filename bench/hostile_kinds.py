@@ -1,0 +1,222 @@
+"""Kinds of large input, for the part growth of hostile.sh: the files of each at a size, what must come of them, and how
+time and memory are to grow. Sizes are so that a run at twice the size takes a second or so, or that a file is near its
+16 MiB. What grows faster than linear says what it is the square of; docs/hostile-use.md has the reasons."""
+
+from dataclasses import dataclass
+from typing import Callable, Optional
+
+DUMP = ("dump", "d.xhtml", "s.css")
+EDIT = ("edit", "d.xhtml", "s.css", "t.txt")
+MIB = 1 << 20
+
+
+@dataclass
+class Kind:
+    name: str
+    size: int
+    files: Callable[[int], dict]
+    words: tuple = DUMP
+    status: int = 0
+    grows: str = "linear"
+    check: Optional[Callable[[int, bytes], bool]] = None
+
+
+def of_sheet(sheet, document="<p/>"):
+    """Files with a sheet that is made, over one document."""
+    return lambda size: {"d.xhtml": [document], "s.css": sheet(size)}
+
+
+def of_document(document, sheet=""):
+    """Files with a document that is made, under one sheet."""
+    return lambda size: {"d.xhtml": document(size), "s.css": [sheet]}
+
+
+def of_script(script, document="<body><p/><p/></body>", sheet=""):
+    """Files with a script that is made, over one document and sheet."""
+    return lambda size: {"d.xhtml": [document], "s.css": [sheet], "n.css": [sheet], "t.txt": script(size)}
+
+
+def many(part, count):
+    """A part so many times, some of it at a time; a function of the place gives each part."""
+    if callable(part):
+        for place in range(count):
+            yield part(place)
+        return
+    for _ in range(count // 1024):
+        yield part * 1024
+    yield part * (count % 1024)
+
+
+def wrapped(front, part, back):
+    return lambda size: [front, *many(part, size), back] if callable(part) else chained(front, many(part, size), back)
+
+
+def chained(front, parts, back):
+    yield front
+    yield from parts
+    yield back
+
+
+def nested(opening, inner, closing):
+    return lambda size: chained("", [*many(opening, size), inner, *many(closing, size)], "")
+
+
+def lines(count):
+    """Whether the output has as many lines."""
+    return lambda size, out: out.count(b"\n") == count(size)
+
+
+def is_empty(_size, out):
+    return out == b""
+
+
+def styles(body):
+    """Counter styles n0, n1, .., each with the next one's number in its body, the last with the first's."""
+    return lambda size: [f"@counter-style n{k}{{{body.replace('NEXT', f'n{(k + 1) % size}')}}}" for k in range(size)]
+
+
+KINDS = [
+    # texts of sheets
+    Kind("brackets that nothing closes", 4 * MIB, of_sheet(wrapped("p{a:", "(", "")), check=is_empty),
+    Kind("braces that nothing closes", 4 * MIB, of_sheet(wrapped("p", "{", "")), check=is_empty),
+    Kind("brackets that close", 1 * MIB, of_sheet(nested("([", "", "])")), check=is_empty),
+    Kind("closing brackets", 3 * MIB, of_sheet(wrapped("p{a:", "])", "")), check=is_empty),
+    Kind("a string that nothing closes", 8 * MIB - 16, of_sheet(wrapped('p::before{content:"', "x", "")), check=lines(lambda _: 1)),
+    Kind("strings that a line ends", 2 * MIB, of_sheet(wrapped("p{a:", '"\n', "")), check=is_empty),
+    Kind("a comment that nothing closes", 8 * MIB - 16, of_sheet(wrapped("/*", "*", "")), check=is_empty),
+    Kind("comments", 1 * MIB, of_sheet(wrapped("", "/**/", "p{}")), check=is_empty),
+    Kind("escapes in a name", 2 * MIB, of_sheet(wrapped("p{", "\\61", ":x}")), check=is_empty),
+    Kind("an address that nothing closes", 8 * MIB - 16, of_sheet(wrapped("p{a:url(", "x", "")), check=is_empty),
+    Kind("bad addresses", 500_000, of_sheet(wrapped("p{a:", "url(x y)", "}")), check=is_empty),
+    Kind("digits", 4 * MIB, of_sheet(wrapped("p{counter-reset:c ", "9", "}p::before{content:counter(c)}")), check=lines(lambda _: 1)),
+    Kind("signs", 2 * MIB, of_sheet(wrapped("p{a:", "-+", "}")), check=is_empty),
+    # selectors and rules
+    Kind("empty rules", 1 * MIB, of_sheet(wrapped("", "p{}", "")), check=is_empty),
+    Kind("rules without a block", 4 * MIB, of_sheet(wrapped("", "p ", "")), check=is_empty),
+    Kind("a rule with many declarations", 200_000, of_sheet(wrapped("p{", "counter-reset:c 1;", "}")), check=is_empty),
+    Kind("rules that hold, one after the other", 100_000, of_sheet(wrapped("", 'p::before{content:"x"}', "")), check=lines(lambda _: 1)),
+    Kind("rules of other elements", 100_000, of_sheet(wrapped("", lambda k: f'x{k}::before{{content:"x"}}', "")), check=is_empty),
+    Kind("100,000 rules over 100 elements", 50_000, lambda size: {
+        "d.xhtml": wrapped("<body>", "<p/>", "</body>")(100), "s.css": wrapped("", lambda k: f"x{k}{{counter-reset:c}}", "")(size),
+    }, check=is_empty),
+    Kind("a selector of many classes", 1 * MIB, of_sheet(wrapped("p", ".a", "{}")), check=is_empty),
+    Kind("a selector of many joins", 1 * MIB, of_sheet(wrapped("p", ">p", "{}")), check=is_empty),
+    Kind("a list of many selectors", 1 * MIB, of_sheet(wrapped("p", ",p", "{}")), check=is_empty),
+    Kind("an argument of many selectors", 1 * MIB, of_sheet(wrapped(":is(p", ",p", "){}")), check=is_empty),
+    Kind("arguments in arguments", 1 * MIB, of_sheet(wrapped("", ":is(", "")), check=is_empty),
+    Kind("a pattern of many digits", 2 * MIB, of_sheet(wrapped(":nth-child(", "9", "n + 1){counter-reset:c}")), check=is_empty),
+    Kind("a joined selector, at every depth", 200, lambda size: {
+        "d.xhtml": nested("<b>", "", "</b>")(1_000), "s.css": wrapped("i ", "b ", '::before{content:"x"}')(size),
+    }, grows="by the selector's length and the depth", check=is_empty),
+    Kind("a value that almost stands in another", 20_000, lambda size: {
+        "d.xhtml": wrapped('<p title="', "a", '"/>')(2 * size), "s.css": wrapped('[title*="', "a", 'b"]{counter-reset:c}')(size),
+    }, grows="the product of both lengths", check=is_empty),
+    Kind("tests of attributes, on an element with as many", 2_000, lambda size: {
+        "d.xhtml": wrapped("<p", lambda k: f' a{k}=""', "/>")(size), "s.css": wrapped("", "[b]{counter-reset:c}", "")(size),
+    }, grows="tests by attributes", check=is_empty),
+    Kind("tests of classes, on an element with as many", 2_000, lambda size: {
+        "d.xhtml": wrapped('<p class="', "a ", '"/>')(size), "s.css": wrapped("", ".b{counter-reset:c}", "")(size),
+    }, grows="tests by classes", check=is_empty),
+    # counters and their styles
+    Kind("counters of one element", 2_000, of_sheet(wrapped("p{counter-reset:", lambda k: f" c{k}", "}")),
+         grows="the square of the counters", check=is_empty),
+    Kind("resets of one counter in one value", 200_000, of_sheet(wrapped("p{counter-reset:", " c", "}")), check=is_empty),
+    Kind("increments of one counter in one value", 200_000, of_sheet(wrapped("p{counter-increment:", " c", "}")), check=is_empty),
+    Kind("reversed counters of one element", 2_000, of_sheet(wrapped("p{counter-reset:", lambda k: f" reversed(c{k})", "}")),
+         grows="the square of the counters", check=is_empty),
+    Kind("counter styles that items name", 8_000, lambda size: {
+        "d.xhtml": wrapped("<ol>", "<li/>", "</ol>")(size),
+        "s.css": chained("li{list-style:z}", many(lambda k: f'@counter-style n{k}{{symbols:"x"}}', size), '@counter-style z{symbols:"y"}'),
+    }, grows="styles by items", check=lines(lambda size: size)),
+    Kind("counter styles", 50_000, of_sheet(wrapped("", lambda k: f'@counter-style n{k}{{symbols:"x"}}', "")), check=is_empty),
+    Kind("a counter style over and over", 50_000, of_sheet(wrapped("", '@counter-style n{symbols:"x"}', "")), check=is_empty),
+    Kind("counter styles that extend each other", 20_000, of_sheet(styles("system:extends NEXT")), ("table", "s.css", "n0", "7", "7"),
+         check=lambda _size, out: out == b'7 "7"\n'),
+    Kind("counter styles that fall back on each other", 8_000, of_sheet(styles('system:fixed;symbols:"x";fallback:NEXT')),
+         ("table", "s.css", "n0", "2", "2"), grows="the square of the styles", check=lambda _size, out: out == b'2 "2"\n'),
+    Kind("a style of many symbols", 1 * MIB, of_sheet(wrapped("@counter-style z{system:cyclic;symbols:", "a ", "}")),
+         ("table", "s.css", "z", "5", "5"), check=lambda _size, out: out == b'5 "a"\n'),
+    Kind("a style of many weights", 100_000, of_sheet(lambda size: chained(
+        "@counter-style z{system:additive;additive-symbols:", (f'{size - k} "a",' for k in range(size)), '0 "b"}')),
+        ("table", "s.css", "z", "5", "5"), check=lambda _size, out: out == b'5 "a"\n'),
+    Kind("a symbol of many characters", 4 * MIB, of_sheet(wrapped('@counter-style z{system:cyclic;symbols:"', "a", '"}')),
+         ("table", "s.css", "z", "5", "5"), check=lambda _size, out: out == b'5 "5"\n'),
+    Kind("a symbol of one character and many marks", 2 * MIB, of_sheet(wrapped('@counter-style z{system:cyclic;pad:3 "x";symbols:"a', "\u0301", '"}')),
+         ("table", "s.css", "z", "5", "5"), check=lambda _size, out: out == b'5 "5"\n'),
+    Kind("quotes of many pairs", 500_000, of_sheet(wrapped("p{quotes:", '"a" "b" ', "}p::before{content:open-quote}")), check=lines(lambda _: 1)),
+    Kind("content of many items", 200_000, of_sheet(wrapped("p::before{content:", "counter(c)", "}")), check=lines(lambda _: 1)),
+    # documents
+    Kind("nested elements", 100_000, of_document(nested("<b>", "", "</b>")), check=is_empty),
+    Kind("nested elements that nothing closes", 1 * MIB, of_document(wrapped("", "<b>", "")), status=6, check=is_empty),
+    Kind("elements beside each other", 100_000, of_document(wrapped("<body>", "<p/>", "</body>")), check=is_empty),
+    Kind("items beside each other", 100_000, of_document(wrapped("<ol>", "<li/>", "</ol>")), check=lines(lambda size: size)),
+    Kind("attributes of one element", 100_000, of_document(wrapped("<p", lambda k: f' a{k}=""', "/>")), check=is_empty),
+    Kind("an attribute twice, at the end", 100_000, of_document(wrapped("<p", lambda k: f' a{k}=""', ' a0=""/>')), status=6, check=is_empty),
+    Kind("a name of many characters", 4 * MIB, of_document(wrapped("<", "a", "/>")), check=is_empty),
+    Kind("a value of many characters", 4 * MIB, of_document(wrapped('<p title="', "a", '"/>'), "p::before{content:attr(title)}"), check=lines(lambda _: 1)),
+    Kind("a class of many words", 1 * MIB, of_document(wrapped('<p class="', "a ", '"/>'), ".b::before,p:not(.b)::after{content:'x'}"), check=lines(lambda _: 1)),
+    Kind("references", 1 * MIB, of_document(wrapped("<p>", "&amp;", "</p>")), check=is_empty),
+    Kind("sections of characters", 500_000, of_document(wrapped("<p>", "<![CDATA[]]>", "</p>")), check=is_empty),
+    Kind("comments that nothing closes", 4 * MIB, of_document(wrapped("<p><!--", "-", "")), status=6, check=is_empty),
+    Kind("line feeds before a fault", 4 * MIB, of_document(wrapped("<p>", "\n", "&")), status=6, check=is_empty),
+    Kind("carriage returns", 4 * MIB, of_document(wrapped("<p>", "\r", "</p>")), check=is_empty),
+    Kind("style elements without rules", 20_000, of_document(wrapped("<body>", "<style>/**/</style>", "</body>")), check=is_empty),
+    Kind("style elements with a rule each", 1_000, of_document(wrapped("<body>", "<style>p{}</style>", "</body>")),
+         grows="elements by rules", check=is_empty),
+    Kind("style attributes", 50_000, of_document(wrapped("<body>", '<p style="counter-reset:c"/>', "</body>")), check=is_empty),
+    # selectors over documents
+    Kind(":nth-child over siblings", 10_000, of_document(wrapped("<body>", "<p/>", "</body>"), "p:nth-child(2n){list-style:none}"),
+         grows="the square of the siblings", check=is_empty),
+    Kind(":nth-last-child over siblings", 10_000, of_document(wrapped("<body>", "<p/>", "</body>"), "p:nth-last-child(2n){list-style:none}"),
+         grows="the square of the siblings", check=is_empty),
+    Kind(":last-child over siblings", 10_000, of_document(wrapped("<body>", "<p/>", "</body>"), "p:last-child{list-style:none}"),
+         grows="the square of the siblings", check=is_empty),
+    Kind(":first-of-type over siblings", 10_000, of_document(wrapped("<body>", "<p/>", "</body>"), "p:first-of-type{list-style:none}"),
+         grows="the square of the siblings", check=is_empty),
+    Kind("later siblings of what isn't there", 10_000, of_document(wrapped("<body>", "<p/>", "</body>"), "i~p{list-style:none}"),
+         grows="the square of the siblings", check=is_empty),
+    Kind("next siblings", 100_000, of_document(wrapped("<body>", "<p/>", "</body>"), "i+p{list-style:none}"), check=is_empty),
+    Kind("descendants of what isn't there", 10_000, of_document(nested("<b>", "", "</b>"), "i b{list-style:none}"),
+         grows="the square of the depth", check=is_empty),
+    Kind("children", 100_000, of_document(nested("<b>", "", "</b>"), "i>b{list-style:none}"), check=is_empty),
+    Kind(":empty and :root", 100_000, of_document(wrapped("<body>", "<p>a</p>", "</body>"), ":empty,:root{list-style:none}"), check=is_empty),
+    # counters, quotes and references over documents
+    Kind("counters of siblings", 100_000, of_document(wrapped("<body>", "<p/>", "</body>"), "p{counter-increment:c}p::before{content:counter(c)}"),
+         check=lines(lambda size: size)),
+    Kind("a counter reset at every depth", 500, of_document(nested("<b>", "", "</b>"), "b{counter-reset:c}"),
+         grows="the square of the depth", check=is_empty),
+    Kind("counters() at every depth", 500, of_document(nested("<b>", "", "</b>"), 'b{counter-reset:c}b::before{content:counters(c,".")}'),
+         grows="the square of the depth", check=lines(lambda size: size)),
+    Kind("counters of the root, at every element", 1_000, lambda size: {
+        "d.xhtml": wrapped("<body>", "<p/>", "</body>")(1_000), "s.css": wrapped("body{counter-reset:", lambda k: f" c{k}", "}")(size),
+    }, grows="by counters and elements", check=is_empty),
+    Kind("nested quotes", 1_000, of_document(nested("<q>", "", "</q>")), grows="the output is the square of the depth", check=lines(lambda size: 2 * size)),
+    Kind("reversed lists in each other", 250, of_document(nested('<ol reversed="">', "<li/>", "</ol>")), grows="the square of the depth", check=lines(lambda _: 1)),
+    Kind("reversed lists beside each other", 20_000, of_document(wrapped("<body>", '<ol reversed=""><li/></ol>', "</body>")), check=lines(lambda size: size)),
+    Kind("references to one element", 50_000, of_document(wrapped('<body><h1 id="t"/>', '<a href="#t"/>', "</body>"), "a::after{content:target-counter(attr(href),c)}"),
+         check=lines(lambda size: size)),
+    Kind("references to nothing", 50_000, of_document(wrapped("<body>", '<a href="#t"/>', "</body>"), "a::after{content:target-counter(attr(href),c)}"),
+         check=lines(lambda size: size)),
+    Kind("elements of one id, each referred to", 2_000, of_document(wrapped("<body>", '<a id="t" href="#t"/>', "</body>"), "a::after{content:target-counter(attr(href),c)}"),
+         grows="the square of the elements", check=lines(lambda size: size)),
+    Kind("a ring of references", 20_000, of_document(
+        lambda size: ["<body>", *(f'<a id="a{k}" href="#a{(k + 1) % size}"/>' for k in range(size)), "</body>"],
+        'a::after{content:"x"target-text(attr(href),after)}'), check=lines(lambda size: size)),
+    Kind("references to one text of 1,000 characters", 2_000, of_document(
+        wrapped(f'<body><h1 id="t">{"x" * 1_000}</h1>', '<a href="#t"/>', "</body>"), "a::after{content:target-text(attr(href))}"), check=lines(lambda size: size)),
+    Kind("a string of the sheet, at every element", 2_000, lambda size: {
+        "d.xhtml": wrapped("<body>", "<p/>", "</body>")(size), "s.css": wrapped('p::before{content:"', "x", '"}')(size),
+    }, grows="the output is the string by the elements", check=lines(lambda size: size)),
+    # scripts
+    Kind("a script of moves", 5_000, of_script(wrapped("", "move /0 / 1\n", "")), EDIT, check=is_empty),
+    Kind("a script of refused edits", 100_000, of_script(wrapped("", "remove /9\n", "")), EDIT, check=lines(lambda size: size)),
+    Kind("a script of sheets", 2_000, of_script(wrapped("", "sheet n.css\n", "")), EDIT, check=is_empty),
+    Kind("a script of shows", 50_000, of_script(wrapped("", "show\n", "")), EDIT, check=lines(lambda size: 2 * size)),
+    Kind("a script of comments", 1 * MIB, of_script(wrapped("", "#\n", "")), EDIT, check=is_empty),
+    Kind("a path of many positions", 1 * MIB, of_script(wrapped("remove ", "/0", "\n")), EDIT, check=lines(lambda _: 1)),
+    Kind("an attribute set again and again", 5_000, of_script(wrapped("", lambda k: f"set /0 a {k}\n", "")), EDIT, check=is_empty),
+    Kind("attributes that come, one after the other", 2_000, of_script(wrapped("", lambda k: f"set /0 a{k} x\n", "")), EDIT,
+         grows="the square of the edits, each over a larger element", check=is_empty),
+    Kind("elements that come, one after the other", 500, of_script(wrapped("", "insert / 0 <p/>\n", "")), EDIT,
+         grows="the square of the edits, each over a larger document", check=is_empty),
+]
