@@ -1,7 +1,7 @@
 pub mod EntryLaws
 pub mod MergeLaws
-mod StopLaws
-mod CountLaws
+pub mod StopLaws
+pub mod CountLaws
 mod SkipLaws
 mod TurnLists
 mod EnterTurns
@@ -16,7 +16,7 @@ mod EditLaws
 mod PutLaws
 mod WayStops
 pub mod WayLaws
-mod JoinWords
+pub mod JoinWords
 mod JoinLaws
 mod MoveParts
 mod MoveLaws
@@ -24,6 +24,6 @@ mod RoomLaws
 mod TurnedMerges
 mod WayOrder
 mod TurnedStops
-mod InputLaws
-mod WorkLaws
+pub mod InputLaws
+pub mod WorkLaws
 pub mod LawLemmas

@@ -45,7 +45,7 @@ module _ {L : Type 0} where
   weigh-merged_at gone come change (position ∷ path) (Tree n c r) =
       omega (arith, weigh-merged_from gone come (merged_at change path) position c, weigh-merged_at gone come change path (trees_from position c), weigh-all_kept gone come r)
 
-  led-all_kept : (g : Forest (Keyed L)) → led_count (all_kept g) ≡ 0
+  pub led-all_kept : (g : Forest (Keyed L)) → led_count (all_kept g) ≡ 0
   led-all_kept Empty = refl
   led-all_kept (Tree n c r) = rw (has_place-all_kept c) (omega (arith, led-all_kept c, led-all_kept r))
 
@@ -125,20 +125,151 @@ module _ {L : Type 0} where
               ∙ splice-there index its.1 few,
         )
 
-module _ {L K H : Type 0} (e : Evaluator L K H) (weight : ℕ → ℕ) (heavy : (k : ℕ) → 1 ≤ weight k) where
+-- What is touched, weighed.
+
+module _ {L : Type 0} (is_element : L → Bool) (weight : ℕ → ℕ) where
+  -- the trees and the ways
+  abbrev pub weigh_touched : Touched L → ℕ
+  weigh_touched touched = sum_by (weigh_elements is_element weight) touched.trees + sum_by (λ way. sum_by (λ (n : Keyed L). weight n.key) way) touched.ways
+
+  -- a merge has two places at most, and what it leads to, what comes and what goes is touched
+  pub record AreTouched (m : Merge L) (touched : Touched L) : Type 0 where
+    pub places : place_count m ≤ 2
+    pub few : (led_count m + come_count is_element m + gone_count is_element m) ≤ weigh_touched touched
+
+module _ {L : Type 0} (is_element : L → Bool) (weight : ℕ → ℕ) (heavy : (k : ℕ) → 1 ≤ weight k) where
   -- Counts are at most weights.
 
-  elements-within : (g : Forest (Keyed L)) → count_of_elements e.is_element g ≤ weigh_elements e.is_element weight g
+  pub elements-within : (g : Forest (Keyed L)) → count_of_elements is_element g ≤ weigh_elements is_element weight g
   elements-within Empty = omega arith
   elements-within (Tree n c r) =
-      elim (e.is_element n.label) as (λ b. cond {A = ℕ} b 1 0 + (count_of_elements e.is_element c + count_of_elements e.is_element r) ≤ cond b (weight n.key) 0 + (weigh_elements e.is_element weight c + weigh_elements e.is_element weight r)) [
+      elim (is_element n.label) as (λ b. cond {A = ℕ} b 1 0 + (count_of_elements is_element c + count_of_elements is_element r) ≤ cond b (weight n.key) 0 + (weigh_elements is_element weight c + weigh_elements is_element weight r)) [
         | true ↦ omega (arith, heavy n.key, elements-within c, elements-within r)
         | false ↦ omega (arith, elements-within c, elements-within r)
       ]
 
-  way-within : (way : List (Keyed L)) → length way ≤ sum_by (λ (n : Keyed L). weight n.key) way
+  pub way-within : (way : List (Keyed L)) → length way ≤ sum_by (λ (n : Keyed L). weight n.key) way
   way-within [] = omega arith
   way-within (n ∷ way) = omega (arith, heavy n.key, way-within way, sum_by-cons (λ (n : Keyed L). weight n.key) n way)
+
+  -- The edits.
+
+  pub touched-removal : (path : List ℕ) (tree : Forest (Keyed L)) → AreTouched is_element weight (removal path tree) (removal_touches path tree)
+  touched-removal path tree = record {
+    places = omega (arith, weigh-removal (λ _. 1) (λ _. 1) path tree);
+    few =
+        omega (
+          arith,
+          led-removal path tree,
+          weigh-removal (λ _. 0) (count_of_elements is_element) path tree,
+          weigh-removal (count_of_elements is_element) (λ _. 0) path tree,
+          elements-within (alone (on_path path tree)),
+          way-within (on_way path tree),
+        );
+  }
+
+  pub touched-relabelling : (path : List ℕ) (change : Keyed L → Keyed L) (tree : Forest (Keyed L))
+      → AreTouched is_element weight (relabelling path change tree) (relabelling_touches path change tree)
+  touched-relabelling path change tree =
+      let at = on_path path tree in
+      let there : on_path path (relabelled_at path change tree) ≡ with_label change at = on-changed (with_label change) path tree refl in
+      let its : count_of_elements is_element (alone (with_label change at)) ≤ weigh_elements is_element weight (alone (on_path path (relabelled_at path change tree))) =
+      subst (λ g. count_of_elements is_element (alone (with_label change at)) ≤ weigh_elements is_element weight (alone g)) (sym there) (elements-within (alone (with_label change at))) in
+      record {
+        places = omega (arith, weigh-merged_at (λ _. 1) (λ _. 1) (first_changed change) path tree, weigh-first_changed (λ _. 1) (λ _. 1) change at);
+        few =
+            omega (
+              arith,
+              led-merged_at (first_changed change) path tree,
+              led-first_changed change at,
+              weigh-merged_at (λ _. 0) (count_of_elements is_element) (first_changed change) path tree,
+              weigh-first_changed (λ _. 0) (count_of_elements is_element) change at,
+              weigh-merged_at (count_of_elements is_element) (λ _. 0) (first_changed change) path tree,
+              weigh-first_changed (count_of_elements is_element) (λ _. 0) change at,
+              its,
+              elements-within (alone at),
+              way-within (on_way path tree),
+            );
+      }
+
+  -- a fragment that comes into a merge in which trees only go, and only one
+  put-within : (first : Merge L) (z : Keyed L) (zs after : Forest (Keyed L)) (parent : List ℕ) (index : ℕ) (new : Forest (Keyed L)) → OnlyGoes first → HasRoom parent index (new_of first)
+      → inserted_at parent index (Tree z zs after) (new_of first) ≡ new
+      → let place : List ℕ = parent ++ index ∷ [] in let m : Merge L = put_at parent index z zs first in
+      (place_count m ≡ place_count first + 1)
+      × ((led_count m + come_count is_element m + gone_count is_element m)
+      ≤ led_count first + come_count is_element first + gone_count is_element first + weigh_elements is_element weight (alone (on_path place new)) + sum_by (λ (n : Keyed L). weight n.key) (on_way place new))
+  put-within first z zs after parent index new only room is =
+      let place : List ℕ = parent ++ index ∷ [] in
+      let m : Merge L = put_at parent index z zs first in
+      let puts = puts-put_at z zs parent index first only room in
+      let there = inserted-there z zs parent index after (new_of first) room in
+      let at : on_path place new ≡ Tree z zs there.0 = ap (on_path place) (sym is) ∙ there.1 in
+      let its : count_of_elements is_element (Tree z zs Empty) ≤ weigh_elements is_element weight (alone (on_path place new)) =
+      subst (λ g. count_of_elements is_element (Tree z zs Empty) ≤ weigh_elements is_element weight (alone g)) (sym at) (elements-within (Tree z zs Empty)) in (
+        weigh-puts z zs (λ _. 1) (λ _. 1) (suc (length parent)) first m puts,
+        omega (
+          arith,
+          led-puts z zs (suc (length parent)) first m puts,
+          weigh-puts z zs (λ _. 0) (count_of_elements is_element) (suc (length parent)) first m puts,
+          weigh-puts z zs (count_of_elements is_element) (λ _. 0) (suc (length parent)) first m puts,
+          its,
+          way-length place new (tree-named place new z zs there.0 at),
+          length_push parent index,
+          way-within (on_way place new),
+        ),
+      )
+
+  pub touched-insertion : (parent : List ℕ) (index : ℕ) (fragment tree : Forest (Keyed L)) → HasRoom parent index tree
+      → AreTouched is_element weight (insertion parent index fragment tree) (insertion_touches parent index fragment tree)
+  touched-insertion parent index Empty tree room = record {
+    places = omega (arith, weigh-all_kept (λ _. 1) (λ _. 1) tree);
+    few = omega (arith, led-all_kept tree, weigh-all_kept (λ _. 0) (count_of_elements is_element) tree, weigh-all_kept (count_of_elements is_element) (λ _. 0) tree);
+  }
+  touched-insertion parent index (Tree z zs after) tree room =
+      let fragment = Tree z zs after in
+      let new = inserted_at parent index fragment tree in
+      let put =
+      put-within (all_kept tree) z zs after parent index new (only-all_kept tree) (subst (HasRoom parent index) (sym (new-all_kept tree)) room) (ap (inserted_at parent index fragment) (new-all_kept tree)) in
+      record {
+        places = omega (arith, put.0, weigh-all_kept (λ _. 1) (λ _. 1) tree);
+        few =
+            omega (
+              arith,
+              put.1,
+              led-all_kept tree,
+              weigh-all_kept (λ _. 0) (count_of_elements is_element) tree,
+              weigh-all_kept (count_of_elements is_element) (λ _. 0) tree,
+            );
+      }
+
+  pub touched-moving : (from parent : List ℕ) (index : ℕ) (tree : Forest (Keyed L)) → NamesNode from tree → HasRoom (once_out from parent) index (removed_at from tree)
+      → AreTouched is_element weight (moving from parent index tree) (moving_touches from parent index tree)
+  touched-moving from parent index tree named room =
+      let its = names-tree from tree named in
+      let first = removal from tree in
+      let new = moved from parent index tree in
+      let is : moving from parent index tree ≡ put_at (once_out from parent) index its.0 its.1 first = ap (λ g. put_fragment (once_out from parent) index g first) its.3 in
+      let put =
+      put-within first its.0 its.1 its.2 (once_out from parent) index new (only-removal from tree) (subst (HasRoom (once_out from parent) index) (sym (new-removal from tree)) room)
+      (ap (inserted_at (once_out from parent) index (Tree its.0 its.1 its.2)) (new-removal from tree) ∙ ap (λ g. inserted_at (once_out from parent) index g (removed_at from tree)) (sym its.3)) in
+      let touched : AreTouched is_element weight (put_at (once_out from parent) index its.0 its.1 first) (moving_touches from parent index tree) = record {
+        places = omega (arith, put.0, weigh-removal (λ _. 1) (λ _. 1) from tree);
+        few =
+            omega (
+              arith,
+              put.1,
+              led-removal from tree,
+              weigh-removal (λ _. 0) (count_of_elements is_element) from tree,
+              weigh-removal (count_of_elements is_element) (λ _. 0) from tree,
+              elements-within (alone (on_path from tree)),
+              way-within (on_way from tree),
+            );
+      } in
+      subst (λ m. AreTouched is_element weight m (moving_touches from parent index tree)) (sym is) touched
+
+module _ {L K H : Type 0} (e : Evaluator L K H) (weight : ℕ → ℕ) (heavy : (k : ℕ) → 1 ≤ weight k) where
+  -- What elements are handed.
 
   differing-append : (before xs ys : List (ℕ × H)) → weigh_differing e weight before (xs ++ ys) ≡ weigh_differing e weight before xs + weigh_differing e weight before ys
   differing-append before [] ys = omega arith
@@ -198,122 +329,40 @@ module _ {L K H : Type 0} (e : Evaluator L K H) (weight : ℕ → ℕ) (heavy : 
 
   -- The bound.
 
-  -- the trees and ways that are touched, weighed
-  abbrev weigh_touched : Touched L → ℕ
-  weigh_touched touched = sum_by (weigh_elements e.is_element weight) touched.trees + sum_by (λ way. sum_by (λ (n : Keyed L). weight n.key) way) touched.ways
-
-  -- a merge of two places is paid for where what is led to, comes and goes is touched
+  -- a merge is paid for where what it leads to, what comes and what goes is touched
   paid : (m : Merge L) (old new : Forest (Keyed L)) (touched : Touched L) (i j : H) (before : List (ℕ × H)) → old_of m ≡ old → new_of m ≡ new → Holds (first_at before) (inputs e j old)
-      → place_count m ≤ 2 → (led_count m + come_count e.is_element m + gone_count e.is_element m) ≤ weigh_touched touched → IsPaid e weight i j m touched before (inputs e i new)
-  paid m old new touched i j before old_is new_is h places few =
+      → AreTouched e.is_element weight m touched → IsPaid e weight i j m touched before (inputs e i new)
+  paid m old new touched i j before old_is new_is h its =
       let others : other_count e i j m ≤ weigh_differing e weight before (inputs e i new) =
       subst (λ g. other_count e i j m ≤ weigh_differing e weight before (inputs e i g)) new_is
       (others-within before m i j (subst (λ g. Holds (first_at before) (inputs e j g)) (sym old_is) h)) in
-      omega (arith, others, places, few, anew-within e m i j, length-stops_of e.is_element 0 m)
+      omega (arith, others, its.places, its.few, anew-within e m i j, length-stops_of e.is_element 0 m)
 
   pub paid-removal : (path : List ℕ) (tree : Forest (Keyed L)) (i j : H) (before : List (ℕ × H)) → Holds (first_at before) (inputs e j tree)
       → IsPaid e weight i j (removal path tree) (removal_touches path tree) before (inputs e i (removed_at path tree))
   paid-removal path tree i j before h =
       paid (removal path tree) tree (removed_at path tree) (removal_touches path tree) i j before (old-removal path tree) (new-removal path tree) h
-      (omega (arith, weigh-removal (λ _. 1) (λ _. 1) path tree))
-      (omega (
-        arith,
-        led-removal path tree,
-        weigh-removal (λ _. 0) (count_of_elements e.is_element) path tree,
-        weigh-removal (count_of_elements e.is_element) (λ _. 0) path tree,
-        elements-within (alone (on_path path tree)),
-        way-within (on_way path tree),
-      ))
+      (touched-removal e.is_element weight heavy path tree)
 
   pub paid-relabelling : (path : List ℕ) (change : Keyed L → Keyed L) (tree : Forest (Keyed L)) (i j : H) (before : List (ℕ × H)) → Holds (first_at before) (inputs e j tree)
       → IsPaid e weight i j (relabelling path change tree) (relabelling_touches path change tree) before (inputs e i (relabelled_at path change tree))
   paid-relabelling path change tree i j before h =
-      let at = on_path path tree in
-      let there : on_path path (relabelled_at path change tree) ≡ with_label change at = on-changed (with_label change) path tree refl in
-      let its : count_of_elements e.is_element (alone (with_label change at)) ≤ weigh_elements e.is_element weight (alone (on_path path (relabelled_at path change tree))) =
-      subst (λ g. count_of_elements e.is_element (alone (with_label change at)) ≤ weigh_elements e.is_element weight (alone g)) (sym there) (elements-within (alone (with_label change at))) in
       paid (relabelling path change tree) tree (relabelled_at path change tree) (relabelling_touches path change tree) i j before (old-relabelling path change tree) (new-relabelling path change tree) h
-      (omega (arith, weigh-merged_at (λ _. 1) (λ _. 1) (first_changed change) path tree, weigh-first_changed (λ _. 1) (λ _. 1) change at))
-      (omega (
-        arith,
-        led-merged_at (first_changed change) path tree,
-        led-first_changed change at,
-        weigh-merged_at (λ _. 0) (count_of_elements e.is_element) (first_changed change) path tree,
-        weigh-first_changed (λ _. 0) (count_of_elements e.is_element) change at,
-        weigh-merged_at (count_of_elements e.is_element) (λ _. 0) (first_changed change) path tree,
-        weigh-first_changed (count_of_elements e.is_element) (λ _. 0) change at,
-        its,
-        elements-within (alone at),
-        way-within (on_way path tree),
-      ))
-
-  -- a fragment that comes into a merge in which trees only go, and only one
-  put-within : (first : Merge L) (z : Keyed L) (zs after : Forest (Keyed L)) (parent : List ℕ) (index : ℕ) (new : Forest (Keyed L)) → OnlyGoes first → HasRoom parent index (new_of first)
-      → inserted_at parent index (Tree z zs after) (new_of first) ≡ new
-      → let place : List ℕ = parent ++ index ∷ [] in let m : Merge L = put_at parent index z zs first in
-      (place_count m ≡ place_count first + 1)
-      × ((led_count m + come_count e.is_element m + gone_count e.is_element m)
-      ≤ led_count first + come_count e.is_element first + gone_count e.is_element first + weigh_elements e.is_element weight (alone (on_path place new)) + sum_by (λ (n : Keyed L). weight n.key) (on_way place new))
-  put-within first z zs after parent index new only room is =
-      let place : List ℕ = parent ++ index ∷ [] in
-      let m : Merge L = put_at parent index z zs first in
-      let puts = puts-put_at z zs parent index first only room in
-      let there = inserted-there z zs parent index after (new_of first) room in
-      let at : on_path place new ≡ Tree z zs there.0 = ap (on_path place) (sym is) ∙ there.1 in
-      let its : count_of_elements e.is_element (Tree z zs Empty) ≤ weigh_elements e.is_element weight (alone (on_path place new)) =
-      subst (λ g. count_of_elements e.is_element (Tree z zs Empty) ≤ weigh_elements e.is_element weight (alone g)) (sym at) (elements-within (Tree z zs Empty)) in (
-        weigh-puts z zs (λ _. 1) (λ _. 1) (suc (length parent)) first m puts,
-        omega (
-          arith,
-          led-puts z zs (suc (length parent)) first m puts,
-          weigh-puts z zs (λ _. 0) (count_of_elements e.is_element) (suc (length parent)) first m puts,
-          weigh-puts z zs (count_of_elements e.is_element) (λ _. 0) (suc (length parent)) first m puts,
-          its,
-          way-length place new (tree-named place new z zs there.0 at),
-          length_push parent index,
-          way-within (on_way place new),
-        ),
-      )
+      (touched-relabelling e.is_element weight heavy path change tree)
 
   pub paid-insertion : (parent : List ℕ) (index : ℕ) (fragment tree : Forest (Keyed L)) (i j : H) (before : List (ℕ × H)) → HasRoom parent index tree → Holds (first_at before) (inputs e j tree)
       → IsPaid e weight i j (insertion parent index fragment tree) (insertion_touches parent index fragment tree) before (inputs e i (inserted_at parent index fragment tree))
-  paid-insertion parent index Empty tree i j before room h =
-      paid (all_kept tree) tree (inserted_at parent index Empty tree) (insertion_touches parent index Empty tree) i j before (old-insertion parent index Empty tree) (new-insertion parent index Empty tree) h
-      (omega (arith, weigh-all_kept (λ _. 1) (λ _. 1) tree))
-      (omega (arith, led-all_kept tree, weigh-all_kept (λ _. 0) (count_of_elements e.is_element) tree, weigh-all_kept (count_of_elements e.is_element) (λ _. 0) tree))
-  paid-insertion parent index (Tree z zs after) tree i j before room h =
-      let fragment = Tree z zs after in
-      let new = inserted_at parent index fragment tree in
-      let put =
-      put-within (all_kept tree) z zs after parent index new (only-all_kept tree) (subst (HasRoom parent index) (sym (new-all_kept tree)) room) (ap (inserted_at parent index fragment) (new-all_kept tree)) in
-      paid (insertion parent index fragment tree) tree new (insertion_touches parent index fragment tree) i j before (old-insertion parent index fragment tree) (new-insertion parent index fragment tree) h
-      (omega (arith, put.0, weigh-all_kept (λ _. 1) (λ _. 1) tree))
-      (omega (arith, put.1, led-all_kept tree, weigh-all_kept (λ _. 0) (count_of_elements e.is_element) tree, weigh-all_kept (count_of_elements e.is_element) (λ _. 0) tree))
+  paid-insertion parent index fragment tree i j before room h =
+      paid (insertion parent index fragment tree) tree (inserted_at parent index fragment tree) (insertion_touches parent index fragment tree) i j before
+      (old-insertion parent index fragment tree) (new-insertion parent index fragment tree) h
+      (touched-insertion e.is_element weight heavy parent index fragment tree room)
 
   pub paid-moving : (from parent : List ℕ) (index : ℕ) (tree : Forest (Keyed L)) (i j : H) (before : List (ℕ × H)) → NamesNode from tree → HasRoom (once_out from parent) index (removed_at from tree)
       → Holds (first_at before) (inputs e j tree) → IsPaid e weight i j (moving from parent index tree) (moving_touches from parent index tree) before (inputs e i (moved from parent index tree))
   paid-moving from parent index tree i j before named room h =
-      let its = names-tree from tree named in
-      let first = removal from tree in
-      let m = moving from parent index tree in
-      let new = moved from parent index tree in
-      let place = once_out from parent ++ index ∷ [] in
-      let is : m ≡ put_at (once_out from parent) index its.0 its.1 first = ap (λ g. put_fragment (once_out from parent) index g first) its.3 in
-      let put =
-      put-within first its.0 its.1 its.2 (once_out from parent) index new (only-removal from tree) (subst (HasRoom (once_out from parent) index) (sym (new-removal from tree)) room)
-      (ap (inserted_at (once_out from parent) index (Tree its.0 its.1 its.2)) (new-removal from tree) ∙ ap (λ g. inserted_at (once_out from parent) index g (removed_at from tree)) (sym its.3)) in
-      paid m tree new (moving_touches from parent index tree) i j before (old-moving from parent index tree) (new-moving from parent index tree) h
-      (subst (λ m. place_count m ≤ 2) (sym is) (omega (arith, put.0, weigh-removal (λ _. 1) (λ _. 1) from tree)))
-      (subst (λ m. (led_count m + come_count e.is_element m + gone_count e.is_element m) ≤ weigh_touched (moving_touches from parent index tree)) (sym is)
-      (omega (
-        arith,
-        put.1,
-        led-removal from tree,
-        weigh-removal (λ _. 0) (count_of_elements e.is_element) from tree,
-        weigh-removal (count_of_elements e.is_element) (λ _. 0) from tree,
-        elements-within (alone (on_path from tree)),
-        way-within (on_way from tree),
-      )))
+      paid (moving from parent index tree) tree (moved from parent index tree) (moving_touches from parent index tree) i j before
+      (old-moving from parent index tree) (new-moving from parent index tree) h
+      (touched-moving e.is_element weight heavy from parent index tree named room)
 
 module _ {L K H : Type 0} (e : Evaluator L K H) where
   -- a whole document that comes

@@ -89,7 +89,7 @@ WalksFindAllChanges L K H =
     → HasDistinctKeys (new_of merge) → Holds held (told_all evaluator was_handed (old_of merge))
     → (last : State L K H) → Run evaluator (begun evaluator handed was_handed merge spent) last → IsEnded last → Finds evaluator handed was_handed merge held spent last
 
--- and each walk ends: a turn leaves less to walk
+-- and each turn leaves less to walk
 abbrev pub TurnsLeaveLess : (L K H : Type 0) → Type 0
 TurnsLeaveLess L K H =
     (evaluator : Evaluator L K H) → IsSound evaluator → (handed was_handed : H) (merge : Merge L) (held : ℕ → Option K) (spent : ℕ)

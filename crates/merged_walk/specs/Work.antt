@@ -54,7 +54,8 @@ module _ {L K H : Type 0} (evaluator : Evaluator L K H) (weight : ℕ → ℕ) w
       + weigh_differing before now
       + sum_by (λ way. sum_by (λ (node : Keyed L). weight node.key) way) touched.ways
 
-  -- the work pays for a walk over a merge, and for taking out what was kept of the trees that go
+  -- The work pays twice for a walk over a merge, and for taking out what was kept of the trees that go: what a walk has
+  -- found may be read once more.
   abbrev pub IsPaid : (handed was_handed : H) → Merge L → Touched L → (before now : List (ℕ × H)) → Type 0
   IsPaid handed was_handed merge touched before now =
-      (budget evaluator handed was_handed merge + gone_count evaluator.is_element merge) ≤ 24 * (work touched before now + 1)
+      (2 * budget evaluator handed was_handed merge + gone_count evaluator.is_element merge) ≤ 24 * (work touched before now + 1)

@@ -21,8 +21,8 @@ pub fn paths_tell_stops<L>()
     ensures turned { TurnedNodesStop L }
 {}
 
-/// Whichever turns a walk takes, it ends, and what it has found then covers all that the new evaluation tells and
-/// was not held. It has spent at most its budget.
+/// Whichever turns a walk takes, each leaves less to walk. What it has found at its end covers all that the new
+/// evaluation tells and was not held, and it has spent at most its budget.
 pub fn walks_find_all_changes<L, K, H>()
     ensures found { WalksFindAllChanges L K H }
     ensures less { TurnsLeaveLess L K H }
@@ -33,8 +33,8 @@ pub fn changes_are_enough<R>()
     ensures enough { ChangesAreEnough R }
 {}
 
-/// The work of an edit, which knows no merge, pays for the walk over the edit's merge. A walk over a whole document
-/// that comes takes six steps for each element, and four.
+/// The work of an edit, which knows no merge, pays twice for the walk over the edit's merge. A walk over a whole
+/// document that comes takes six steps for each element, and four.
 pub fn work_pays_for_walks<L, K, H>()
     ensures removals { RemovalsArePaid L K H }
     ensures relabellings { RelabellingsArePaid L K H }

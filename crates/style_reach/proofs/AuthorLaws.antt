@@ -93,7 +93,7 @@ module _ (f : Forest (Keyed Node)) (d : IsKeyedDocument f) where
       ap (passes (is_style_of f)) e.at ∙ rw e.element.at (ap is_style e.element.label) in
       ap (λ b. b && bytes_eq name (codes "type")) (sym here) ∙ free
 
-texts-stay : (edit : Edit) (old new : Forest (Keyed Node)) → Edits edit old new → touches_sheet old edit ≡ false → style_texts new ≡ style_texts old
+pub texts-stay : (edit : Edit) (old new : Forest (Keyed Node)) → Edits edit old new → touches_sheet old edit ≡ false → style_texts new ≡ style_texts old
 texts-stay (Insert parent index fragment) old new edits free =
     let d = edits.document in
     let e = found-element old parent d.distinct (and-first _ _ (there-is _ edits.allowed)) in
@@ -144,7 +144,7 @@ texts-stay (UnsetAttr path name) old new edits free =
 texts-stay (ReplaceSheet text) old new edits free = absurd (cc)
 
 -- only a new sheet has another text
-sheet-stays : (edit : Edit) (tree : Forest (Keyed Node)) (sheet_text : List ℕ) → touches_sheet tree edit ≡ false → edited_sheet edit sheet_text ≡ sheet_text
+pub sheet-stays : (edit : Edit) (tree : Forest (Keyed Node)) (sheet_text : List ℕ) → touches_sheet tree edit ≡ false → edited_sheet edit sheet_text ≡ sheet_text
 sheet-stays (Insert parent index fragment) tree sheet_text free = refl
 sheet-stays (Remove path) tree sheet_text free = refl
 sheet-stays (Move from parent index) tree sheet_text free = refl

@@ -1,5 +1,5 @@
-mod TestLaws
-mod AncestorLaws
+pub mod TestLaws
+pub mod AncestorLaws
 mod StyleLookups
 mod StyleWalk
 mod Seen
@@ -14,7 +14,7 @@ mod TakenLaws
 mod EditLaws
 mod SheetLaws
 mod AttributeLaws
-mod AuthorLaws
+pub mod AuthorLaws
 mod DocumentLaws
-mod UntouchedLaws
+pub mod UntouchedLaws
 mod WithinLaws
