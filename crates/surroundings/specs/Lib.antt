@@ -1,0 +1,4 @@
+pub mod Surroundings
+pub mod StyledEvaluators
+pub mod MergedLevels
+pub mod Laws
