@@ -1,0 +1,6 @@
+pub mod LevelLaws
+pub mod PlaceLaws
+pub mod EditLaws
+pub mod ApproachLaws
+pub mod JoiningLaws
+mod Examples

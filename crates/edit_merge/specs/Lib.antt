@@ -1,0 +1,3 @@
+pub mod EditMerges
+pub mod Joining
+pub mod Laws
