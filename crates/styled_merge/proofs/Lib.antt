@@ -1,0 +1,10 @@
+pub mod ShapeLaws
+pub mod StyledForests
+pub mod KeptCounts
+mod KeptAncestors
+pub mod EditCounts
+pub mod ReachedLaws
+pub mod ReachedLevels
+pub mod StartLaws
+pub mod KeptLaws
+pub mod LawLemmas

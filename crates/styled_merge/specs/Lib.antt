@@ -1,0 +1,4 @@
+pub mod StyledMerges
+pub mod Stays
+pub mod Reached
+pub mod Laws
