@@ -1,0 +1,10 @@
+mod SameInputs
+mod Sums
+mod Touched
+mod Handed
+mod HandedInputs
+mod Points
+pub mod LawLemmas
+mod ReachedCounts
+mod ReachedPays
+pub mod ReachedLemmas
