@@ -9,3 +9,12 @@ pub mod LeavingLemmas
 pub mod StateLemmas
 pub mod WalkLemmas
 pub mod LinkLemmas
+pub mod NodeLemmas
+pub mod SparingLemmas
+pub mod WholeLemmas
+pub mod StandingLemmas
+pub mod SkippingLemmas
+pub mod ChoiceLemmas
+pub mod BeginningLemmas
+pub mod LeftLemmas
+pub mod DocumentLemmas

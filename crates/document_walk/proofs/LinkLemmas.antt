@@ -17,7 +17,8 @@ use Rattle.box_eval.specs.Laws.{DoesParentTell, OfEachDocument}
 use Rattle.document_walk.specs.declared.frame.Frame.{Frame}
 use Rattle.document_walk.specs.declared.walk.Walk.{Walk}
 use Rattle.document_walk.proofs.Turns.{HasEntered, HasLeft, frames_of}
-use Rattle.document_walk.specs.Walking.{HandsOn, IsBehindBox, IsByNoAfter, IsByOther, handed_by, is_boxed_in, opened_in, style_over}
+use Rattle.surroundings.specs.Surroundings.{IsByOther, handed_by}
+use Rattle.document_walk.specs.Walking.{HandsOn, IsBehindBox, IsByNoAfter, is_boxed_in, opened_in, style_over}
 use Rattle.document_walk.proofs.LevelLemmas.{styled_distinct}
 use Rattle.document_walk.proofs.WalkLemmas as walks
 

@@ -24,8 +24,9 @@ use Rattle.box_eval.specs.Evaluation.{element_starts}
 use Rattle.box_eval.specs.Scopes.{AreNew, first_boxes, last_boxes}
 use Rattle.box_eval.proofs.ListLemmas.{each_imp, or_none}
 use Rattle.document_walk.specs.declared.frame.Opened.{Opened}
-use Rattle.document_walk.specs.declared.surroundings.Surroundings.{Surroundings}
-use Rattle.document_walk.specs.Walking.{HandsOn, IsByNoAfter, IsByOther, handed_by, inputs_from, is_after_box, opened_in, opened_with}
+use Rattle.surroundings.specs.declared.surroundings.Surroundings.{Surroundings}
+use Rattle.surroundings.specs.Surroundings.{IsByOther, handed_by, inputs_from}
+use Rattle.document_walk.specs.Walking.{HandsOn, IsByNoAfter, is_after_box, opened_in, opened_with}
 
 -- What its boxes did not create.
 

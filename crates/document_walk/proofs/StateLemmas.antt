@@ -27,7 +27,8 @@ use Rattle.box_eval.proofs.ListLemmas.{each_imp}
 use Rattle.document_walk.specs.declared.frame.Frame.{Frame}
 use Rattle.document_walk.specs.declared.frame.Opened.{Opened}
 use Rattle.document_walk.specs.Elements.{one_where}
-use Rattle.document_walk.specs.Walking.{HandsOn, IsBehindBox, IsByNoAfter, IsByOther, handed_within, is_after_box, opened_with, set_of, style_over}
+use Rattle.surroundings.specs.Surroundings.{IsByOther, set_of}
+use Rattle.document_walk.specs.Walking.{HandsOn, IsBehindBox, IsByNoAfter, handed_within, is_after_box, opened_with, style_over}
 use Rattle.document_walk.proofs.TurnLemmas.{inside_made}
 
 -- What an element hands on to its children.

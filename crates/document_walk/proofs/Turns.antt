@@ -9,7 +9,8 @@ use Rattle.document_walk.specs.declared.evaluated.Evaluated.{Evaluated}
 use Rattle.document_walk.specs.declared.frame.Frame.{Frame}
 use Rattle.document_walk.specs.declared.frame.Opened.{Opened}
 use Rattle.document_walk.specs.declared.walk.Walk.{Walk}
-use Rattle.document_walk.specs.Walking.{asks_before, changes_before, changes_behind, handed_by, handed_past, handed_within, told_of}
+use Rattle.surroundings.specs.Surroundings.{handed_by}
+use Rattle.document_walk.specs.Walking.{asks_before, changes_before, changes_behind, handed_past, handed_within, told_of}
 
 -- the open elements, the innermost first
 abbrev pub frames_of : Walk → List Frame

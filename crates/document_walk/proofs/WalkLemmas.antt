@@ -29,7 +29,8 @@ use Rattle.document_walk.specs.declared.frame.Opened.{Opened}
 use Rattle.document_walk.specs.declared.walk.Walk.{Walk}
 use Rattle.document_walk.specs.Elements.{element_count, one_where}
 use Rattle.document_walk.proofs.Turns.{HasEntered, HasLeft, frames_of, nothing_told, told_entering, told_leaving}
-use Rattle.document_walk.specs.Walking.{HandsOn, IsBehindBox, IsByNoAfter, IsByOther, asks_before, changes_before, changes_behind, handed_by, handed_past, handed_within, is_boxed_in, opened_in, style_over, told_of}
+use Rattle.surroundings.specs.Surroundings.{IsByOther, handed_by}
+use Rattle.document_walk.specs.Walking.{HandsOn, IsBehindBox, IsByNoAfter, asks_before, changes_before, changes_behind, handed_past, handed_within, is_boxed_in, opened_in, style_over, told_of}
 use Rattle.document_walk.proofs.ElementLemmas.{weigh-without_keys}
 use Rattle.document_walk.proofs.Remaining.{remaining_asks, remaining_changes, remaining_records}
 use Rattle.document_walk.proofs.TurnLemmas.{entered}

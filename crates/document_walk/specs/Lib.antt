@@ -1,2 +1,5 @@
 pub mod Elements
 pub mod Walking
+pub mod Catching
+pub mod Standing
+pub mod CatchingUp

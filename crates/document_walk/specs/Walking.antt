@@ -1,7 +1,6 @@
 -- What a walk over a document makes of an element, where others are open.
-use Rattle.std.specs.Prelude.{◌≡◌, ◌⊎◌, IsSome, ℕ, ℤ, ◌==◌, Bool, true, false, ◌&&◌, List, [], ◌∷◌, ◌++◌, Option, Some, None, cond, is_some, option_map, unwrap_or}
+use Rattle.std.specs.Prelude.{◌≡◌, ◌⊎◌, IsSome, ℕ, ℤ, Bool, true, false, ◌&&◌, List, [], ◌∷◌, ◌++◌, Option, Some, None, cond, is_some, option_map, unwrap_or}
 use Rattle.std.specs.List.{AllByRecursion}
-use Rattle.std.specs.Option.{option_or}
 use Rattle.forest.specs.Forest.{Forest}
 use Rattle.forest.specs.Keys.{Keyed}
 use Rattle.plain_types.specs.declared.box_id.BoxId.{BoxId}
@@ -18,27 +17,13 @@ use Rattle.box_eval.specs.declared.element_record.ElementRecord.{ElementRecord}
 use Rattle.box_eval.specs.declared.entry.Closing.{Closing}
 use Rattle.box_eval.specs.declared.entry.Entry.{Entry}
 use Rattle.box_eval.specs.declared.inputs.Inputs.{Inputs}
-use Rattle.box_eval.specs.declared.inputs.Start.{Start}
-use Rattle.box_eval.specs.declared.made.Made.{Made}
 use Rattle.box_eval.specs.Boxes.{generates_box}
 use Rattle.box_eval.specs.Elements.{Handed, Styled, by_parent, closing_of, entry_of}
 use Rattle.box_eval.specs.Evaluation.{changes_in, element_starts, without_box}
 use Rattle.box_eval.specs.Starts.{has_starts}
+use Rattle.surroundings.specs.Surroundings.{last_made, set_of}
 use Rattle.document_walk.specs.declared.frame.Frame.{Frame}
 use Rattle.document_walk.specs.declared.frame.Opened.{Opened}
-use Rattle.document_walk.specs.declared.surroundings.Surroundings.{Surroundings}
-
--- What is handed on. The sibling boxes before are left out: the parent's set tells what a new counter replaces.
-
-abbrev pub handed_by : Surroundings → Handed
-handed_by around = record { parent = around.parent; earlier = []; sibling = around.sibling; preceding = around.preceding; depth = around.depth }
-
--- the last box of an element before its children, beside its own
-abbrev pub last_made : Entry → Option Made
-last_made entry = option_or entry.before entry.marker
-
-abbrev pub set_of : Option Made → Option (List Counter)
-set_of made = option_map (λ (box : Made). box.set) made
 
 -- what the children of an element are handed
 abbrev pub handed_inside : Entry → Handed
@@ -55,28 +40,13 @@ abbrev pub handed_behind : (parent own : List Counter) → Closing → Handed
 handed_behind parent own closing =
     record { parent = parent; earlier = []; sibling = Some own; preceding = Some closing.exit; depth = closing.depth }
 
--- the inputs of an element
-abbrev pub inputs_from : ℕ → List Start → Surroundings → Inputs
-inputs_from key starts around = record {
-  key = key;
-  parent = around.parent;
-  sibling = around.sibling;
-  preceding = around.preceding;
-  depth = around.depth;
-  starts = starts;
-}
-
--- no counter that is handed on was created by a box of this element
-abbrev pub IsByOther : ℕ → Counter → Type 0
-IsByOther key counter = (counter.creator.key == key) ≡ false
-
 abbrev pub is_after_box : BoxKind → Bool
 is_after_box kind.Element = false
 is_after_box kind.Marker = false
 is_after_box kind.Before = false
 is_after_box kind.After = true
 
--- or by an after box
+-- the counter was created by no after box
 abbrev pub IsByNoAfter : Counter → Type 0
 IsByNoAfter counter = is_after_box counter.creator.kind ≡ false
 

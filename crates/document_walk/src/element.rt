@@ -7,11 +7,11 @@ ghost use Rattle.mini_cascade.specs.Styles.{element_style};
 ghost use Rattle.box_eval.specs.Boxes.{generates_box};
 ghost use Rattle.box_eval.specs.Elements.{by_parent, closing_of, handed_in, styled_by};
 ghost use Rattle.box_eval.specs.Scopes.{AreBehindChildren, AreNew, last_boxes};
-ghost use Rattle.document_walk.specs.Walking.{HandsOn, IsByOther, handed_by, opened_by, opened_in, opened_with};
+ghost use Rattle.surroundings.specs.Surroundings.{IsByOther, handed_by};
+ghost use Rattle.document_walk.specs.Walking.{HandsOn, opened_by, opened_in, opened_with};
 
 use crate::frame::Opened;
 use crate::sources::Sources;
-use crate::surroundings::Surroundings;
 use box_eval::boxes::generates_box;
 use box_eval::element::{close_element, eval_element};
 use box_eval::entry::{Closing, Entry};
@@ -24,6 +24,7 @@ use plain_types::style::{ElementStyle, Style};
 use std::alloc::Global;
 use std::sync::ledger::Ledger;
 use steps::Steps;
+use surroundings::surroundings::Surroundings;
 
 /// The element as far as its children come, where it has a box. Its parent has a box and this style, or it is
 /// the root.

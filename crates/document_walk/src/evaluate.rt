@@ -1,18 +1,17 @@
 //! The walk over a whole document.
 
-ghost use Rattle.std.specs.Prelude.{◌≡◌, ◌+◌, ◌*◌, ◌≤◌, [], IfOk, OnOk, is_some, true, false};
+ghost use Rattle.std.specs.Prelude.{◌≡◌, ◌+◌, ◌*◌, ◌≤◌, [], IfOk, OnOk, true, false};
 ghost use Rattle.forest.specs.Keys.{without_keys};
-ghost use Rattle.forest.specs.Spots.{IsLive};
-ghost use Rattle.node_arena.specs.Nodes.{name_of};
 ghost use Rattle.mini_cascade.specs.Styles.{element_style};
 ghost use Rattle.box_eval.specs.Elements.{at_root};
 ghost use Rattle.box_eval.specs.Evaluation.{all_changes, evaluation, styled};
 ghost use Rattle.box_eval.specs.Starts.{any_asks_for_start};
 ghost use Rattle.document_walk.specs.Elements.{element_count};
-ghost use Rattle.document_walk.specs.Walking.{handed_by};
+ghost use Rattle.surroundings.specs.Surroundings.{handed_by};
 
 use crate::evaluated::Evaluated;
 use crate::sources::Sources;
+use crate::turning::is_element;
 use crate::walk::Walk;
 use box_eval::laws::parents_tell_scopes;
 use box_eval::starts::Starts;
@@ -94,12 +93,4 @@ fn go<L: Ledger, T: Starts>(
             },
         }
     }
-}
-
-/// Whether the node is an element.
-fn is_element(arena: &Arena, key: usize) -> bool
-    requires live { IsLive arena.now.tree key }
-    ensures test { result ≡ is_some (name_of arena.now.tree key) }
-{
-    arena.name(key).is_some()
 }

@@ -116,7 +116,7 @@ fn add_opened(
 }
 
 /// Whether a box of an element asks for a start, where it has a box.
-fn asks_for_start(opened: Option<&Opened>) -> bool
+pub(crate) fn asks_for_start(opened: Option<&Opened>) -> bool
     ensures test { result ≡ asks_before (option_copied opened.entry) }
 {
     match opened {

@@ -6,13 +6,14 @@ ghost use Rattle.node_arena.specs.Nodes.{attrs_of};
 ghost use Rattle.mini_cascade.specs.Styles.{element_style};
 ghost use Rattle.box_eval.specs.Elements.{at_root, by_parent, closing_of};
 ghost use Rattle.box_eval.specs.Evaluation.{changes_in, without_box};
-ghost use Rattle.document_walk.specs.Walking.{HandsOn, IsBehindBox, IsByNoAfter, IsByOther, asks_before, changes_before, changes_behind, handed_behind, handed_by, handed_past, handed_within, is_boxed_in, made_of_first, opened_in, style_over, told_of, told_opened};
+ghost use Rattle.surroundings.specs.Surroundings.{IsByOther, handed_by};
+ghost use Rattle.document_walk.specs.Walking.{HandsOn, IsBehindBox, IsByNoAfter, asks_before, changes_before, changes_behind, handed_behind, handed_past, handed_within, is_boxed_in, made_of_first, opened_in, style_over, told_of, told_opened};
 
 use crate::element::{close, open};
 use crate::evaluated::{Evaluated, add_made, tell_opened, told_opened, without_box};
 use crate::frame::{Frame, Opened, innermost, put_frame};
+use crate::handing::{go_inside, go_past};
 use crate::sources::Sources;
-use crate::surroundings::Surroundings;
 use box_eval::entry::{Closing, Entry};
 use box_eval::inputs::Start;
 use box_eval::starts::Starts;
@@ -23,6 +24,7 @@ use plain_types::style::ElementStyle;
 use std::alloc::Global;
 use std::sync::ledger::Ledger;
 use steps::Steps;
+use surroundings::surroundings::Surroundings;
 
 /// How far a walk has come.
 #[derive(Drop)]
@@ -88,7 +90,7 @@ impl Walk {
     {
         let opened = innermost(self.stack.as_slice());
         tell_opened(alloc, &mut self.told, opened)?;
-        self.around.go_inside(alloc, opened)?;
+        go_inside(alloc, &mut self.around, opened)?;
         Ok(())
     }
 
@@ -270,7 +272,7 @@ impl Walk {
         ensures changes { OnOk result (self.new.told.changes ≡ self.old.told.changes) }
         ensures asks { OnOk result (self.new.told.asks ≡ self.old.told.asks) }
     {
-        self.around.go_past(alloc, parent, &entry.own, &closing)?;
+        go_past(alloc, &mut self.around, parent, &entry.own, &closing)?;
         let record = told_opened(depth, entry, closing);
         self.told.records.push((key, record))?;
         Ok(())

@@ -1,6 +1,7 @@
 use Rattle.std.proofs.Common.{◌∙◌, None, true, ap}
 use Rattle.plain_types.specs.declared.style.ElementStyle.{ElementStyle}
-use Rattle.document_walk.specs.Walking.{handed_by, opened_in}
+use Rattle.surroundings.specs.Surroundings.{handed_by}
+use Rattle.document_walk.specs.Walking.{opened_in}
 use Rattle.document_walk.proofs.element.open.Goals as goal
 
 pub returns-clause-opened : goal.returns-clause-opened

@@ -1,5 +1,6 @@
 use Rattle.std.proofs.Common.{◌∙◌, None, sym, refl}
-use Rattle.document_walk.specs.Walking.{handed_by, opened_by}
+use Rattle.surroundings.specs.Surroundings.{handed_by}
+use Rattle.document_walk.specs.Walking.{opened_by}
 use Rattle.document_walk.proofs.OpeningLemmas.{with_box}
 use Rattle.document_walk.proofs.element.open_styled.Goals as goal
 

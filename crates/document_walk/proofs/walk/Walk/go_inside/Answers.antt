@@ -1,5 +1,6 @@
 use Rattle.std.proofs.Common.{◌∙◌, ◌++◌, ◌||◌, ap, refl, reverse}
-use Rattle.document_walk.specs.Walking.{asks_before, changes_before, handed_by, handed_within, made_of_first}
+use Rattle.surroundings.specs.Surroundings.{handed_by}
+use Rattle.document_walk.specs.Walking.{asks_before, changes_before, handed_within, made_of_first}
 use Rattle.document_walk.proofs.walk.Walk.go_inside.Goals as goal
 
 pub returns : goal.returns

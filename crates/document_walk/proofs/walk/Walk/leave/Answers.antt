@@ -1,6 +1,7 @@
 use Rattle.std.proofs.Common.{◌≡◌, ◌∙◌, ◌++◌, ◌∷◌, [], Option, OnOk, append-nil, ap, subst, sym}
 use Rattle.document_walk.specs.declared.frame.Opened.{Opened}
-use Rattle.document_walk.specs.Walking.{changes_behind, handed_by, handed_past, told_of}
+use Rattle.surroundings.specs.Surroundings.{handed_by}
+use Rattle.document_walk.specs.Walking.{changes_behind, handed_past, told_of}
 use Rattle.document_walk.proofs.walk.Walk.leave.Goals as goal
 
 -- An element with a box is left.

@@ -1,7 +1,8 @@
 use Rattle.std.proofs.Common.{◌≡◌, ◌∙◌, Option, sym, ap, length}
 use Rattle.std.specs.Prelude.{IfOk}
 use Rattle.mini_cascade.specs.Styles.{element_style}
-use Rattle.document_walk.specs.Walking.{handed_by, opened_in}
+use Rattle.surroundings.specs.Surroundings.{handed_by}
+use Rattle.document_walk.specs.Walking.{opened_in}
 use Rattle.document_walk.specs.declared.frame.Opened.{Opened}
 use Rattle.document_walk.proofs.StackLemmas.{in_box, none_open}
 use Rattle.document_walk.proofs.walk.Walk.open_next.Goals as goal
