@@ -5,27 +5,26 @@ use Rattle.forest.specs.Keys.{Keyed}
 use Rattle.plain_types.specs.declared.node.Node.{Node}
 use Rattle.plain_types.specs.declared.sheet.Sheet.{Sheet}
 use Rattle.mini_cascade.specs.Styles.{element_style}
-use Rattle.box_eval.specs.declared.element_record.ElementRecord.{ElementRecord}
-use Rattle.box_eval.specs.Starts.{document_records}
-use Rattle.generated_texts.specs.Documents.{agent_sheet, counter_styles, document_evaluation}
-use Rattle.generated_texts.specs.Entries.{document_entries, node_entries}
+use Rattle.generated_texts.specs.Documents.{agent_sheet, counter_styles}
 use Rattle.generated_texts.specs.References.{known_targets}
 use Rattle.generated_texts.specs.StyleElements.{author_sheet}
+use Rattle.surroundings.specs.declared.told.Told.{Told}
 use Rattle.dirty_walk.specs.declared.document_styles.DocumentStyles.{DocumentStyles}
 use Rattle.dirty_walk.specs.DocumentStyles.{document_styles, read_styles}
+use Rattle.dirty_walk.specs.Evaluations.{all_kept_of, document_kept, document_told, said_of, told_of}
 
 pub evaluation_told : (tree : Forest (Keyed Node)) (agent : Sheet) (styles : DocumentStyles) (text : List ℕ) → agent ≡ agent_sheet → styles ≡ document_styles text tree
-    → (records : List (ℕ × ElementRecord)) → records ≡ document_records styles.table (element_style tree agent styles.author) tree → records ≡ document_evaluation (author_sheet text tree) tree
+    → (told : List (ℕ × Told)) → told ≡ told_of styles.table (element_style tree agent styles.author) tree → told ≡ document_told (author_sheet text tree) tree
 unfolding read_styles
-evaluation_told tree agent styles text is_agent are_styles records told =
-    told
-    ∙ ap (λ (a : Sheet). document_records styles.table (element_style tree a styles.author) tree) is_agent
-    ∙ ap (λ (s : DocumentStyles). document_records s.table (element_style tree agent_sheet s.author) tree) are_styles
+evaluation_told tree agent styles text is_agent are_styles told is =
+    is
+    ∙ ap (λ (a : Sheet). told_of styles.table (element_style tree a styles.author) tree) is_agent
+    ∙ ap (λ (s : DocumentStyles). told_of s.table (element_style tree agent_sheet s.author) tree) are_styles
 
-pub entries_are : (tree : Forest (Keyed Node)) (styles : DocumentStyles) (records : List (ℕ × ElementRecord)) (text : List ℕ) → styles ≡ document_styles text tree
-    → records ≡ document_evaluation (author_sheet text tree) tree
-    → node_entries styles.table (known_targets styles.table tree records) records ≡ document_entries (author_sheet text tree) tree
+pub kept_are : (tree : Forest (Keyed Node)) (styles : DocumentStyles) (told : List (ℕ × Told)) (text : List ℕ) → styles ≡ document_styles text tree
+    → told ≡ document_told (author_sheet text tree) tree
+    → all_kept_of styles.table (known_targets styles.table tree (said_of told)) told ≡ document_kept (author_sheet text tree) tree
 unfolding read_styles
-entries_are tree styles records text are_styles are_records =
-    ap (λ (s : DocumentStyles). node_entries s.table (known_targets s.table tree records) records) are_styles
-    ∙ ap (λ (r : List (ℕ × ElementRecord)). node_entries (counter_styles (author_sheet text tree)) (known_targets (counter_styles (author_sheet text tree)) tree r) r) are_records
+kept_are tree styles told text are_styles are_told =
+    ap (λ (s : DocumentStyles). all_kept_of s.table (known_targets s.table tree (said_of told)) told) are_styles
+    ∙ ap (λ (t : List (ℕ × Told)). all_kept_of (counter_styles (author_sheet text tree)) (known_targets (counter_styles (author_sheet text tree)) tree (said_of t)) t) are_told

@@ -8,11 +8,11 @@ use Rattle.std.specs.Option.{option_or}
 use Rattle.std.specs.Ordering.{nat_cmp}
 use Rattle.std.proofs.lemmas.Bool.{cases_Bool}
 use Rattle.std.proofs.lemmas.List.{map-append, take_more}
-use Rattle.generated_texts.specs.declared.entry.NodeEntry.{NodeEntry}
+use Rattle.merged_walk.specs.Entries.{last_at}
+use Rattle.dirty_walk.specs.declared.kept.Kept.{Kept}
 use Rattle.generated_texts.specs.References.{kept_at}
 use Rattle.snapshot_board.specs.Records.{put_all, take_all}
 use Rattle.dirty_walk.specs.Changes.{AreBelow, AreChanges}
-use Rattle.dirty_walk.specs.Plans.{AreOthers}
 
 module _ {V : Type 0} where
   -- What is kept under keys.
@@ -20,11 +20,6 @@ module _ {V : Type 0} where
   -- whether something is
   abbrev pub has_key : ℕ → List (ℕ × V) → Bool
   has_key key kept = list_any (λ (entry : ℕ × V). entry.0 == key) kept
-
-  -- the last that is
-  abbrev pub last_at : List (ℕ × V) → ℕ → Option V
-  last_at [] key = None
-  last_at (entry ∷ entries) key = option_or (last_at entries key) (cond (entry.0 == key) (Some entry.1) None)
 
   -- how often a key comes
   abbrev pub key_count : ℕ → List (ℕ × V) → ℕ
@@ -170,149 +165,16 @@ module _ {V : Type 0} where
     | inr e ↦ key_of P entries all.1 key (rw e at there)
   ]
 
-module _ (held : FinMap nat_cmp NodeEntry) where
+module _ (held : FinMap nat_cmp Kept) where
   -- Entries of a list that a map does not hold.
 
-  pub changes-append : (some more : List (ℕ × NodeEntry)) (changes others : List (ℕ × NodeEntry)) → AreChanges held some changes → AreChanges held more others
+  pub changes-append : (some more : List (ℕ × Kept)) (changes others : List (ℕ × Kept)) → AreChanges held some changes → AreChanges held more others
       → AreChanges held (some ++ more) (changes ++ others)
   changes-append [] more changes others are behind = subst (λ c. AreChanges held more (c ++ others)) (sym are) behind
   changes-append (entry ∷ some) more changes others are behind = elim are [
     | inl h ↦ inl (h.0, changes-append some more changes others h.1 behind)
     | inr h ↦ inr (h.0, (h.1.0 ++ others, ap (λ c. c ++ others) h.1.1, changes-append some more h.1.0 others h.1.2 behind))
   ]
-
-  pub fewer : (all changes : List (ℕ × NodeEntry)) → AreChanges held all changes → length changes ≤ length all
-  fewer [] changes are = rw are (omega arith)
-  fewer (entry ∷ all) changes are = elim are [
-    | inl h ↦ omega (arith, fewer all changes h.1)
-    | inr h ↦ rw h.1.1 (omega (arith, fewer all h.1.0 h.1.2))
-  ]
-
-  or_true : (a b c : Bool) → (a || b) ≡ true → (b ≡ true → c ≡ true) → (a || c) ≡ true
-  or_true true b c e f = refl
-  or_true false b c e f = f e
-
-  or_second : (a c : Bool) → c ≡ true → (a || c) ≡ true
-  or_second true c e = refl
-  or_second false c e = e
-
-  pub among : (all changes : List (ℕ × NodeEntry)) → AreChanges held all changes → (key : ℕ) → has_key key changes ≡ true → has_key key all ≡ true
-  among [] changes are key there = absurd (let bad : false ≡ true = subst (λ (c : List (ℕ × NodeEntry)). has_key key c ≡ true) are there in cc bad)
-  among (entry ∷ all) changes are key there = elim are [
-    | inl h ↦ or_second (entry.0 == key) (has_key key all) (among all changes h.1 key there)
-    | inr h ↦
-        let front : has_key key (entry ∷ h.1.0) ≡ true = subst (λ (c : List (ℕ × NodeEntry)). has_key key c ≡ true) h.1.1 there in
-        or_true (entry.0 == key) (has_key key h.1.0) (has_key key all) front (λ t. among all h.1.0 h.1.2 key t)
-  ]
-
-  -- none of them is in the map
-  pub are_others : (all changes : List (ℕ × NodeEntry)) → AreChanges held all changes → AreOthers held changes
-  are_others [] changes are = subst (AreOthers held) (sym are) tt
-  are_others (entry ∷ all) changes are = elim are [
-    | inl h ↦ are_others all changes h.1
-    | inr h ↦ subst (AreOthers held) (sym h.1.1) (h.0, are_others all h.1.0 h.1.2)
-  ]
-
-  -- put over the map, they are all of the list
-  pub told : (all changes : List (ℕ × NodeEntry)) → HasKeysOnce all → AreChanges held all changes → (key : ℕ)
-      → option_or (last_at changes key) (get held key) ≡ option_or (kept_at all key) (get held key)
-  told [] changes once are key = ap (λ (c : List (ℕ × NodeEntry)). option_or (last_at c key) (get held key)) are
-  told (entry ∷ all) changes once are key =
-      elim are [
-        | inl h ↦ stays h.0 (told all changes once.1 h.1 key) ∙ sym first
-        | inr h ↦
-            ap (λ (c : List (ℕ × NodeEntry)). option_or (last_at c key) (get held key)) h.1.1
-            ∙ comes h.1.0 (told all h.1.0 once.1 h.1.2 key) (among all h.1.0 h.1.2 key)
-            ∙ sym first
-      ]
-    where
-      first : option_or (kept_at (entry ∷ all) key) (get held key) ≡ option_or (cond (entry.0 == key) (Some entry.1) (kept_at all key)) (get held key)
-      first = ap (λ o. option_or o (get held key)) (kept-first entry all key)
-
-      not_again : (entry.0 == key) ≡ true → has_key key all ≡ false
-      not_again e = ap (λ k. has_key k all) (sym (eqb-true entry.0 key e)) ∙ once.0
-
-      stays : get held entry.0 ≡ Some entry.1 → option_or (last_at changes key) (get held key) ≡ option_or (kept_at all key) (get held key)
-          → option_or (last_at changes key) (get held key) ≡ option_or (cond (entry.0 == key) (Some entry.1) (kept_at all key)) (get held key)
-      stays there rest = elim (cases_Bool (entry.0 == key)) [
-        | inl e ↦
-            let none : kept_at all key ≡ None = none_of (kept_at all key) (some-kept key all ∙ not_again e) in
-            let here : get held key ≡ Some entry.1 = ap (λ k. get held k) (sym (eqb-true entry.0 key e)) ∙ there in
-            rw e (rest ∙ ap (λ o. option_or o (get held key)) none ∙ here)
-        | inr e ↦ rw e rest
-      ]
-
-      comes : (rest : List (ℕ × NodeEntry)) → option_or (last_at rest key) (get held key) ≡ option_or (kept_at all key) (get held key) → (has_key key rest ≡ true → has_key key all ≡ true)
-          → option_or (option_or (last_at rest key) (cond (entry.0 == key) (Some entry.1) None)) (get held key) ≡ option_or (cond (entry.0 == key) (Some entry.1) (kept_at all key)) (get held key)
-      comes rest is within = elim (cases_Bool (entry.0 == key)) [
-        | inl e ↦
-            let absent : has_key key rest ≡ false = elim (cases_Bool (has_key key rest)) [ inl t ↦ absurd (let yes = within t in let no = not_again e in cc) | inr f ↦ f ] in
-            let none : last_at rest key ≡ None = none_of (last_at rest key) (some-last key rest ∙ absent) in
-            rw (e, none) refl
-        | inr e ↦ rw e (passed (last_at rest key) (get held key) ∙ is)
-      ]
-        where
-          passed : (o before : Option NodeEntry) → option_or (option_or o None) before ≡ option_or o before
-          passed None before = refl
-          passed (Some x) before = refl
-
-  -- The elements of one document go and those of another come: the map has all that is kept of these.
-  pub settles : (was is : ℕ → Bool) (all changes : List (ℕ × NodeEntry)) (takes : List ℕ) → HasKeysOnce all → AreChanges held all changes
-      → ((key : ℕ) → is_some (get held key) ≡ was key) → ((key : ℕ) → is_some (kept_at all key) ≡ is key)
-      → ((key : ℕ) → list_any (nat_eq key) takes ≡ (was key && not (is key)))
-      → (key : ℕ) → get (put_all changes (take_all takes held)) key ≡ kept_at all key
-  settles was is all changes takes once are before after taken key =
-      get-put_all changes (take_all takes held) key
-      ∙ ap (λ o. option_or (last_at changes key) o) (get-take_all takes held key ∙ ap (λ b. cond b None (get held key)) (taken key))
-      ∙ elim (cases_Bool (is key)) [
-        | inl e ↦ here (some_of (kept_at all key) (after key ∙ e)) e
-        | inr e ↦ nowhere e (none_of (kept_at all key) (after key ∙ e))
-      ]
-    where
-      here : (v : NodeEntry) × (kept_at all key ≡ Some v) → is key ≡ true → option_or (last_at changes key) (cond (was key && not (is key)) None (get held key)) ≡ kept_at all key
-      here found e =
-          ap (λ b. option_or (last_at changes key) (cond (was key && not b) None (get held key))) e
-          ∙ ap (λ b. option_or (last_at changes key) (cond b None (get held key))) (never (was key))
-          ∙ told all changes once are key
-          ∙ ap (λ o. option_or o (get held key)) found.1
-          ∙ sym found.1
-        where
-          never : (b : Bool) → (b && false) ≡ false
-          never true = refl
-          never false = refl
-
-      nowhere : is key ≡ false → kept_at all key ≡ None → option_or (last_at changes key) (cond (was key && not (is key)) None (get held key)) ≡ kept_at all key
-      nowhere e none =
-          ap (λ o. option_or o (cond (was key && not (is key)) None (get held key))) unput
-          ∙ ap (λ b. cond (was key && not b) None (get held key)) e
-          ∙ dropped (was key) (get held key) (before key)
-          ∙ sym none
-        where
-          unput : last_at changes key ≡ None
-          unput = none_of (last_at changes key) (some-last key changes ∙ elim (cases_Bool (has_key key changes)) [
-            | inl t ↦ absurd (let yes = among all changes are key t in let no : has_key key all ≡ false = sym (some-kept key all) ∙ after key ∙ e in cc)
-            | inr f ↦ f
-          ])
-
-          dropped : (b : Bool) (o : Option NodeEntry) → is_some o ≡ b → cond (b && true) None o ≡ None
-          dropped true o h = refl
-          dropped false o h = none_of o h
-
-  -- and room where they have it, or had it before
-  pub room_for_all : (room more : ℕ) (was is : ℕ → Bool) (all changes : List (ℕ × NodeEntry)) → HasKeysOnce all → AreChanges held all changes
-      → ((key : ℕ) → is_some (get held key) ≡ was key) → ((key : ℕ) → is_some (kept_at all key) ≡ is key)
-      → ((key : ℕ) → was key ≡ true → key < room) → room ≤ more → AreBelow more changes → (key : ℕ) → is key ≡ true → key < more
-  room_for_all room more was is all changes once are before after had grown below key there =
-      elim (cases_Bool (has_key key changes)) [
-        | inl t ↦ key_of (λ k. k < more) changes below key t
-        | inr f ↦
-            let found = some_of (kept_at all key) (after key ∙ there) in
-            let none : last_at changes key ≡ None = none_of (last_at changes key) (some-last key changes ∙ f) in
-            let kept : get held key ≡ Some found.0 =
-            ap (λ o. option_or o (get held key)) (sym none) ∙ told all changes once are key ∙ ap (λ o. option_or o (get held key)) found.1 in
-            let old : key < room = had key (sym (before key) ∙ ap is_some kept) in
-            omega (arith, old, grown)
-      ]
 
 -- Keys below a room.
 
@@ -344,8 +206,8 @@ module _ {V W : Type 0} (f : V → W) (kept : List (ℕ × V)) (place : ℕ) (en
   pub put_more : (held : FinMap nat_cmp W) → put_all (made (take (place + 1) kept)) held ≡ insert (put_all (made (take place kept)) held) entry.0 (f entry.1)
   put_more held = ap (λ puts. put_all puts held) one_more ∙ put_all-append (made (take place kept)) ((entry.0, f entry.1) ∷ []) held
 
-module _ {V : Type 0} (f : V → NodeEntry) (kept : List (ℕ × V)) (place : ℕ) (entry : ℕ × V) (within : place < length kept) (is : entry ≡ get_or kept place entry) (held : FinMap nat_cmp NodeEntry)
-    (changes : List (ℕ × NodeEntry)) (are : AreChanges held (map (λ (one : ℕ × V). (one.0, f one.1)) (take place kept)) changes) where
+module _ {V : Type 0} (f : V → Kept) (kept : List (ℕ × V)) (place : ℕ) (entry : ℕ × V) (within : place < length kept) (is : entry ≡ get_or kept place entry) (held : FinMap nat_cmp Kept)
+    (changes : List (ℕ × Kept)) (are : AreChanges held (map (λ (one : ℕ × V). (one.0, f one.1)) (take place kept)) changes) where
   pub change_more : (get held entry.0 ≡ Some (f entry.1) → ⊥) → AreChanges held (map (λ (one : ℕ × V). (one.0, f one.1)) (take (place + 1) kept)) (changes ++ (entry.0, f entry.1) ∷ [])
   change_more absent =
       subst (λ all. AreChanges held all (changes ++ (entry.0, f entry.1) ∷ [])) (sym (one_more f kept place entry within is))

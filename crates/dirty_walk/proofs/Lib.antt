@@ -1,3 +1,4 @@
+pub mod AskLemmas
 pub mod BookLemmas
 pub mod ChangeLemmas
 pub mod CharacterTurns
@@ -11,13 +12,19 @@ pub mod KeptLemmas
 pub mod KnownLemmas
 pub mod NodeTurns
 pub mod NodesLeft
+pub mod NothingKnown
 pub mod PathLemmas
+pub mod PlaceLemmas
+pub mod PlainLemmas
 pub mod PlanLemmas
 pub mod RecordLemmas
+pub mod RenewalLemmas
 pub mod SaidLemmas
 pub mod SettlingLemmas
 pub mod SplitLemmas
+pub mod StartLemmas
 pub mod StyleElementLemmas
 pub mod StyleLemmas
 pub mod TakenLemmas
+pub mod ToldLemmas
 pub mod WalkLemmas

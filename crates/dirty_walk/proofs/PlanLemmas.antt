@@ -12,7 +12,7 @@ use Rattle.plain_types.specs.declared.sheet.Sheet.{Sheet}
 use Rattle.node_arena.specs.declared.reversal.Reversal.{Reversal}
 use Rattle.node_arena.specs.Document.{Document}
 use Rattle.node_arena.specs.Nodes.{name_of}
-use Rattle.generated_texts.specs.declared.entry.NodeEntry.{NodeEntry}
+use Rattle.dirty_walk.specs.declared.kept.Kept.{Kept}
 use Rattle.css_reader.specs.Features.{features}
 use Rattle.generated_texts.specs.StyleElements.{author_sheet, style_texts}
 use Rattle.node_arena.specs.Reversals.{IsSettled}
@@ -22,7 +22,8 @@ use Rattle.snapshot_board.specs.Records.{Records}
 use Rattle.target_index.specs.declared.index.Index.{Index}
 use Rattle.target_index.specs.Holders.{is_holder}
 use Rattle.dirty_walk.specs.Holding.{IsIndexOf, holds_id}
-use Rattle.dirty_walk.specs.Books.{StyledDocument, fresh_entry, HasRoomFor, IsBook, Keeps, UsesItsKeys}
+use Rattle.dirty_walk.specs.Plain.{is_plain}
+use Rattle.dirty_walk.specs.Books.{StyledDocument, fresh_kept, HasRoomFor, IsBook, KeepsAll, UsesItsKeys}
 
 -- the value behind a reference that may be there, or else behind another
 pub now-unwrap_or : {A : Type 0} (given : Option (Bor A)) (other : Bor A) → (unwrap_or given other).now ≡ unwrap_or (option_copied given) other.now
@@ -61,24 +62,24 @@ unfolding read_styles
 its_features styles text tree are = ap (λ (styles : DocumentStyles). styles.features) are
 
 -- what a book of these stands for
-abbrev pub stands : Forest (Keyed Node) → List ℕ → Option Reversal → FinMap nat_cmp NodeEntry → StyledDocument
-stands tree text planned entries = record { tree = tree; sheet = text; settled = is_none planned; entries = entries }
+abbrev pub stands : Forest (Keyed Node) → List ℕ → Option Reversal → FinMap nat_cmp Kept → StyledDocument
+stands tree text planned entries = record { tree = tree; sheet = text; settled = is_none planned; kept = entries }
 
 -- of equal documents and texts, fresh evaluations are equal
-pub kept_where : (tree other_tree : Forest (Keyed Node)) (text other_text : List ℕ) (entries other : FinMap nat_cmp NodeEntry) (settled other_settled : Bool)
+pub kept_where : (tree other_tree : Forest (Keyed Node)) (text other_text : List ℕ) (entries other : FinMap nat_cmp Kept) (settled other_settled : Bool)
     → other_tree ≡ tree → other_text ≡ text → other ≡ entries
-    → Keeps (record { tree = tree; sheet = text; settled = settled; entries = entries })
-    → Keeps (record { tree = other_tree; sheet = other_text; settled = other_settled; entries = other })
+    → KeepsAll (record { tree = tree; sheet = text; settled = settled; kept = entries })
+    → KeepsAll (record { tree = other_tree; sheet = other_text; settled = other_settled; kept = other })
 kept_where tree other_tree text other_text entries other settled other_settled same_tree same_text same kept key =
-    ap (λ (held : FinMap nat_cmp NodeEntry). get held key) same
+    ap (λ (held : FinMap nat_cmp Kept). get held key) same
     ∙ kept key
-    ∙ ap (λ (text : List ℕ). fresh_entry (stands tree text None entries) key) (sym same_text)
-    ∙ ap (λ (tree : Forest (Keyed Node)). fresh_entry (stands tree other_text None entries) key) (sym same_tree)
+    ∙ ap (λ (text : List ℕ). fresh_kept (stands tree text None entries) key) (sym same_text)
+    ∙ ap (λ (tree : Forest (Keyed Node)). fresh_kept (stands tree other_text None entries) key) (sym same_tree)
 
 -- a book is settled on a document, a text and what it keeps where it has them and no edit is planned
-pub is_settled : (tree other_tree : Forest (Keyed Node)) (text other_text : List ℕ) (entries other : FinMap nat_cmp NodeEntry) (planned : Option Reversal)
+pub is_settled : (tree other_tree : Forest (Keyed Node)) (text other_text : List ℕ) (entries other : FinMap nat_cmp Kept) (planned : Option Reversal)
     → other_tree ≡ tree → other_text ≡ text → other ≡ entries → planned ≡ None
-    → stands other_tree other_text planned other ≡ record { tree = tree; sheet = text; settled = true; entries = entries }
+    → stands other_tree other_text planned other ≡ record { tree = tree; sheet = text; settled = true; kept = entries }
 is_settled tree other_tree text other_text entries other planned same_tree same_text same none =
     ap (λ t. stands t other_text planned other) same_tree
     ∙ ap (λ x. stands tree x planned other) same_text
@@ -89,6 +90,10 @@ is_settled tree other_tree text other_text entries other planned same_tree same_
 pub index_where : (tree other : Forest (Keyed Node)) (index new : Index) → other ≡ tree → ((id : List ℕ) (key : ℕ) → is_holder new id key ≡ is_holder index id key) → IsIndexOf index tree → IsIndexOf new other
 index_where tree other index new same answers indexed id key = answers id key ∙ indexed id key ∙ ap (λ (t : Forest (Keyed Node)). holds_id t id key) (sym same)
 
+-- whether it is plain
+pub plain_where : (tree other : Forest (Keyed Node)) (text : List ℕ) (plain : Bool) → other ≡ tree → plain ≡ is_plain (author_sheet text tree) tree → plain ≡ is_plain (author_sheet text other) other
+plain_where tree other text plain same is = is ∙ ap (λ (t : Forest (Keyed Node)). is_plain (author_sheet text t) t) (sym same)
+
 -- and its room, or more
 pub room_where : (tree other : Forest (Keyed Node)) (room more : ℕ) → other ≡ tree → room ≤ more → HasRoomFor room tree → HasRoomFor more other
 room_where tree other room more same grown has key named =
@@ -97,18 +102,19 @@ room_where tree other room more same grown has key named =
 
 -- Where no edit is planned, a book may have another arena of the same document, which uses its keys alone, another board
 -- that holds the same and has as much room, and another index of the same answers.
-pub same_document : (old new : Document) (agent : Sheet) (styles : DocumentStyles) (planned : Option Reversal) (board other : Records NodeEntry) (index changed : Index)
+pub same_document : (old new : Document) (agent : Sheet) (styles : DocumentStyles) (planned : Option Reversal) (board other : Records Kept) (index changed : Index) (plain : Bool)
     → is_none planned ≡ true → new.tree ≡ old.tree → (IsSettled old → IsSettled new)
     → other.held ≡ board.held → board.room ≤ other.room → ((id : List ℕ) (key : ℕ) → is_holder changed id key ≡ is_holder index id key)
-    → IsBook old agent styles board index planned (stands old.tree styles.sheet planned board.held)
-    → IsBook new agent styles other changed planned (stands new.tree styles.sheet planned other.held)
-same_document old new agent styles (Some reversal) board other index changed none same still held grown answers book = cc
-same_document old new agent styles None board other index changed none same still held grown answers book = record {
+    → IsBook old agent styles board index plain planned (stands old.tree styles.sheet planned board.held)
+    → IsBook new agent styles other changed plain planned (stands new.tree styles.sheet planned other.held)
+same_document old new agent styles (Some reversal) board other index changed plain none same still held grown answers book = cc
+same_document old new agent styles None board other index changed plain none same still held grown answers book = record {
   agent_is = book.agent_is;
   styles_are = book.styles_are ∙ ap (λ (tree : Forest (Keyed Node)). document_styles styles.sheet tree) (sym same);
   kept = λ settled. kept_where old.tree new.tree styles.sheet styles.sheet board.held other.held true true same refl held (book.kept settled);
   room = room_where old.tree new.tree board.room other.room same grown book.room;
   indexed = index_where old.tree new.tree index changed same answers book.indexed;
+  plain_is = plain_where old.tree new.tree styles.sheet plain same book.plain_is;
   back = tt;
   keys = still book.keys;
 }

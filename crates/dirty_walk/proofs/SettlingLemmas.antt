@@ -1,6 +1,5 @@
 -- A plan settles its book.
 use Rattle.std.proofs.Common.{◌≡◌, ◌<◌, ◌≤◌, ◌+◌, ◌∙◌, ℕ, nat_eq, true, List, [], ◌∷◌, length, ap, sym, arith}
-use Rattle.std.proofs.lemmas.List.{length-map}
 use Rattle.std.specs.Prelude.{is_some}
 use Rattle.std.specs.FinMap.{FinMap, get}
 use Rattle.std.specs.List.{list_any}
@@ -11,66 +10,62 @@ use Rattle.plain_types.specs.declared.edit.Edit.{Edit}
 use Rattle.plain_types.specs.declared.node.Node.{Node}
 use Rattle.plain_types.specs.declared.sheet.Sheet.{Sheet}
 use Rattle.node_arena.specs.Nodes.{name_of}
-use Rattle.box_eval.specs.declared.element_record.ElementRecord.{ElementRecord}
-use Rattle.generated_texts.specs.declared.entry.NodeEntry.{NodeEntry}
-use Rattle.generated_texts.specs.Documents.{counter_styles, document_evaluation, document_style}
-use Rattle.generated_texts.specs.Entries.{document_entries, node_entry}
-use Rattle.generated_texts.specs.References.{kept_at, known_targets}
+use Rattle.dirty_walk.specs.declared.kept.Kept.{Kept}
+use Rattle.generated_texts.specs.References.{kept_at}
 use Rattle.generated_texts.specs.StyleElements.{author_sheet}
-use Rattle.generated_texts.proofs.EntryKeys.{elements_keys}
 use Rattle.document_walk.specs.Elements.{element_count}
 use Rattle.snapshot_board.specs.Records.{put_all, take_all}
 use Rattle.dirty_walk.specs.Books.{HasRoomFor}
-use Rattle.dirty_walk.specs.Changes.{AreBelow, AreChanges}
+use Rattle.dirty_walk.specs.Changes.{AreBelow, Renews}
+use Rattle.dirty_walk.specs.Evaluations.{document_kept}
 use Rattle.dirty_walk.specs.Exchanges.{IsDone, elements_in, leaving, taken_keys}
 use Rattle.dirty_walk.specs.Plans.{AreOfElements}
-use Rattle.dirty_walk.proofs.ChangeLemmas.{HasKeysOnce, among, each_key, fewer, room_for_all, settles, some-kept}
+use Rattle.dirty_walk.proofs.ChangeLemmas.{HasKeysOnce}
 use Rattle.dirty_walk.proofs.ExchangeLaws.{taken_count, takes_are}
-use Rattle.dirty_walk.proofs.RecordLemmas.{length-document_records, records_once}
+use Rattle.dirty_walk.proofs.RenewalLemmas.{are_of, room_for_all, settles}
+use Rattle.dirty_walk.proofs.ToldLemmas.{kept_count, kept_keys, kept_once}
 
 -- An edit makes one document of another, and other texts of its sheet. A map keeps what an evaluation of the old one does.
 -- The changes come to it, and the keys of the elements that are gone go.
-module _ (edit : Edit) (old new : Forest (Keyed Node)) (done : IsDone edit old new) (text new_text : List ℕ) (held : FinMap nat_cmp NodeEntry)
-    (changes : List (ℕ × NodeEntry)) (takes : List ℕ)
-    (keeps : (key : ℕ) → get held key ≡ kept_at (document_entries (author_sheet text old) old) key)
-    (are : AreChanges held (document_entries (author_sheet new_text new) new) changes)
+module _ (edit : Edit) (old new : Forest (Keyed Node)) (done : IsDone edit old new) (text new_text : List ℕ) (held : FinMap nat_cmp Kept)
+    (changes : List (ℕ × Kept)) (takes : List ℕ)
+    (keeps : (key : ℕ) → get held key ≡ kept_at (document_kept (author_sheet text old) old) key)
+    (are : Renews held (document_kept (author_sheet new_text new) new) changes)
     (taken : takes ≡ taken_keys edit (elements_in (leaving edit old))) where
   abbrev author : Sheet
   author = author_sheet new_text new
 
-  abbrev all : List (ℕ × NodeEntry)
-  all = document_entries author new
+  abbrev all : List (ℕ × Kept)
+  all = document_kept author new
 
   once : HasKeysOnce all
-  once = records_once (counter_styles author) (document_style author new) new (node_entry (counter_styles author) (known_targets (counter_styles author) new (document_evaluation author new))) done.after.distinct
+  once = kept_once author new done.after.distinct
 
   was : (key : ℕ) → is_some (get held key) ≡ is_some (name_of old key)
-  was key = ap (λ o. is_some o) (keeps key) ∙ elements_keys (author_sheet text old) old key done.before.distinct
+  was key = ap (λ o. is_some o) (keeps key) ∙ kept_keys (author_sheet text old) old done.before.distinct key
 
   is : (key : ℕ) → is_some (kept_at all key) ≡ is_some (name_of new key)
-  is key = elements_keys author new key done.after.distinct
+  is key = kept_keys author new done.after.distinct key
 
-  pub keeps_all : (key : ℕ) → get (put_all changes (take_all takes held)) key ≡ kept_at (document_entries (author_sheet new_text new) new) key
+  pub keeps_all : (key : ℕ) → get (put_all changes (take_all takes held)) key ≡ kept_at (document_kept (author_sheet new_text new) new) key
   keeps_all =
-      settles held (λ key. is_some (name_of old key)) (λ key. is_some (name_of new key)) all changes takes once are was is
+      settles held (λ key. is_some (name_of old key)) (λ key. is_some (name_of new key)) all changes once are was is takes
       (λ key. ap (λ keys. list_any (nat_eq key) keys) taken ∙ takes_are edit old new done key)
 
   pub of_elements : AreOfElements new changes
-  of_elements = each_key (λ key. is_some (name_of new key) ≡ true) changes (λ key there. sym (is key) ∙ some-kept key all ∙ among held all changes are key there)
+  of_elements = are_of held (λ key. is_some (name_of old key)) (λ key. is_some (name_of new key)) all changes once are was is
 
   pub has_room : (room more : ℕ) → HasRoomFor room old → room ≤ more → AreBelow more changes → HasRoomFor more new
   has_room room more had grown below key named =
-      room_for_all held room more (λ key. is_some (name_of old key)) (λ key. is_some (name_of new key)) all changes once are was is had grown below key named
+      room_for_all held (λ key. is_some (name_of old key)) (λ key. is_some (name_of new key)) all changes once are was is room more had grown below key named
 
   count : length all ≡ element_count (without_keys new)
-  count =
-      length-map (document_evaluation author new) (λ (element : ℕ × ElementRecord). (element.0, node_entry (counter_styles author) (known_targets (counter_styles author) new (document_evaluation author new)) element.1))
-      ∙ length-document_records (counter_styles author) (document_style author new) new
+  count = kept_count author new done.after.distinct
 
   pub few : length changes + length takes ≤ element_count (without_keys new) + element_count (without_keys old)
-  few = omega (arith, fewer held all changes are, count, ap length taken, taken_count edit old)
+  few = let fewer : length changes ≤ length all = are.few in omega (arith, fewer, count, ap length taken, taken_count edit old)
 
 -- what is of elements has the room that these have
-pub below_of : (tree : Forest (Keyed Node)) (room more : ℕ) (puts : List (ℕ × NodeEntry)) → more ≡ room → HasRoomFor room tree → AreOfElements tree puts → AreBelow more puts
+pub below_of : (tree : Forest (Keyed Node)) (room more : ℕ) (puts : List (ℕ × Kept)) → more ≡ room → HasRoomFor room tree → AreOfElements tree puts → AreBelow more puts
 below_of tree room more [] same has are = tt
 below_of tree room more (put ∷ puts) same has are = (let low : put.0 < room = has put.0 are.0 in omega (arith, low, same), below_of tree room more puts same has are.1)

@@ -1,5 +1,5 @@
 -- What a book stands for, and what it keeps (our own).
-use Rattle.std.specs.Prelude.{◌≡◌, ◌<◌, ℕ, Bool, true, List, Option, Some, None, IfSome, IsSome, refl}
+use Rattle.std.specs.Prelude.{◌≡◌, ◌<◌, ℕ, Bool, true, List, Option, Some, None, IfSome, IsSome, option_map, refl}
 use Rattle.std.specs.Ordering.{nat_cmp}
 use Rattle.std.specs.FinMap.{FinMap, code, get}
 use Rattle.std.specs.Coded.{Coded, code_by, coded×, coded_bool, coded_list, coded_ℕ}
@@ -19,8 +19,11 @@ use Rattle.generated_texts.specs.References.{kept_at}
 use Rattle.snapshot_board.specs.Records.{Records}
 use Rattle.target_index.specs.declared.index.Index.{Index}
 use Rattle.dirty_walk.specs.declared.document_styles.DocumentStyles.{DocumentStyles}
+use Rattle.dirty_walk.specs.declared.kept.Kept.{Kept}
 use Rattle.dirty_walk.specs.DocumentStyles.{document_styles}
+use Rattle.dirty_walk.specs.Evaluations.{document_kept}
 use Rattle.dirty_walk.specs.Holding.{IsIndexOf}
+use Rattle.dirty_walk.specs.Plain.{is_plain}
 
 -- a document whose nodes have keys, the text of its style sheet, whether they are settled, which is that no edit is
 -- planned, and what is kept of the document's elements under their keys
@@ -28,24 +31,36 @@ pub record StyledDocument : Type 0 where
   pub tree : Forest (Keyed Node)
   pub sheet : List ℕ
   pub settled : Bool
-  pub entries : FinMap nat_cmp NodeEntry
+  pub kept : FinMap nat_cmp Kept
 
-abbrev pub coded_styled_document : Coded Node → Coded NodeEntry → Coded StyledDocument
-coded_styled_document node entry =
+abbrev pub coded_styled_document : Coded Node → Coded Kept → Coded StyledDocument
+coded_styled_document node kept =
     code_by
-    (Forest (Keyed Node) × (List ℕ × (Bool × FinMap nat_cmp NodeEntry)))
-    (coded× (coded_forest (coded_keyed node)) (coded× (coded_list coded_ℕ) (coded× coded_bool (code coded_ℕ entry))))
-    (λ styled. (styled.tree, (styled.sheet, (styled.settled, styled.entries))))
-    (λ (tree, rest). record { tree = tree; sheet = rest.0; settled = rest.1.0; entries = rest.1.1 })
+    (Forest (Keyed Node) × (List ℕ × (Bool × FinMap nat_cmp Kept)))
+    (coded× (coded_forest (coded_keyed node)) (coded× (coded_list coded_ℕ) (coded× coded_bool (code coded_ℕ kept))))
+    (λ styled. (styled.tree, (styled.sheet, (styled.settled, styled.kept))))
+    (λ (tree, rest). record { tree = tree; sheet = rest.0; settled = rest.1.0; kept = rest.1.1 })
     (λ _. refl)
 
--- what a fresh evaluation keeps of the element of this key; nothing of a text
+-- the entry that is kept under a key
+abbrev pub entry_at : FinMap nat_cmp Kept → ℕ → Option NodeEntry
+entry_at held key = option_map (λ (kept : Kept). kept.entry) (get held key)
+
+-- the entry of the element of this key by a fresh evaluation; a text has none
 abbrev pub fresh_entry : StyledDocument → ℕ → Option NodeEntry
 fresh_entry styled key = kept_at (document_entries (author_sheet styled.sheet styled.tree) styled.tree) key
 
 -- the entries are those of a fresh evaluation
 abbrev pub Keeps : StyledDocument → Type 0
-Keeps styled = (key : ℕ) → get styled.entries key ≡ fresh_entry styled key
+Keeps styled = (key : ℕ) → entry_at styled.kept key ≡ fresh_entry styled key
+
+-- all that a fresh evaluation keeps of the element of this key; nothing of a text
+abbrev pub fresh_kept : StyledDocument → ℕ → Option Kept
+fresh_kept styled key = kept_at (document_kept (author_sheet styled.sheet styled.tree) styled.tree) key
+
+-- all that is kept is that of a fresh evaluation
+abbrev pub KeepsAll : StyledDocument → Type 0
+KeepsAll styled = (key : ℕ) → get styled.kept key ≡ fresh_kept styled key
 
 -- exactly the keys of the document's nodes are used, and, while an edit is planned, of those that it had before
 abbrev pub UsesItsKeys : Document → Option Reversal → Type 0
@@ -57,13 +72,14 @@ abbrev pub HasRoomFor : ℕ → Forest (Keyed Node) → Type 0
 HasRoomFor room document = (key : ℕ) → IsSome (name_of document key) → key < room
 
 -- A book stands for its arena's tree, its sheet's text, what its board holds, and whether no edit is planned. It has the
--- user agent's sheet, that document's styles and the index of its ids, and room for what is kept of its elements. A settled
--- one keeps what a fresh evaluation does, and uses no key that no node has; an edit that is planned can be taken back.
-pub record IsBook (arena : Document) (agent : Sheet) (styles : DocumentStyles) (board : Records NodeEntry) (index : Index) (planned : Option Reversal) (styled : StyledDocument) : Type 0 where
+-- user agent's sheet, that document's styles and the index of its ids, room for what is kept of its elements, and knows
+-- whether they rest on more than what they are handed. A settled one keeps what a fresh evaluation does, and uses no key that no node has; an edit that is planned can be taken back.
+pub record IsBook (arena : Document) (agent : Sheet) (styles : DocumentStyles) (board : Records Kept) (index : Index) (plain : Bool) (planned : Option Reversal) (styled : StyledDocument) : Type 0 where
   pub agent_is : agent ≡ agent_sheet
   pub styles_are : styles ≡ document_styles styled.sheet styled.tree
-  pub kept : styled.settled ≡ true → Keeps styled
+  pub kept : styled.settled ≡ true → KeepsAll styled
   pub room : HasRoomFor board.room styled.tree
   pub indexed : IsIndexOf index styled.tree
+  pub plain_is : plain ≡ is_plain (author_sheet styled.sheet styled.tree) styled.tree
   pub back : IfSome planned (λ reversal. IsReversal arena reversal)
   pub keys : UsesItsKeys arena planned

@@ -1,4 +1,4 @@
--- What is known of the elements that ids name, where records and flat texts are kept under keys (our own).
+-- What is known of the elements that ids name, where what is told and flat texts are kept under keys (our own).
 use Rattle.std.specs.Prelude.{◌≡◌, ℕ, List, Option, Some, None, cond, nat_eq, map, option_copied, option_map}
 use Rattle.std.specs.Borrow.{Bor}
 use Rattle.std.specs.HashMap.{HashMap, get}
@@ -14,6 +14,7 @@ use Rattle.content_eval.specs.Targets.{Known, flat_text}
 use Rattle.box_eval.specs.declared.element_record.ElementRecord.{ElementRecord}
 use Rattle.box_eval.specs.declared.made.Made.{Made}
 use Rattle.generated_texts.specs.References.{first_holder, kept_at, known_characters}
+use Rattle.surroundings.specs.declared.told.Told.{Told}
 use Rattle.dirty_walk.specs.declared.flat_texts.FlatTexts.{FlatTexts}
 
 -- the map has the values of a list under their keys
@@ -26,13 +27,13 @@ flat_in texts Content = None
 flat_in texts Before = texts.before
 flat_in texts After = texts.after
 
-module _ (document : Forest (Keyed Node)) (records : List (ℕ × ElementRecord)) where
+module _ (document : Forest (Keyed Node)) (told : List (ℕ × Told)) where
   -- what is kept under the key of an id's target
   abbrev pub kept_of_target : {V : Type 0} → List (ℕ × V) → List ℕ → Option V
   kept_of_target {V} kept id = option_and_then (kept_at kept) (first_holder document id)
 
   abbrev pub counters_kept : List ℕ → Option (List Counter)
-  counters_kept id = option_and_then (λ (element : ElementRecord). cond element.has_box (Some element.own) None) (kept_of_target records id)
+  counters_kept id = option_and_then (λ (one : Told). cond one.said.has_box (Some one.said.own) None) (kept_of_target told id)
 
   -- all together; before flat texts are known, none are kept
   abbrev pub known_by : List (ℕ × FlatTexts) → Known
@@ -51,5 +52,5 @@ module _ (table : List CounterStyle) (known : Known) where
   flat_texts_of element = record { before = option_map flat_text_of element.before; after = option_map flat_text_of element.after }
 
   -- those of all elements, under their keys
-  abbrev pub all_flat_texts_of : List (ℕ × ElementRecord) → List (ℕ × FlatTexts)
-  all_flat_texts_of records = map (λ (element : ℕ × ElementRecord). (element.0, flat_texts_of element.1)) records
+  abbrev pub all_flat_texts_of : List (ℕ × Told) → List (ℕ × FlatTexts)
+  all_flat_texts_of told = map (λ (element : ℕ × Told). (element.0, flat_texts_of element.1.said)) told

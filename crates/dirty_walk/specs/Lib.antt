@@ -1,7 +1,12 @@
 pub mod Books
 pub mod Changes
 pub mod DocumentStyles
+pub mod Evaluations
 pub mod Exchanges
 pub mod Holding
 pub mod Known
+pub mod PlaceReadings
+pub mod PlaceStyles
+pub mod Places
+pub mod Plain
 pub mod Plans

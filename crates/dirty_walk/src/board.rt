@@ -4,7 +4,7 @@ ghost use Rattle.std.specs.Prelude.{◌≡◌, ◌+◌, length, IfOk};
 ghost use Rattle.snapshot_board.specs.Records.{put_all, take_all};
 ghost use Rattle.dirty_walk.specs.Changes.{AreBelow};
 
-use generated_texts::entry::NodeEntry;
+use crate::kept::Kept;
 use plain_types::memory::Memory;
 use snapshot_board::board::Board;
 use std::sync::ledger::Ledger;
@@ -22,12 +22,8 @@ pub(crate) fn room_for<V>(kept: &[(usize, V)]) -> Result<usize, Memory>
     Ok(room)
 }
 
-/// Takes the entries of these keys off the board. It is a step for each.
-pub(crate) fn take_entries<L: Ledger>(
-    board: &mut Board<NodeEntry>,
-    keys: &[usize],
-    steps: &mut Steps<L>,
-)
+/// Takes what is kept under these keys off the board. It is a step for each.
+pub(crate) fn take_entries<L: Ledger>(board: &mut Board<Kept>, keys: &[usize], steps: &mut Steps<L>)
     ensures held { board.new.held ≡ take_all keys.now board.old.held }
     ensures room { board.new.room ≡ board.old.room }
     ensures steps { steps.new ≡ steps.old + length keys.now }
@@ -37,10 +33,10 @@ pub(crate) fn take_entries<L: Ledger>(
     }
 }
 
-/// Puts entries on the board, which has room for them. It is a step for each.
+/// Puts what comes on the board, which has room for it. It is a step for each.
 pub(crate) fn put_changes<L: Ledger>(
-    board: &mut Board<NodeEntry>,
-    changes: Vec<(usize, NodeEntry)>,
+    board: &mut Board<Kept>,
+    changes: Vec<(usize, Kept)>,
     steps: &mut Steps<L>,
 )
     requires room { AreBelow board.old.room changes.items }
@@ -48,7 +44,7 @@ pub(crate) fn put_changes<L: Ledger>(
     ensures room { board.new.room ≡ board.old.room }
     ensures steps { steps.new ≡ steps.old + length changes.items }
 {
-    for (key, entry) in changes {
-        board.put(key, entry, steps);
+    for (key, kept) in changes {
+        board.put(key, kept, steps);
     }
 }

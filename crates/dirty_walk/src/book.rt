@@ -1,7 +1,6 @@
 //! A document and its sheet, evaluated.
 
 ghost use Rattle.std.specs.Prelude.{◌≡◌, ◌≤◌, ◌+◌, ◌*◌, true, Some, None, IsSome, unwrap_or, IfOk, OnErr};
-ghost use Rattle.std.specs.FinMap.{get};
 ghost use Rattle.std.specs.Str.{chars};
 ghost use Rattle.forest.specs.Keys.{without_keys};
 ghost use Rattle.node_arena.specs.Document.{HasElementRoot};
@@ -11,7 +10,7 @@ ghost use Rattle.node_arena.specs.Reversals.{IsSettled};
 ghost use Rattle.css_reader.specs.Features.{features};
 ghost use Rattle.generated_texts.specs.StyleElements.{author_sheet};
 ghost use Rattle.document_walk.specs.Elements.{element_count};
-ghost use Rattle.dirty_walk.specs.Books.{fresh_entry, Keeps};
+ghost use Rattle.dirty_walk.specs.Books.{entry_at, fresh_entry, Keeps};
 ghost use Rattle.dirty_walk.specs.DocumentStyles.{document_styles};
 ghost use Rattle.dirty_walk.specs.Plans.{settled_after, IsPlannedBy, plan_size};
 
@@ -20,11 +19,12 @@ use crate::document_styles::DocumentStyles;
 use crate::exchange::{inserts_one_tree, leaving_elements, taken_keys};
 use crate::fresh::{agent_sheet, fresh_board};
 use crate::index::index_of;
+use crate::kept::Kept;
+use crate::places::stops_at_place;
 use crate::plan::Plan;
-use crate::planning::evaluated;
+use crate::planning::{Renewal, evaluated};
 use crate::style_elements::style_texts;
 use generated_texts::entry::NodeEntry;
-use generated_texts::laws::elements_have_entries;
 use node_arena::arena::Arena;
 use node_arena::laws::arena_holds_document;
 use node_arena::reversal::Reversal;
@@ -51,8 +51,11 @@ pub struct Book {
     agent: Sheet,
     styles: DocumentStyles,
     /// What is kept of the elements. While an edit is planned it is what was kept before.
-    board: Board<NodeEntry>,
+    board: Board<Kept>,
     index: Index,
+    /// Whether no element of the document rests on more than what it is handed: no box asks for the start of a reversed
+    /// counter, and none refers to another element.
+    is_plain: bool,
     /// The way back from an edit that is planned.
     planned: Option<Reversal>,
 }
@@ -60,16 +63,16 @@ pub struct Book {
 impl Model for Book {
     ghost use Rattle.std.specs.Prelude.{is_none};
     ghost use Rattle.plain_types.specs.contracts.node.Node as node;
-    ghost use Rattle.generated_texts.specs.contracts.entry.NodeEntry as entry;
+    ghost use Rattle.dirty_walk.specs.contracts.kept.Kept as kept;
     ghost use Rattle.dirty_walk.specs.Books.{IsBook, StyledDocument, coded_styled_document};
 
     ghost Value = { StyledDocument };
 
-    ghost coded = { coded_styled_document node.the_row.coded entry.the_row.coded };
+    ghost coded = { coded_styled_document node.the_row.coded kept.the_row.coded };
 
-    ghost view = { λ book. record { tree = book.arena.tree; sheet = book.styles.sheet; settled = is_none book.planned; entries = book.board.held } };
+    ghost view = { λ book. record { tree = book.arena.tree; sheet = book.styles.sheet; settled = is_none book.planned; kept = book.board.held } };
 
-    ghost invariant = { λ book. IsBook book.arena book.agent book.styles book.board book.index book.planned (record { tree = book.arena.tree; sheet = book.styles.sheet; settled = is_none book.planned; entries = book.board.held }) };
+    ghost invariant = { λ book. IsBook book.arena book.agent book.styles book.board book.index book.is_plain book.planned (record { tree = book.arena.tree; sheet = book.styles.sheet; settled = is_none book.planned; kept = book.board.held }) };
 }
 
 /// The styles of a document under the sheet of this text, read.
@@ -112,13 +115,15 @@ impl Book {
         let styles = first_styles(alloc, &arena, sheet)?;
         let agent = agent_sheet(alloc)?;
         let index = index_of(alloc, &arena)?;
-        let board = fresh_board(alloc, &arena, &agent, &styles, &index, steps)?;
+        arena_holds_document(&arena);
+        let (board, is_plain) = fresh_board(alloc, &arena, &agent, &styles, &index, steps)?;
         Ok(Book {
             arena,
             agent,
             styles,
             board,
             index,
+            is_plain,
             planned: None,
         })
     }
@@ -126,9 +131,11 @@ impl Book {
     /// Makes ready for an edit that the document allows. The document and its styles are then the edited ones, and all
     /// memory is taken that `commit` needs; `Memory` where that is wanting, and then the book is as before.
     ///
-    /// The edited document is evaluated whole, which costs what `begin` costs, beside what the arena's `prepare` and
-    /// `commit` cost. Where the texts of the sheet and of the style elements are as before, none is read. An entry that
-    /// is as before stays where it is, and with it what it has in memory.
+    /// Where the document is plain before the edit and after it, and the edit changes no styles but those of the trees
+    /// that it puts in, takes out, moves or addresses, only what the edit touches is evaluated. Else the edited document
+    /// is evaluated whole, which costs what `begin` costs; where the texts of the sheet and of the style elements are as
+    /// before, none is read. Beside that come the arena's `prepare` and `commit`. What is as before stays where it is,
+    /// and with it what it has in memory.
     pub fn plan<L: Ledger>(
         &mut self,
         alloc: Global,
@@ -138,11 +145,11 @@ impl Book {
         requires settled { self.old.settled ≡ true }
         requires allowed { place_fault edit.now (without_keys self.old.tree) ≡ None }
         ensures planned { IfOk result (λ plan. IsPlannedBy self.new plan) }
-        ensures entries { IfOk result (λ _. self.new.entries ≡ self.old.entries) }
+        ensures kept { IfOk result (λ _. self.new.kept ≡ self.old.kept) }
         ensures document { IfOk result (λ plan. IsEdited edit.now self.old.tree (settled_after self.new plan).tree) }
         ensures sheet { IfOk result (λ plan. (settled_after self.new plan).sheet ≡ edited_sheet edit.now self.old.sheet) }
         ensures err { OnErr result (self.new ≡ self.old) }
-        ensures steps { steps.new ≤ steps.old + 7 * element_count (edited edit.now (without_keys self.old.tree)) }
+        ensures steps { steps.new ≤ steps.old + 12 * element_count (edited edit.now (without_keys self.old.tree)) }
         ensures size { IfOk result (λ plan. plan_size plan ≤ element_count (edited edit.now (without_keys self.old.tree)) + element_count (without_keys self.old.tree)) }
     {
         arena_holds_document(&self.arena);
@@ -150,6 +157,14 @@ impl Book {
         let leaving = leaving_elements(alloc, &self.arena, edit)?;
         let gone = leaving.as_slice();
         let takes = taken_keys(alloc, edit, gone)?;
+        let stops = stops_at_place(
+            alloc,
+            &self.arena,
+            &self.agent,
+            &self.styles.author,
+            self.is_plain,
+            edit,
+        )?;
         let prepared = self.arena.prepare(alloc, edit)?;
         let reversal = self.arena.commit(prepared);
         arena_holds_document(&self.arena);
@@ -162,12 +177,22 @@ impl Book {
             &mut self.board,
             edit,
             gone,
+            stops,
             steps,
         ) {
-            Ok((styles, puts)) => {
+            Ok(made) => {
+                let Renewal {
+                    styles,
+                    changes,
+                    is_plain,
+                } = made;
                 replace_styles(&mut self.styles, styles);
+                self.is_plain = is_plain;
                 self.planned = Some(reversal);
-                Ok(Plan { puts, takes })
+                Ok(Plan {
+                    puts: changes,
+                    takes,
+                })
             }
             Err(memory) => {
                 self.arena.revert(reversal);
@@ -184,6 +209,7 @@ impl Book {
         ensures keeps { Keeps self.new }
         ensures steps { steps.new ≡ steps.old + plan_size plan }
     {
+        arena_holds_document(&self.arena);
         let Plan { puts, takes } = plan;
         take_entries(&mut self.board, takes.as_slice(), steps);
         put_changes(&mut self.board, puts, steps);
@@ -232,12 +258,11 @@ impl Book {
         requires settled { self.now.settled ≡ true }
         requires element { IsSome (name_of self.now.tree key) }
         ensures entry { Some result.now ≡ fresh_entry self.now key }
-        ensures held { Some result.now ≡ get self.now.entries key }
+        ensures held { Some result.now ≡ entry_at self.now.kept key }
         ensures steps { steps.new ≤ steps.old + 1 }
     {
-        // The document has distinct keys, and then exactly its elements have entries.
+        // The document has distinct keys, and then something is kept of exactly its elements.
         arena_holds_document(&self.arena);
-        elements_have_entries();
-        self.board.get(key, steps).unwrap()
+        &self.board.get(key, steps).unwrap().entry
     }
 }

@@ -1,30 +1,32 @@
-//! The evaluation of a document: what it says of the elements, and what is kept of them.
+//! The evaluation of a document: what it tells of the elements, and what is kept of them.
 
 ghost use Rattle.std.specs.Prelude.{◌≡◌, ◌≤◌, ◌+◌, ◌*◌, length, IfOk, OnOk};
 ghost use Rattle.forest.specs.Keys.{without_keys};
 ghost use Rattle.mini_cascade.specs.Styles.{element_style};
 ghost use Rattle.box_eval.specs.Evaluation.{all_changes, styled};
-ghost use Rattle.box_eval.specs.Starts.{document_records, no_starts};
-ghost use Rattle.generated_texts.specs.Entries.{node_entries};
+ghost use Rattle.box_eval.specs.Starts.{no_starts};
+ghost use Rattle.merged_walk.specs.Evaluators.{told_all};
 ghost use Rattle.generated_texts.specs.References.{known_targets, known_to_flat_texts};
 ghost use Rattle.document_walk.specs.Elements.{element_count};
+ghost use Rattle.surroundings.specs.StyledEvaluators.{root_surroundings, styled_evaluator};
 ghost use Rattle.snapshot_board.specs.Records.{put_all};
 ghost use Rattle.dirty_walk.specs.Changes.{AreBelow, AreChanges};
+ghost use Rattle.dirty_walk.specs.Evaluations.{all_kept_of, said_of, told_of};
 ghost use Rattle.dirty_walk.specs.Holding.{IsIndexOf};
 ghost use Rattle.dirty_walk.specs.Known.{IsKeptIn, all_flat_texts_of, known_by};
 
 use crate::by_key::by_key;
 use crate::flat_texts::{FlatTexts, all_flat_texts};
+use crate::kept::Kept;
 use crate::node_texts::{changed_entries, put_entries};
 use crate::targets::DocumentTargets;
 use box_eval::change::Change;
 use box_eval::changed_starts::ChangedStarts;
-use box_eval::element_record::ElementRecord;
-use box_eval::laws::no_start_matters_where_none_is_asked;
-use box_eval::starts::NoStarts;
+use box_eval::starts::{NoStarts, Starts};
 use content_eval::laws::no_reference_is_circular;
+use document_walk::catch_up::tell_all;
 use document_walk::evaluate::evaluate;
-use generated_texts::entry::NodeEntry;
+use document_walk::sources::Sources;
 use node_arena::arena::Arena;
 use plain_types::list::List;
 use plain_types::memory::Memory;
@@ -35,11 +37,34 @@ use std::alloc::Global;
 use std::collections::HashMap;
 use std::sync::ledger::Ledger;
 use steps::Steps;
+use surroundings::told::Told;
 use target_index::index::Index;
 
-/// What the evaluation says of a document's elements, whose boxes do this to counters, which tells the starts of its
-/// reversed counters.
-fn records_with<L: Ledger>(
+/// What the evaluation tells of a document's elements, with these starts of reversed counters.
+fn told_with<L: Ledger, T: Starts>(
+    alloc: Global,
+    arena: &Arena,
+    agent: &Sheet,
+    author: &Sheet,
+    table: &Table,
+    starts: &T,
+    steps: &mut Steps<L>,
+) -> Result<List<(usize, Told)>, Memory>
+    ensures told { IfOk result (λ told. told ≡ told_all (styled_evaluator table.now) root_surroundings (styled (element_style arena.now.tree agent.now author.now) (T.starts starts.now) arena.now.tree)) }
+    ensures steps { steps.new ≤ steps.old + 3 * element_count (without_keys arena.now.tree) }
+{
+    let sources = Sources {
+        arena,
+        agent,
+        author,
+        table,
+        starts,
+    };
+    tell_all(alloc, &sources, steps)
+}
+
+/// What it tells of them where their boxes do this to counters, which tells the starts.
+fn told_by<L: Ledger>(
     alloc: Global,
     arena: &Arena,
     agent: &Sheet,
@@ -47,34 +72,33 @@ fn records_with<L: Ledger>(
     table: &Table,
     changes: &[Change],
     steps: &mut Steps<L>,
-) -> Result<List<(usize, ElementRecord)>, Memory>
+) -> Result<List<(usize, Told)>, Memory>
     requires changes { changes.now ≡ all_changes table.now (styled (element_style arena.now.tree agent.now author.now) no_starts arena.now.tree) }
-    ensures records { IfOk result (λ records. records ≡ document_records table.now (element_style arena.now.tree agent.now author.now) arena.now.tree) }
+    ensures told { IfOk result (λ told. told ≡ told_of table.now (element_style arena.now.tree agent.now author.now) arena.now.tree) }
     ensures steps { steps.new ≤ steps.old + 3 * element_count (without_keys arena.now.tree) }
 {
     let starts = ChangedStarts::of(alloc, changes)?;
-    let evaluated = evaluate(alloc, arena, agent, author, table, &starts, steps)?;
-    Ok(evaluated.records)
+    let told = told_with(alloc, arena, agent, author, table, &starts, steps)?;
+    Ok(told)
 }
 
-/// What the evaluation says of a document's elements. One walk, with every start at 0, tells the starts of the reversed
-/// counters; where a box asks for one, a second walk goes with them.
-pub(crate) fn document_records<L: Ledger>(
+/// What the evaluation tells of a document's elements. One walk, with every start at 0, tells the starts of the reversed
+/// counters. A second one goes with them, where a box asks for one.
+pub(crate) fn document_told<L: Ledger>(
     alloc: Global,
     arena: &Arena,
     agent: &Sheet,
     author: &Sheet,
     table: &Table,
     steps: &mut Steps<L>,
-) -> Result<List<(usize, ElementRecord)>, Memory>
-    ensures records { IfOk result (λ records. records ≡ document_records table.now (element_style arena.now.tree agent.now author.now) arena.now.tree) }
+) -> Result<List<(usize, Told)>, Memory>
+    ensures told { IfOk result (λ told. told ≡ told_of table.now (element_style arena.now.tree agent.now author.now) arena.now.tree) }
     ensures steps { steps.new ≤ steps.old + 6 * element_count (without_keys arena.now.tree) }
 {
-    no_start_matters_where_none_is_asked();
     let first = evaluate(alloc, arena, agent, author, table, &NoStarts, steps)?;
     if first.asks {
         let changes = first.changes;
-        return records_with(
+        return told_by(
             alloc,
             arena,
             agent,
@@ -84,21 +108,22 @@ pub(crate) fn document_records<L: Ledger>(
             steps,
         );
     }
-    Ok(first.records)
+    let told = told_with(alloc, arena, agent, author, table, &NoStarts, steps)?;
+    Ok(told)
 }
 
-/// The flat texts of a document's elements, of which this is said.
+/// The flat texts of a document's elements, of which this is told.
 fn document_flat_texts(
     alloc: Global,
     arena: &Arena,
     index: &Index,
     table: &Table,
-    records: &[(usize, ElementRecord)],
-    records_by_key: &HashMap<usize, &ElementRecord>,
+    records: &[(usize, Told)],
+    records_by_key: &HashMap<usize, &Told>,
 ) -> Result<List<(usize, FlatTexts)>, Memory>
     requires indexed { IsIndexOf index.now arena.now.tree }
     requires kept { IsKeptIn records_by_key.now records.now }
-    ensures texts { IfOk result (λ texts. texts ≡ all_flat_texts_of table.now (known_to_flat_texts table.now arena.now.tree records.now) records.now) }
+    ensures texts { IfOk result (λ texts. texts ≡ all_flat_texts_of table.now (known_to_flat_texts table.now arena.now.tree (said_of records.now)) records.now) }
 {
     // What flat texts rest on has none itself.
     no_reference_is_circular();
@@ -121,16 +146,16 @@ fn put_entries_with<L: Ledger>(
     arena: &Arena,
     index: &Index,
     table: &Table,
-    records: &[(usize, ElementRecord)],
-    records_by_key: &HashMap<usize, &ElementRecord>,
+    records: &[(usize, Told)],
+    records_by_key: &HashMap<usize, &Told>,
     flats: &[(usize, FlatTexts)],
-    board: &mut Board<NodeEntry>,
+    board: &mut Board<Kept>,
     steps: &mut Steps<L>,
 ) -> Result<(), Memory>
     requires indexed { IsIndexOf index.now arena.now.tree }
     requires kept { IsKeptIn records_by_key.now records.now }
     requires room { AreBelow board.old.room records.now }
-    ensures held { OnOk result (board.new.held ≡ put_all (node_entries table.now (known_by arena.now.tree records.now flats.now) records.now) board.old.held) }
+    ensures held { OnOk result (board.new.held ≡ put_all (all_kept_of table.now (known_by arena.now.tree records.now flats.now) records.now) board.old.held) }
     ensures room { board.new.room ≡ board.old.room }
     ensures steps { steps.new ≤ steps.old + length records.now }
 {
@@ -146,20 +171,20 @@ fn put_entries_with<L: Ledger>(
     put_entries(alloc, table, records, &targets, board, steps)
 }
 
-/// Puts what is kept of a document's elements, of which this is said, on a board that has room for it. It is a step
+/// Puts what is kept of a document's elements, of which this is told, on a board that has room for it. It is a step
 /// for each.
 pub(crate) fn put_document_entries<L: Ledger>(
     alloc: Global,
     arena: &Arena,
     index: &Index,
     table: &Table,
-    records: &[(usize, ElementRecord)],
-    board: &mut Board<NodeEntry>,
+    records: &[(usize, Told)],
+    board: &mut Board<Kept>,
     steps: &mut Steps<L>,
 ) -> Result<(), Memory>
     requires indexed { IsIndexOf index.now arena.now.tree }
     requires room { AreBelow board.old.room records.now }
-    ensures held { OnOk result (board.new.held ≡ put_all (node_entries table.now (known_targets table.now arena.now.tree records.now) records.now) board.old.held) }
+    ensures held { OnOk result (board.new.held ≡ put_all (all_kept_of table.now (known_targets table.now arena.now.tree (said_of records.now)) records.now) board.old.held) }
     ensures room { board.new.room ≡ board.old.room }
     ensures steps { steps.new ≤ steps.old + length records.now }
 {
@@ -184,15 +209,15 @@ fn changes_with<L: Ledger>(
     arena: &Arena,
     index: &Index,
     table: &Table,
-    records: &[(usize, ElementRecord)],
-    records_by_key: &HashMap<usize, &ElementRecord>,
+    records: &[(usize, Told)],
+    records_by_key: &HashMap<usize, &Told>,
     flats: &[(usize, FlatTexts)],
-    board: &Board<NodeEntry>,
+    board: &Board<Kept>,
     steps: &mut Steps<L>,
-) -> Result<Vec<(usize, NodeEntry)>, Memory>
+) -> Result<Vec<(usize, Kept)>, Memory>
     requires indexed { IsIndexOf index.now arena.now.tree }
     requires kept { IsKeptIn records_by_key.now records.now }
-    ensures changes { IfOk result (λ changes. AreChanges board.now.held (node_entries table.now (known_by arena.now.tree records.now flats.now) records.now) changes.items) }
+    ensures changes { IfOk result (λ changes. AreChanges board.now.held (all_kept_of table.now (known_by arena.now.tree records.now flats.now) records.now) changes.items) }
     ensures steps { steps.new ≤ steps.old + length records.now }
 {
     let flats_by_key = by_key(alloc, flats)?;
@@ -207,18 +232,18 @@ fn changes_with<L: Ledger>(
     changed_entries(alloc, table, records, &targets, board, steps)
 }
 
-/// What is kept of a document's elements, of which this is said, and is not on a board. It is a step for each element.
+/// What is kept of a document's elements, of which this is told, and is not on a board. It is a step for each element.
 pub(crate) fn document_changes<L: Ledger>(
     alloc: Global,
     arena: &Arena,
     index: &Index,
     table: &Table,
-    records: &[(usize, ElementRecord)],
-    board: &Board<NodeEntry>,
+    records: &[(usize, Told)],
+    board: &Board<Kept>,
     steps: &mut Steps<L>,
-) -> Result<Vec<(usize, NodeEntry)>, Memory>
+) -> Result<Vec<(usize, Kept)>, Memory>
     requires indexed { IsIndexOf index.now arena.now.tree }
-    ensures changes { IfOk result (λ changes. AreChanges board.now.held (node_entries table.now (known_targets table.now arena.now.tree records.now) records.now) changes.items) }
+    ensures changes { IfOk result (λ changes. AreChanges board.now.held (all_kept_of table.now (known_targets table.now arena.now.tree (said_of records.now)) records.now) changes.items) }
     ensures steps { steps.new ≤ steps.old + length records.now }
 {
     let by_key = by_key(alloc, records)?;

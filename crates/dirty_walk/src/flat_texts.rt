@@ -12,6 +12,7 @@ use plain_types::memory::Memory;
 use plain_types::table::Table;
 use plain_types::text::Text;
 use std::alloc::Global;
+use surroundings::told::Told;
 
 /// The flat texts of an element's before and after boxes, where it has them.
 #[derive(Drop)]
@@ -52,14 +53,14 @@ fn flat_texts_of<T: Targets>(
 pub(crate) fn all_flat_texts<T: Targets>(
     alloc: Global,
     table: &Table,
-    records: &[(usize, ElementRecord)],
+    records: &[(usize, Told)],
     targets: &T,
 ) -> Result<List<(usize, FlatTexts)>, Memory>
     ensures texts { IfOk result (λ texts. texts ≡ all_flat_texts_of table.now (T.known targets.now) records.now) }
 {
     let mut texts = List::new(alloc);
-    for (key, element) in records {
-        texts.push((*key, flat_texts_of(alloc, table, element, targets)?))?;
+    for (key, told) in records {
+        texts.push((*key, flat_texts_of(alloc, table, &told.said, targets)?))?;
     }
     Ok(texts)
 }

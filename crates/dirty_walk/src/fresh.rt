@@ -2,23 +2,23 @@
 
 ghost use Rattle.std.specs.Prelude.{◌≡◌, ◌≤◌, ◌+◌, ◌*◌, true, length, IfOk};
 ghost use Rattle.forest.specs.Keys.{without_keys};
-ghost use Rattle.generated_texts.specs.Documents.{agent_sheet, document_evaluation};
-ghost use Rattle.generated_texts.specs.Entries.{document_entries};
+ghost use Rattle.generated_texts.specs.Documents.{agent_sheet};
 ghost use Rattle.generated_texts.specs.StyleElements.{author_sheet};
 ghost use Rattle.document_walk.specs.Elements.{element_count};
-ghost use Rattle.dirty_walk.specs.Books.{HasRoomFor, Keeps};
-ghost use Rattle.dirty_walk.specs.Changes.{AreBelow, AreChanges};
+ghost use Rattle.dirty_walk.specs.Books.{HasRoomFor, KeepsAll};
+ghost use Rattle.dirty_walk.specs.Changes.{AreBelow, Renews};
 ghost use Rattle.dirty_walk.specs.DocumentStyles.{document_styles};
+ghost use Rattle.dirty_walk.specs.Evaluations.{document_kept, document_told};
 ghost use Rattle.dirty_walk.specs.Holding.{IsIndexOf};
+ghost use Rattle.dirty_walk.specs.Plain.{is_plain};
 
 use crate::board::room_for;
 use crate::document_styles::DocumentStyles;
-use crate::evaluation::{document_changes, document_records, put_document_entries};
+use crate::evaluation::{document_changes, document_told, put_document_entries};
+use crate::kept::Kept;
+use crate::plain::are_plain;
 use crate::styled_arena::StyledArena;
-use box_eval::element_record::ElementRecord;
 use css_reader::sheet::read_sheet;
-use generated_texts::entry::NodeEntry;
-use generated_texts::laws::elements_have_entries;
 use mini_cascade::agent_sheet::AGENT_SHEET;
 use node_arena::arena::Arena;
 use node_arena::laws::arena_holds_document;
@@ -29,6 +29,7 @@ use snapshot_board::board::Board;
 use std::alloc::Global;
 use std::sync::ledger::Ledger;
 use steps::Steps;
+use surroundings::told::Told;
 use target_index::index::Index;
 
 /// The user agent's style sheet.
@@ -38,18 +39,19 @@ pub(crate) fn agent_sheet(alloc: Global) -> Result<Sheet, Memory>
     read_sheet(alloc, AGENT_SHEET)
 }
 
-/// What the evaluation says of a document's elements.
-fn records_of<L: Ledger>(
+/// What the evaluation tells of a document's elements.
+fn told_of<L: Ledger>(
     alloc: Global,
     document: &StyledArena,
     steps: &mut Steps<L>,
-) -> Result<List<(usize, ElementRecord)>, Memory>
-    ensures records { IfOk result (λ records. records ≡ document_evaluation (author_sheet document.now.styles.now.sheet document.now.arena.now.tree) document.now.arena.now.tree) }
-    ensures count { IfOk result (λ records. length records ≡ element_count (without_keys document.now.arena.now.tree)) }
+) -> Result<List<(usize, Told)>, Memory>
+    ensures told { IfOk result (λ told. told ≡ document_told (author_sheet document.now.styles.now.sheet document.now.arena.now.tree) document.now.arena.now.tree) }
+    ensures count { IfOk result (λ told. length told ≡ element_count (without_keys document.now.arena.now.tree)) }
     ensures steps { steps.new ≤ steps.old + 6 * element_count (without_keys document.now.arena.now.tree) }
 {
+    arena_holds_document(document.arena);
     let styles = document.styles;
-    document_records(
+    document_told(
         alloc,
         document.arena,
         document.agent,
@@ -59,7 +61,7 @@ fn records_of<L: Ledger>(
     )
 }
 
-/// A board with what is kept of a document's elements. One walk evaluates it, and where a box creates a reversed
+/// A board with what is kept of a document's elements, and whether none of them rests on more than what it is handed. One walk evaluates it, and where a box creates a reversed
 /// counter without a number a second one, with the starts that the first one tells. Then it is a step for each element.
 pub(crate) fn fresh_board<L: Ledger>(
     alloc: Global,
@@ -68,22 +70,22 @@ pub(crate) fn fresh_board<L: Ledger>(
     styles: &DocumentStyles,
     index: &Index,
     steps: &mut Steps<L>,
-) -> Result<Board<NodeEntry>, Memory>
+) -> Result<(Board<Kept>, bool), Memory>
     requires agent { agent.now ≡ agent_sheet }
     requires styles { styles.now ≡ document_styles styles.now.sheet arena.now.tree }
     requires indexed { IsIndexOf index.now arena.now.tree }
-    ensures keeps { IfOk result (λ board. Keeps (record { tree = arena.now.tree; sheet = styles.now.sheet; settled = true; entries = board.held })) }
-    ensures room { IfOk result (λ board. HasRoomFor board.room arena.now.tree) }
+    ensures keeps { IfOk result (λ made. KeepsAll (record { tree = arena.now.tree; sheet = styles.now.sheet; settled = true; kept = made.0.held })) }
+    ensures room { IfOk result (λ made. HasRoomFor made.0.room arena.now.tree) }
+    ensures plain { IfOk result (λ made. made.1 ≡ is_plain (author_sheet styles.now.sheet arena.now.tree) arena.now.tree) }
     ensures steps { steps.new ≤ steps.old + 7 * element_count (without_keys arena.now.tree) }
 {
     arena_holds_document(arena);
-    elements_have_entries();
     let document = StyledArena {
         arena,
         agent,
         styles,
     };
-    let told = records_of(alloc, &document, steps)?;
+    let told = told_of(alloc, &document, steps)?;
     let records = told.as_slice();
     let room = room_for(records)?;
     let mut board = Board::new(alloc);
@@ -97,26 +99,28 @@ pub(crate) fn fresh_board<L: Ledger>(
         &mut board,
         steps,
     )?;
-    Ok(board)
+    Ok((board, are_plain(records)))
 }
 
-/// What is kept of a document's elements and is not on a board, which is given room for it. The document is evaluated
+/// What is kept of a document's elements and is not on a board, which is given room for it, and whether none of the
+/// elements rests on more than what it is handed. The document is evaluated
 /// as for `fresh_board`, and then it is a step for each element.
 pub(crate) fn fresh_changes<L: Ledger>(
     alloc: Global,
     document: &StyledArena,
     index: &Index,
-    board: &mut Board<NodeEntry>,
+    board: &mut Board<Kept>,
     steps: &mut Steps<L>,
-) -> Result<Vec<(usize, NodeEntry)>, Memory>
+) -> Result<(Vec<(usize, Kept)>, bool), Memory>
     requires indexed { IsIndexOf index.now document.now.arena.now.tree }
-    ensures changes { IfOk result (λ changes. AreChanges board.old.held (document_entries (author_sheet document.now.styles.now.sheet document.now.arena.now.tree) document.now.arena.now.tree) changes.items) }
-    ensures room { IfOk result (λ changes. AreBelow board.new.room changes.items) }
+    ensures changes { IfOk result (λ made. Renews board.old.held (document_kept (author_sheet document.now.styles.now.sheet document.now.arena.now.tree) document.now.arena.now.tree) made.0.items) }
+    ensures plain { IfOk result (λ made. made.1 ≡ is_plain (author_sheet document.now.styles.now.sheet document.now.arena.now.tree) document.now.arena.now.tree) }
+    ensures room { IfOk result (λ made. AreBelow board.new.room made.0.items) }
     ensures held { board.new.held ≡ board.old.held }
     ensures grown { board.old.room ≤ board.new.room }
     ensures steps { steps.new ≤ steps.old + 7 * element_count (without_keys document.now.arena.now.tree) }
 {
-    let told = records_of(alloc, document, steps)?;
+    let told = told_of(alloc, document, steps)?;
     let records = told.as_slice();
     let changes = document_changes(
         alloc,
@@ -129,5 +133,5 @@ pub(crate) fn fresh_changes<L: Ledger>(
     )?;
     let room = room_for(changes.as_slice())?;
     board.reserve(room)?;
-    Ok(changes)
+    Ok((changes, are_plain(records)))
 }

@@ -1,8 +1,9 @@
 //! A document and its sheet, with what their evaluation keeps of each element.
 //!
 //! A [`book::Book`] is made from a tree and the text of a style sheet, and tells the [`NodeEntry`] of each element: its
-//! counters, its depths, and the texts of its boxes. What that is is said by `generated_texts`. The entries lie on a
-//! board of `snapshot_board`, under the keys of their elements: each element has one, and a text has none.
+//! counters, its depths, and the texts of its boxes. What that is is said by `generated_texts`. With its entry what an
+//! element was handed is kept, and what was handed on behind its children ([`kept::Kept`]). It lies on a board of
+//! `snapshot_board`, under the key of the element: each element has it, and a text has not.
 //!
 //! The author's sheet is that of the text, and behind it those of the document's style elements. A book keeps it read:
 //! an edit that leaves these texts as they are reads none, one that changes some reads all of them anew, and the user
@@ -10,17 +11,23 @@
 //! those of the elements that come and go.
 //!
 //! An edit is planned and then committed. `plan` evaluates the edited document, and compares what is to be kept of each
-//! element with what the board keeps; the [`plan::Plan`] has the entries that are new, and the keys of the elements
-//! that are gone. It does all that can want memory, and leaves the board as it is. `commit` takes and puts, and cannot
-//! fail; between the two the book isn't settled, and can't be asked. An entry that is as before stays, with its texts
-//! and counters.
+//! element with what the board keeps; the [`plan::Plan`] has what is new, and the keys of the elements that are gone. It
+//! does all that can want memory, and leaves the board as it is. `commit` takes and puts, and cannot fail; between the
+//! two the book isn't settled, and can't be asked. What is as before stays, with its texts and counters.
 //!
-//! Steps are counted: at most 6 for each element that is evaluated, and one for each entry that is read, put or taken.
+//! Where a document is plain, which is that no box asks for the start of a reversed counter and none refers to another
+//! element, what is kept of an element rests on what it is handed alone. Then `plan` walks from the place of the edit
+//! (`document_walk::catch_up`), and evaluates only what the edit touches, if it changes no styles but those of the trees
+//! that it puts in, takes out, moves or addresses (`style_reach`). Else, or where the edited document turns out not to be
+//! plain, it evaluates the whole document: one walk for the starts, and one with them.
+//!
+//! Steps are counted. A whole evaluation takes at most 6 for each element, a walk from a place at most 4, and it is one
+//! for each record that is read, put or taken.
 //!
 //! The layer above knows this crate by `StyledDocument`, `fresh_entry` and `Keeps` of `specs/Books.antt`: what a book
 //! stands for, what a fresh evaluation keeps of an element, and that the book keeps it; and by `settled_after`,
 //! `IsPlannedBy` and `plan_size` of `specs/Plans.antt`: what a planned edit makes of a book, which plans are a book's,
-//! and how many entries come and go.
+//! and how much comes and goes. `specs/Places.antt` says where a walk from a place stands.
 //!
 //! ```text
 //! let mut book = Book::begin(alloc, &tree, "h1 { counter-increment: section }", steps)?;
@@ -42,7 +49,10 @@ mod exchange;
 mod flat_texts;
 mod fresh;
 mod index;
+pub mod kept;
 mod node_texts;
+mod places;
+mod plain;
 pub mod plan;
 mod planning;
 mod style_elements;

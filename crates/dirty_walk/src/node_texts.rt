@@ -1,11 +1,13 @@
-//! What is kept of elements, from what their evaluation says.
+//! What is kept of elements, from what their evaluation tells.
 
 ghost use Rattle.std.specs.Prelude.{◌≡◌, ◌↔◌, ◌+◌, ◌≤◌, ◌++◌, ◌∷◌, [], length, IfNone, IfOk, IfSome, IsTrue, OnOk, Some, option_map};
 ghost use Rattle.std.specs.FinMap.{get};
-ghost use Rattle.generated_texts.specs.Entries.{box_text, node_entries, node_entry};
+ghost use Rattle.generated_texts.specs.Entries.{box_text, node_entry};
 ghost use Rattle.snapshot_board.specs.Records.{put_all};
 ghost use Rattle.dirty_walk.specs.Changes.{AreBelow, AreChanges};
+ghost use Rattle.dirty_walk.specs.Evaluations.{all_kept_of, kept_of};
 
+use crate::kept::Kept;
 use box_eval::element_record::ElementRecord;
 use box_eval::made::Made;
 use content_eval::targets::Targets;
@@ -17,6 +19,7 @@ use snapshot_board::board::Board;
 use std::alloc::Global;
 use std::sync::ledger::Ledger;
 use steps::Steps;
+use surroundings::told::Told;
 
 /// The texts of a box, where there is one.
 fn box_text<T: Targets>(
@@ -56,44 +59,54 @@ fn node_entry<T: Targets>(
     })
 }
 
-/// Whether a board holds this entry under this key, in one step.
-fn is_held<L: Ledger>(
-    board: &Board<NodeEntry>,
-    key: usize,
-    entry: &NodeEntry,
-    steps: &mut Steps<L>,
-) -> bool
-    ensures test { IsTrue result ↔ get board.now.held key ≡ Some entry.now }
+/// What is kept of an element of which this is told.
+fn kept_of<T: Targets>(
+    alloc: Global,
+    table: &Table,
+    told: &Told,
+    targets: &T,
+) -> Result<Kept, Memory>
+    ensures kept { IfOk result (λ kept. kept ≡ kept_of table.now (T.known targets.now) told.now) }
+{
+    Ok(Kept {
+        entry: node_entry(alloc, table, &told.said, targets)?,
+        walked: told.walked.share(alloc)?,
+    })
+}
+
+/// Whether a board holds just this under this key, in one step.
+fn is_held<L: Ledger>(board: &Board<Kept>, key: usize, kept: &Kept, steps: &mut Steps<L>) -> bool
+    ensures test { IsTrue result ↔ get board.now.held key ≡ Some kept.now }
     ensures step { steps.new ≡ steps.old + 1 }
 {
     match board.get(key, steps) {
-        Some(held) => held.is_same(entry),
+        Some(held) => held.is_same(kept),
         None => false,
     }
 }
 
-/// The entry, unless a board holds it under this key; then it is let go. One step.
+/// What is kept, unless a board holds just this under this key; then it is let go. One step.
 fn unless_held<L: Ledger>(
-    board: &Board<NodeEntry>,
+    board: &Board<Kept>,
     key: usize,
-    entry: NodeEntry,
+    kept: Kept,
     steps: &mut Steps<L>,
-) -> Option<NodeEntry>
-    ensures some { IfSome result (λ new. (new ≡ entry) × (get board.now.held key ≡ Some entry → ⊥)) }
-    ensures none { IfNone result (get board.now.held key ≡ Some entry) }
+) -> Option<Kept>
+    ensures some { IfSome result (λ new. (new ≡ kept) × (get board.now.held key ≡ Some kept → ⊥)) }
+    ensures none { IfNone result (get board.now.held key ≡ Some kept) }
     ensures step { steps.new ≡ steps.old + 1 }
 {
-    if is_held(board, key, &entry, steps) {
+    if is_held(board, key, &kept, steps) {
         None
     } else {
-        Some(entry)
+        Some(kept)
     }
 }
 
-fn push(changes: &mut Vec<(usize, NodeEntry)>, key: usize, entry: NodeEntry) -> Result<(), Memory>
-    ensures ok { OnOk result (changes.new.items ≡ changes.old.items ++ (key, entry) ∷ []) }
+fn push(changes: &mut Vec<(usize, Kept)>, key: usize, kept: Kept) -> Result<(), Memory>
+    ensures ok { OnOk result (changes.new.items ≡ changes.old.items ++ (key, kept) ∷ []) }
 {
-    changes.push((key, entry))?;
+    changes.push((key, kept))?;
     Ok(())
 }
 
@@ -101,41 +114,41 @@ fn push(changes: &mut Vec<(usize, NodeEntry)>, key: usize, entry: NodeEntry) -> 
 pub(crate) fn put_entries<T: Targets, L: Ledger>(
     alloc: Global,
     table: &Table,
-    records: &[(usize, ElementRecord)],
+    records: &[(usize, Told)],
     targets: &T,
-    board: &mut Board<NodeEntry>,
+    board: &mut Board<Kept>,
     steps: &mut Steps<L>,
 ) -> Result<(), Memory>
     requires room { AreBelow board.old.room records.now }
-    ensures held { OnOk result (board.new.held ≡ put_all (node_entries table.now (T.known targets.now) records.now) board.old.held) }
+    ensures held { OnOk result (board.new.held ≡ put_all (all_kept_of table.now (T.known targets.now) records.now) board.old.held) }
     ensures room { board.new.room ≡ board.old.room }
     ensures steps { steps.new ≤ steps.old + length records.now }
 {
-    for (key, element) in records {
-        let entry = node_entry(alloc, table, element, targets)?;
-        board.put(*key, entry, steps);
+    for (key, told) in records {
+        let kept = kept_of(alloc, table, told, targets)?;
+        board.put(*key, kept, steps);
     }
     Ok(())
 }
 
-/// What is kept of the elements and is not on a board: an entry that is there already is let go at once. It is a step
+/// What is kept of the elements and is not on a board: what is there already is let go at once. It is a step
 /// for each element.
 pub(crate) fn changed_entries<T: Targets, L: Ledger>(
     alloc: Global,
     table: &Table,
-    records: &[(usize, ElementRecord)],
+    records: &[(usize, Told)],
     targets: &T,
-    board: &Board<NodeEntry>,
+    board: &Board<Kept>,
     steps: &mut Steps<L>,
-) -> Result<Vec<(usize, NodeEntry)>, Memory>
-    ensures changes { IfOk result (λ changes. AreChanges board.now.held (node_entries table.now (T.known targets.now) records.now) changes.items) }
+) -> Result<Vec<(usize, Kept)>, Memory>
+    ensures changes { IfOk result (λ changes. AreChanges board.now.held (all_kept_of table.now (T.known targets.now) records.now) changes.items) }
     ensures steps { steps.new ≤ steps.old + length records.now }
 {
     let mut changes = Vec::new(alloc);
-    for (key, element) in records {
-        let entry = node_entry(alloc, table, element, targets)?;
-        if let Some(entry) = unless_held(board, *key, entry, steps) {
-            push(&mut changes, *key, entry)?;
+    for (key, told) in records {
+        let kept = kept_of(alloc, table, told, targets)?;
+        if let Some(kept) = unless_held(board, *key, kept, steps) {
+            push(&mut changes, *key, kept)?;
         }
     }
     Ok(changes)

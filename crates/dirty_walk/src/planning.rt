@@ -1,24 +1,33 @@
 //! What an edit makes of a book, once its document is the edited one.
 
-ghost use Rattle.std.specs.Prelude.{◌≡◌, ◌≤◌, ◌+◌, ◌*◌, ℕ, List, unwrap_or, IfOk, OnErr, OnOk};
-ghost use Rattle.forest.specs.Keys.{without_keys};
+ghost use Rattle.std.specs.Prelude.{◌≡◌, ◌≤◌, ◌+◌, ◌*◌, ℕ, List, None, is_some, unwrap_or, IfOk, IfSome, OnErr, OnOk};
+ghost use Rattle.forest.specs.Forest.{Forest};
+ghost use Rattle.forest.specs.Keys.{Keyed, without_keys};
+ghost use Rattle.plain_types.specs.declared.node.Node.{Node};
 ghost use Rattle.node_arena.specs.Edits.{edited_sheet};
 ghost use Rattle.generated_texts.specs.Documents.{agent_sheet};
-ghost use Rattle.generated_texts.specs.Entries.{document_entries};
 ghost use Rattle.generated_texts.specs.StyleElements.{author_sheet};
 ghost use Rattle.document_walk.specs.Elements.{element_count};
+ghost use Rattle.edit_merge.specs.EditMerges.{edit_stops, inserted_key};
 ghost use Rattle.target_index.specs.Holders.{is_holder};
-ghost use Rattle.dirty_walk.specs.Changes.{AreBelow, AreChanges};
+ghost use Rattle.dirty_walk.specs.Changes.{AreBelow, Renews};
 ghost use Rattle.dirty_walk.specs.DocumentStyles.{document_styles, read_styles};
+ghost use Rattle.dirty_walk.specs.Evaluations.{document_kept};
 ghost use Rattle.dirty_walk.specs.Exchanges.{IsIndexBefore};
 ghost use Rattle.dirty_walk.specs.Holding.{IsIndexOf};
+ghost use Rattle.dirty_walk.specs.Places.{IsSomePlace};
+ghost use Rattle.dirty_walk.specs.PlaceStyles.{StandsAt, StandsBefore};
+ghost use Rattle.dirty_walk.specs.Plain.{is_plain};
 
 use crate::document_styles::DocumentStyles;
 use crate::exchange::{ElementId, exchange_ids};
 use crate::fresh::fresh_changes;
+use crate::kept::Kept;
+use crate::places::changes_from_place;
 use crate::style_elements::style_texts;
 use crate::styled_arena::StyledArena;
-use generated_texts::entry::NodeEntry;
+use edit_merge::stops::name_inserted;
+use merged_walk::stop::Stop;
 use node_arena::arena::Arena;
 use plain_types::duplicate::Duplicate;
 use plain_types::edit::Edit;
@@ -57,57 +66,72 @@ fn renewed_styles(
     styles.renewed(alloc, sheet, texts)
 }
 
-/// Which entries come to a board by an edit, whose elements that go are these, where the document is the edited one
-/// already. The index becomes that of the document; where memory is wanting it stays as it was.
-fn planned_changes<L: Ledger>(
-    alloc: Global,
-    document: &StyledArena,
-    index: &mut Index,
-    board: &mut Board<NodeEntry>,
-    edit: &Edit,
-    gone: &[ElementId],
-    steps: &mut Steps<L>,
-) -> Result<Vec<(usize, NodeEntry)>, Memory>
-    requires before { IsIndexBefore edit.now gone.now index.old document.now.arena.now.tree }
-    ensures changes { IfOk result (λ changes. AreChanges board.old.held (document_entries (author_sheet document.now.styles.now.sheet document.now.arena.now.tree) document.now.arena.now.tree) changes.items) }
-    ensures indexed { OnOk result (IsIndexOf index.new document.now.arena.now.tree) }
-    ensures err { OnErr result ((id : List ℕ) (key : ℕ) → is_holder index.new id key ≡ is_holder index.old id key) }
-    ensures room { IfOk result (λ changes. AreBelow board.new.room changes.items) }
-    ensures held { board.new.held ≡ board.old.held }
-    ensures grown { board.old.room ≤ board.new.room }
-    ensures steps { steps.new ≤ steps.old + 7 * element_count (without_keys document.now.arena.now.tree) }
-{
-    let back = exchange_ids(alloc, index, document.arena, edit, gone)?;
-    match fresh_changes(alloc, document, index, board, steps) {
-        Ok(changes) => Ok(changes),
-        Err(memory) => {
-            index.commit(back);
-            Err(memory)
-        }
-    }
+/// What an edit makes of a book whose document is the edited one already.
+#[derive(Drop)]
+pub(crate) struct Renewal {
+    /// The styles, where they are others.
+    pub(crate) styles: Option<DocumentStyles>,
+    /// What comes to the board.
+    pub(crate) changes: Vec<(usize, Kept)>,
+    /// Whether no element rests on more than what it is handed.
+    pub(crate) is_plain: bool,
 }
 
-/// What an edit makes of the styles of a document, where it makes others of them, and which entries come to the board.
-/// The document is the edited one already.
-pub(crate) fn evaluated<L: Ledger>(
+/// What the edit makes of it, where these are the stops of its walk; none where an element rests on more than what it
+/// is handed. The styles stay.
+fn from_place<L: Ledger>(
     alloc: Global,
     arena: &Arena,
     agent: &Sheet,
     styles: &DocumentStyles,
-    index: &mut Index,
-    board: &mut Board<NodeEntry>,
-    edit: &Edit,
-    gone: &[ElementId],
+    board: &mut Board<Kept>,
+    stops: Vec<Stop>,
     steps: &mut Steps<L>,
-) -> Result<(Option<DocumentStyles>, Vec<(usize, NodeEntry)>), Memory>
+) -> Result<Option<Renewal>, Memory>
+    requires agent { agent.now ≡ agent_sheet }
+    requires styles { styles.now ≡ document_styles styles.now.sheet arena.now.tree }
+    requires place { IsSomePlace styles.now.sheet board.old.held stops.items arena.now.tree }
+    ensures styles { IfOk result (λ found. IfSome found (λ made. made.styles ≡ None)) }
+    ensures changes { IfOk result (λ found. IfSome found (λ made. Renews board.old.held (document_kept (author_sheet styles.now.sheet arena.now.tree) arena.now.tree) made.changes.items)) }
+    ensures plain { IfOk result (λ found. IfSome found (λ made. made.is_plain ≡ is_plain (author_sheet styles.now.sheet arena.now.tree) arena.now.tree)) }
+    ensures room { IfOk result (λ found. IfSome found (λ made. AreBelow board.new.room made.changes.items)) }
+    ensures held { board.new.held ≡ board.old.held }
+    ensures grown { board.old.room ≤ board.new.room }
+    ensures steps { steps.new ≤ steps.old + 5 * element_count (without_keys arena.now.tree) }
+{
+    let document = StyledArena {
+        arena,
+        agent,
+        styles,
+    };
+    match changes_from_place(alloc, &document, board, stops, steps)? {
+        Some(changes) => Ok(Some(Renewal {
+            styles: None,
+            changes,
+            is_plain: true,
+        })),
+        None => Ok(None),
+    }
+}
+
+/// What the edit makes of it, where the whole document is evaluated.
+fn from_whole<L: Ledger>(
+    alloc: Global,
+    arena: &Arena,
+    agent: &Sheet,
+    styles: &DocumentStyles,
+    index: &Index,
+    board: &mut Board<Kept>,
+    edit: &Edit,
+    steps: &mut Steps<L>,
+) -> Result<Renewal, Memory>
     requires agent { agent.now ≡ agent_sheet }
     requires read { styles.now ≡ read_styles styles.now.sheet styles.now.texts }
-    requires before { IsIndexBefore edit.now gone.now index.old arena.now.tree }
-    ensures styles { IfOk result (λ made. unwrap_or made.0 styles.now ≡ document_styles (edited_sheet edit.now styles.now.sheet) arena.now.tree) }
-    ensures changes { IfOk result (λ made. AreChanges board.old.held (document_entries (author_sheet (edited_sheet edit.now styles.now.sheet) arena.now.tree) arena.now.tree) made.1.items) }
-    ensures indexed { OnOk result (IsIndexOf index.new arena.now.tree) }
-    ensures err { OnErr result ((id : List ℕ) (key : ℕ) → is_holder index.new id key ≡ is_holder index.old id key) }
-    ensures room { IfOk result (λ made. AreBelow board.new.room made.1.items) }
+    requires indexed { IsIndexOf index.now arena.now.tree }
+    ensures styles { IfOk result (λ made. unwrap_or made.styles styles.now ≡ document_styles (edited_sheet edit.now styles.now.sheet) arena.now.tree) }
+    ensures changes { IfOk result (λ made. Renews board.old.held (document_kept (author_sheet (edited_sheet edit.now styles.now.sheet) arena.now.tree) arena.now.tree) made.changes.items) }
+    ensures plain { IfOk result (λ made. made.is_plain ≡ is_plain (author_sheet (edited_sheet edit.now styles.now.sheet) arena.now.tree) arena.now.tree) }
+    ensures room { IfOk result (λ made. AreBelow board.new.room made.changes.items) }
     ensures held { board.new.held ≡ board.old.held }
     ensures grown { board.old.room ≤ board.new.room }
     ensures steps { steps.new ≤ steps.old + 7 * element_count (without_keys arena.now.tree) }
@@ -118,6 +142,97 @@ pub(crate) fn evaluated<L: Ledger>(
         agent,
         styles: new.as_ref().unwrap_or(styles),
     };
-    let changes = planned_changes(alloc, &document, index, board, edit, gone, steps)?;
-    Ok((new, changes))
+    let (changes, is_plain) = fresh_changes(alloc, &document, index, board, steps)?;
+    Ok(Renewal {
+        styles: new,
+        changes,
+        is_plain,
+    })
+}
+
+/// What the edit makes of it: by a walk from its stops, where there are such, and else by the whole document.
+fn renewed<L: Ledger>(
+    alloc: Global,
+    arena: &Arena,
+    agent: &Sheet,
+    styles: &DocumentStyles,
+    index: &Index,
+    board: &mut Board<Kept>,
+    edit: &Edit,
+    stops: Option<Vec<Stop>>,
+    steps: &mut Steps<L>,
+) -> Result<Renewal, Memory>
+    requires agent { agent.now ≡ agent_sheet }
+    requires read { styles.now ≡ read_styles styles.now.sheet styles.now.texts }
+    requires indexed { IsIndexOf index.now arena.now.tree }
+    requires place { IfSome stops (λ stops. StandsAt edit.now styles.now board.old.held stops.items arena.now.tree) }
+    ensures styles { IfOk result (λ made. unwrap_or made.styles styles.now ≡ document_styles (edited_sheet edit.now styles.now.sheet) arena.now.tree) }
+    ensures changes { IfOk result (λ made. Renews board.old.held (document_kept (author_sheet (edited_sheet edit.now styles.now.sheet) arena.now.tree) arena.now.tree) made.changes.items) }
+    ensures plain { IfOk result (λ made. made.is_plain ≡ is_plain (author_sheet (edited_sheet edit.now styles.now.sheet) arena.now.tree) arena.now.tree) }
+    ensures room { IfOk result (λ made. AreBelow board.new.room made.changes.items) }
+    ensures held { board.new.held ≡ board.old.held }
+    ensures grown { board.old.room ≤ board.new.room }
+    ensures steps { steps.new ≤ steps.old + 12 * element_count (without_keys arena.now.tree) }
+{
+    if let Some(stops) = stops {
+        if let Some(made) = from_place(alloc, arena, agent, styles, board, stops, steps)? {
+            return Ok(made);
+        }
+    }
+    from_whole(alloc, arena, agent, styles, index, board, edit, steps)
+}
+
+/// The stops, with the key of what the edit put in.
+fn named_stops(arena: &Arena, edit: &Edit, stops: Option<Vec<Stop>>) -> Option<Vec<Stop>>
+    ensures stops { IfSome result (λ named. (old : Forest (Keyed Node)) → IfSome stops (λ stops. stops.items ≡ edit_stops edit.now 0 old) → named.items ≡ edit_stops edit.now (inserted_key edit.now arena.now.tree) old) }
+    ensures some { is_some result ≡ is_some stops }
+{
+    match stops {
+        Some(mut stops) => {
+            name_inserted(arena, edit, &mut stops);
+            Some(stops)
+        }
+        None => None,
+    }
+}
+
+/// What an edit makes of a book whose document is the edited one already, where its elements that go are these. The index
+/// becomes that of the document; where memory is wanting it stays as it was.
+pub(crate) fn evaluated<L: Ledger>(
+    alloc: Global,
+    arena: &Arena,
+    agent: &Sheet,
+    styles: &DocumentStyles,
+    index: &mut Index,
+    board: &mut Board<Kept>,
+    edit: &Edit,
+    gone: &[ElementId],
+    stops: Option<Vec<Stop>>,
+    steps: &mut Steps<L>,
+) -> Result<Renewal, Memory>
+    requires agent { agent.now ≡ agent_sheet }
+    requires read { styles.now ≡ read_styles styles.now.sheet styles.now.texts }
+    requires before { IsIndexBefore edit.now gone.now index.old arena.now.tree }
+    requires place { IfSome stops (λ stops. StandsBefore edit.now styles.now board.old.held stops.items arena.now.tree) }
+    ensures styles { IfOk result (λ made. unwrap_or made.styles styles.now ≡ document_styles (edited_sheet edit.now styles.now.sheet) arena.now.tree) }
+    ensures changes { IfOk result (λ made. Renews board.old.held (document_kept (author_sheet (edited_sheet edit.now styles.now.sheet) arena.now.tree) arena.now.tree) made.changes.items) }
+    ensures plain { IfOk result (λ made. made.is_plain ≡ is_plain (author_sheet (edited_sheet edit.now styles.now.sheet) arena.now.tree) arena.now.tree) }
+    ensures indexed { OnOk result (IsIndexOf index.new arena.now.tree) }
+    ensures err { OnErr result ((id : List ℕ) (key : ℕ) → is_holder index.new id key ≡ is_holder index.old id key) }
+    ensures room { IfOk result (λ made. AreBelow board.new.room made.changes.items) }
+    ensures held { board.new.held ≡ board.old.held }
+    ensures grown { board.old.room ≤ board.new.room }
+    ensures steps { steps.new ≤ steps.old + 12 * element_count (without_keys arena.now.tree) }
+{
+    let stops = named_stops(arena, edit, stops);
+    let back = exchange_ids(alloc, index, arena, edit, gone)?;
+    match renewed(
+        alloc, arena, agent, styles, index, board, edit, stops, steps,
+    ) {
+        Ok(made) => Ok(made),
+        Err(memory) => {
+            index.commit(back);
+            Err(memory)
+        }
+    }
 }

@@ -13,7 +13,6 @@ ghost use Rattle.dirty_walk.specs.Known.{IsKeptIn, flat_in};
 use crate::characters::characters_under;
 use crate::flat_texts::FlatTexts;
 use crate::index::first_holder;
-use box_eval::element_record::ElementRecord;
 use content_eval::targets::{Targets, target_id};
 use counter_sets::counter_set::CounterSet;
 use node_arena::arena::Arena;
@@ -22,6 +21,7 @@ use plain_types::memory::Memory;
 use plain_types::text::Text;
 use std::alloc::Global;
 use std::collections::HashMap;
+use surroundings::told::Told;
 use target_index::index::Index;
 
 /// The elements of a document as target functions see them.
@@ -29,9 +29,9 @@ use target_index::index::Index;
 pub(crate) struct DocumentTargets<'a> {
     pub(crate) arena: &'a Arena,
     pub(crate) index: &'a Index,
-    /// What the evaluation says of the elements, and the same by key.
-    pub(crate) listed: &'a [(usize, ElementRecord)],
-    pub(crate) records: &'a HashMap<usize, &'a ElementRecord>,
+    /// What the evaluation tells of the elements, and the same by key.
+    pub(crate) listed: &'a [(usize, Told)],
+    pub(crate) records: &'a HashMap<usize, &'a Told>,
     /// The flat texts of the elements, as far as they are known, and the same by key.
     pub(crate) listed_flats: &'a [(usize, FlatTexts)],
     pub(crate) flats: &'a HashMap<usize, &'a FlatTexts>,
@@ -56,9 +56,9 @@ impl<'a> Targets for DocumentTargets<'a> {
     ghost known = { λ targets. known_by targets.arena.now.tree targets.listed.now targets.listed_flats.now };
 
     fn counters(&self, url: &str) -> Option<&CounterSet> {
-        let element: &ElementRecord = self.records.get(&self.target(url)?)?;
-        if element.has_box {
-            Some(&element.own)
+        let told: &Told = self.records.get(&self.target(url)?)?;
+        if told.said.has_box {
+            Some(&told.said.own)
         } else {
             None
         }

@@ -38,13 +38,13 @@ pub struct Engine {
 
 impl Model for Engine {
     ghost use Rattle.plain_types.specs.contracts.node.Node as node;
-    ghost use Rattle.generated_texts.specs.contracts.entry.NodeEntry as entry;
+    ghost use Rattle.dirty_walk.specs.contracts.kept.Kept as kept;
     ghost use Rattle.dirty_walk.specs.Books.{StyledDocument, coded_styled_document};
     ghost use Rattle.marker_engine.specs.Engines.{IsEvaluated};
 
     ghost Value = { StyledDocument };
 
-    ghost coded = { coded_styled_document node.the_row.coded entry.the_row.coded };
+    ghost coded = { coded_styled_document node.the_row.coded kept.the_row.coded };
 
     ghost view = { λ engine. engine.book };
 
@@ -85,8 +85,10 @@ impl Engine {
     /// Does an edit. After a fault the document, its keys, the sheet and what is kept are as before, and a refused edit
     /// counts no step.
     ///
-    /// The edited document is evaluated whole, which costs what `start` costs, beside what the calls of the arena
-    /// cost by which the edit is done. An entry that is another is put, and one whose element goes is taken.
+    /// Where the edit changes no styles but those of the trees that it puts in, takes out, moves or addresses, and no
+    /// element asks for a start or refers to another, only what the edit touches is evaluated anew. Else the edited
+    /// document is evaluated whole, which costs what `start` costs. Beside that come the calls of the arena by which the
+    /// edit is done. An entry that is another is put, and one whose element goes is taken.
     pub fn apply<L: Ledger>(
         &mut self,
         alloc: Global,
@@ -99,7 +101,7 @@ impl Engine {
         ensures refused { IfErr (edited (source_of self.old) edit.now) (λ fault. result ≡ Err (edit_fault fault)) }
         ensures memory { IfOk (edited (source_of self.old) edit.now) (λ _. IfErr result (λ fault. fault ≡ faults.Memory)) }
         ensures failed { OnErr result (self.new ≡ self.old) }
-        ensures steps { IfOk (edited (source_of self.old) edit.now) (λ source. steps.new ≤ steps.old + (8 * element_count source.tree + element_count (source_of self.old).tree)) }
+        ensures steps { IfOk (edited (source_of self.old) edit.now) (λ source. steps.new ≤ steps.old + (13 * element_count source.tree + element_count (source_of self.old).tree)) }
         ensures no_steps { IfErr (edited (source_of self.old) edit.now) (λ _. steps.new ≡ steps.old) }
     {
         if let Some(fault) = self.book.arena().allows(edit) {

@@ -1,10 +1,10 @@
 use Rattle.std.proofs.Common.{◌≡◌, ◌∙◌, ℕ, ap, subst, List}
 use Rattle.std.proofs.lemmas.Result.{IfOk-weaker}
 use Rattle.content_eval.specs.Targets.{Known}
-use Rattle.generated_texts.specs.Entries.{node_entries}
 use Rattle.generated_texts.specs.References.{known_targets}
 use Rattle.dirty_walk.specs.declared.flat_texts.FlatTexts.{FlatTexts}
 use Rattle.dirty_walk.specs.Changes.{AreChanges}
+use Rattle.dirty_walk.specs.Evaluations.{all_kept_of, said_of}
 use Rattle.dirty_walk.specs.Known.{known_by}
 use Rattle.dirty_walk.proofs.KnownLemmas.{same_known}
 use Rattle.dirty_walk.proofs.evaluation.document_changes.Goals as goal
@@ -14,8 +14,8 @@ returns-clause-changes g c =
     let table = c.args.table.now in
     let tree = c.args.arena.now.tree in
     let records = c.args.records.now in
-    let known : known_by tree records c.as_slice.result.now ≡ known_targets table tree records =
+    let known : known_by tree records c.as_slice.result.now ≡ known_targets table tree (said_of records) =
     ap (λ (flats : List (ℕ × FlatTexts)). known_by tree records flats) (c.as_slice.ensures.items ∙ c.in_ok-flats.ensures.texts) ∙ same_known table tree records in
     IfOk-weaker c.changes_with.result _ _
-    (λ changes are. subst (λ (known : Known). AreChanges c.args.board.now.held (node_entries table known records) changes.items) known are)
+    (λ changes are. subst (λ (known : Known). AreChanges c.args.board.now.held (all_kept_of table known records) changes.items) known are)
     c.changes_with.ensures.changes

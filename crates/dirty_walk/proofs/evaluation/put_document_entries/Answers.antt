@@ -1,10 +1,10 @@
 use Rattle.std.proofs.Common.{◌≡◌, ◌∙◌, ℕ, ap, List}
 use Rattle.std.proofs.lemmas.Result.{on_ok_weaker}
 use Rattle.content_eval.specs.Targets.{Known}
-use Rattle.generated_texts.specs.Entries.{node_entries}
 use Rattle.generated_texts.specs.References.{known_targets}
 use Rattle.snapshot_board.specs.Records.{put_all}
 use Rattle.dirty_walk.specs.declared.flat_texts.FlatTexts.{FlatTexts}
+use Rattle.dirty_walk.specs.Evaluations.{all_kept_of, said_of}
 use Rattle.dirty_walk.specs.Known.{known_by}
 use Rattle.dirty_walk.proofs.KnownLemmas.{same_known}
 use Rattle.dirty_walk.proofs.evaluation.put_document_entries.Goals as goal
@@ -14,6 +14,6 @@ returns-clause-held g c =
     let table = c.args.table.now in
     let tree = c.args.arena.now.tree in
     let records = c.args.records.now in
-    let known : known_by tree records c.as_slice.result.now ≡ known_targets table tree records =
+    let known : known_by tree records c.as_slice.result.now ≡ known_targets table tree (said_of records) =
     ap (λ (flats : List (ℕ × FlatTexts)). known_by tree records flats) (c.as_slice.ensures.items ∙ c.in_ok-flats.ensures.texts) ∙ same_known table tree records in
-    on_ok_weaker c.put_entries_with.result (λ told. told ∙ ap (λ (known : Known). put_all (node_entries table known records) c.args.board.now.held) known) c.put_entries_with.ensures.held
+    on_ok_weaker c.put_entries_with.result (λ told. told ∙ ap (λ (known : Known). put_all (all_kept_of table known records) c.args.board.now.held) known) c.put_entries_with.ensures.held

@@ -1,15 +1,17 @@
 use Rattle.std.proofs.Common.{◌≡◌, ◌<◌, ◌∙◌, ℕ, List, None, ap, sym, arith}
 use Rattle.std.specs.FinMap.{FinMap, get, get-empty}
 use Rattle.std.specs.Ordering.{nat_cmp}
-use Rattle.generated_texts.specs.declared.entry.NodeEntry.{NodeEntry}
-use Rattle.generated_texts.specs.Documents.{counter_styles, document_evaluation, document_style}
-use Rattle.generated_texts.specs.Entries.{document_entries, node_entry}
+use Rattle.generated_texts.specs.Documents.{counter_styles}
 use Rattle.generated_texts.specs.References.{known_targets}
 use Rattle.generated_texts.specs.StyleElements.{author_sheet}
 use Rattle.snapshot_board.specs.Records.{put_all}
-use Rattle.dirty_walk.proofs.BookLemmas.{entries_are}
+use Rattle.dirty_walk.specs.declared.kept.Kept.{Kept}
+use Rattle.dirty_walk.specs.Evaluations.{document_kept, document_told, kept_of, said_of}
+use Rattle.dirty_walk.specs.Plain.{are_plain}
+use Rattle.dirty_walk.proofs.BookLemmas.{kept_are}
 use Rattle.dirty_walk.proofs.ChangeLemmas.{has_key, key_of, put_whole, some-kept}
-use Rattle.dirty_walk.proofs.RecordLemmas.{has_key-mapped, records_once}
+use Rattle.dirty_walk.proofs.RecordLemmas.{has_key-mapped}
+use Rattle.dirty_walk.proofs.ToldLemmas.{kept_keys, kept_once}
 use Rattle.dirty_walk.proofs.fresh.fresh_board.Goals as goal
 
 pub returns-clause-keeps : goal.returns-clause-keeps
@@ -17,28 +19,29 @@ returns-clause-keeps g c = λ key.
     let styles = c.args.styles.now in
     let tree = c.args.arena.now.tree in
     let author = author_sheet styles.sheet tree in
-    let elements = document_evaluation author tree in
-    let entries = document_entries author tree in
-    let before : FinMap nat_cmp NodeEntry = c.reserve.new.self.held in
+    let all = document_kept author tree in
+    let before : FinMap nat_cmp Kept = c.reserve.new.self.held in
     let none : (key : ℕ) → get before key ≡ None = λ key. ap (λ held. get held key) (c.in_ok-reserve.ensures.held ∙ c.new-board.ensures.held) ∙ get-empty nat_cmp key in
-    let once = records_once (counter_styles author) (document_style author tree) tree (node_entry (counter_styles author) (known_targets (counter_styles author) tree elements)) c.arena_holds_document.ensures.document.distinct in
     ap (λ held. get held key)
     (c.in_ok-put_document_entries.ensures.held
-    ∙ ap (λ (puts : List (ℕ × NodeEntry)). put_all puts before) (entries_are tree styles c.as_slice-records.result.now styles.sheet c.requires.styles (c.as_slice-records.ensures.items ∙ c.in_ok-told.ensures.records)))
-    ∙ put_whole entries before once none key
+    ∙ ap (λ (puts : List (ℕ × Kept)). put_all puts before) (kept_are tree styles c.as_slice-records.result.now styles.sheet c.requires.styles (c.as_slice-records.ensures.items ∙ c.in_ok-told.ensures.told)))
+    ∙ put_whole all before (kept_once author tree c.arena_holds_document.ensures.document.distinct) none key
 
 pub returns-clause-room : goal.returns-clause-room
 returns-clause-room g c = λ key named.
     let styles = c.args.styles.now in
     let tree = c.args.arena.now.tree in
     let author = author_sheet styles.sheet tree in
-    let elements = document_evaluation author tree in
-    let entries = document_entries author tree in
+    let told = document_told author tree in
+    let table = counter_styles author in
     let there =
-    ap (has_key key) (c.as_slice-records.ensures.items ∙ c.in_ok-told.ensures.records)
-    ∙ sym (has_key-mapped (node_entry (counter_styles author) (known_targets (counter_styles author) tree elements)) key elements)
-    ∙ sym (some-kept key entries)
-    ∙ c.elements_have_entries.ensures.keys author tree key c.arena_holds_document.ensures.document.distinct
+    ap (has_key key) (c.as_slice-records.ensures.items ∙ c.in_ok-told.ensures.told)
+    ∙ sym (has_key-mapped (kept_of table (known_targets table tree (said_of told))) key told)
+    ∙ sym (some-kept key (document_kept author tree))
+    ∙ kept_keys author tree c.arena_holds_document.ensures.document.distinct key
     ∙ named in
     let low : key < c.in_ok-room.room = key_of (λ k. k < c.in_ok-room.room) c.as_slice-records.result.now c.in_ok-room.ensures.room key there in
     omega (arith, low, c.in_ok-reserve.ensures.room, c.in_ok-put_document_entries.ensures.room)
+
+pub returns-clause-plain : goal.returns-clause-plain
+returns-clause-plain g c = c.are_plain.ensures ∙ ap are_plain (c.as_slice-records.ensures.items ∙ c.in_ok-told.ensures.told)

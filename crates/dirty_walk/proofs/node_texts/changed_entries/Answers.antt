@@ -1,7 +1,7 @@
 use Rattle.std.proofs.Common.{◌≡◌, ◌+◌, ◌++◌, ◌∷◌, [], ◌∙◌, ℕ, List, Some, ap, sym, subst, arith, take}
-use Rattle.generated_texts.specs.declared.entry.NodeEntry.{NodeEntry}
-use Rattle.generated_texts.specs.Entries.{node_entries, node_entry}
+use Rattle.dirty_walk.specs.declared.kept.Kept.{Kept}
 use Rattle.dirty_walk.specs.Changes.{AreChanges}
+use Rattle.dirty_walk.specs.Evaluations.{all_kept_of, kept_of}
 use Rattle.dirty_walk.proofs.ChangeLemmas.{change_more, none_more}
 use Rattle.dirty_walk.proofs.node_texts.changed_entries.Goals as goal
 use Rattle.dirty_walk.proofs.node_texts.changed_entries.Goals.{in-Some+in_ok-push, in_default}
@@ -14,19 +14,19 @@ loop-key-preserved g c =
     let entry = c.loop-key-item.result in
     let held = c.args.board.now.held in
     let before = c.loop-key.changes.items in
-    let make = node_entry c.args.table.now known in
-    let all = node_entries c.args.table.now known (take (place + 1) records) in
-    let same = c.in_ok-entry.ensures.entry in
+    let make = kept_of c.args.table.now known in
+    let all = all_kept_of c.args.table.now known (take (place + 1) records) in
+    let same = c.in_ok-kept.ensures.kept in
     record {
       changes = elim c.match-unless_held.branch [
         | in-Some+in_ok-push w ↦
             let pushed : c.match-unless_held.changes.items ≡ before ++ (entry.0, make entry.1) ∷ [] =
-            ap (λ v. v.items) w.changes-is ∙ w.in_ok-push.ensures.ok ∙ ap (λ (kept : NodeEntry). before ++ (entry.0, kept) ∷ []) (w.in-Some.ensures.some.0 ∙ same) in
-            subst (λ (changes : List (ℕ × NodeEntry)). AreChanges held all changes) (sym pushed)
+            ap (λ v. v.items) w.changes-is ∙ w.in_ok-push.ensures.ok ∙ ap (λ (kept : Kept). before ++ (entry.0, kept) ∷ []) (w.in-Some.ensures.some.0 ∙ same) in
+            subst (λ (changes : List (ℕ × Kept)). AreChanges held all changes) (sym pushed)
             (change_more make records place entry c.loop-key-test.true c.loop-key-item.is held before c.loop-key.invariant.changes (λ there. w.in-Some.ensures.some.1 (there ∙ ap Some (sym same))))
         | in_default w ↦
             let kept : c.match-unless_held.changes.items ≡ before = ap (λ v. v.items) w.changes-is in
-            subst (λ (changes : List (ℕ × NodeEntry)). AreChanges held all changes) (sym kept)
+            subst (λ (changes : List (ℕ × Kept)). AreChanges held all changes) (sym kept)
             (none_more make records place entry c.loop-key-test.true c.loop-key-item.is held before c.loop-key.invariant.changes (w.in_default.ensures.none ∙ ap Some same))
       ];
       steps = omega arith;

@@ -1,10 +1,10 @@
 use Rattle.std.proofs.Common.{◌≡◌, ◌+◌, take}
-use Rattle.generated_texts.specs.Entries.{node_entries}
 use Rattle.dirty_walk.specs.Changes.{AreChanges}
+use Rattle.dirty_walk.specs.Evaluations.{all_kept_of}
 use Rattle.dirty_walk.proofs.node_texts.changed_entries.Given as goal
 
 abbrev pub invariant-loop-key : goal.invariant-loop-key
 invariant-loop-key g l = record {
-  changes : AreChanges l.board.held (node_entries l.table (g.T.Targets.known l.targets) (take l.key-index l.records)) l.changes.items;
+  changes : AreChanges l.board.held (all_kept_of l.table (g.T.Targets.known l.targets) (take l.key-index l.records)) l.changes.items;
   steps : l.steps ≡ l.fn.steps + l.key-index;
 }

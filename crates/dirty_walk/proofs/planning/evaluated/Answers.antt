@@ -1,36 +1,69 @@
-use Rattle.std.proofs.Common.{◌≡◌, ◌∙◌, List, Option, ℕ, ap, subst, option_copied, unwrap_or}
-use Rattle.std.specs.Borrow.{Bor}
+use Rattle.std.proofs.Common.{◌≡◌, ◌∙◌, ℕ, ap, sym, List, Option, Some, None, IfSome, Global}
+use Rattle.std.specs.Prelude.{is_some}
+use Rattle.std.specs.FinMap.{FinMap}
+use Rattle.std.specs.Ordering.{nat_cmp}
+use Rattle.std.specs.Prelude.{Vec}
 use Rattle.forest.specs.Forest.{Forest}
 use Rattle.forest.specs.Keys.{Keyed}
+use Rattle.plain_types.specs.declared.edit.Edit.{Edit}
 use Rattle.plain_types.specs.declared.node.Node.{Node}
-use Rattle.generated_texts.specs.Entries.{document_entries}
-use Rattle.generated_texts.specs.StyleElements.{author_sheet, style_texts}
-use Rattle.node_arena.specs.Edits.{edited_sheet}
+use Rattle.target_index.specs.declared.change.IndexChange.{IndexChange}
+use Rattle.target_index.specs.declared.index.Index.{Index}
+use Rattle.target_index.specs.Changes.{holds_after_all}
+use Rattle.target_index.specs.Holders.{is_holder}
+use Rattle.merged_walk.specs.declared.stop.Stop.{Stop}
+use Rattle.edit_merge.specs.EditMerges.{edit_stops, inserted_key}
 use Rattle.dirty_walk.specs.declared.document_styles.DocumentStyles.{DocumentStyles}
-use Rattle.dirty_walk.specs.Changes.{AreChanges}
-use Rattle.dirty_walk.specs.DocumentStyles.{document_styles}
-use Rattle.dirty_walk.proofs.PlanLemmas.{its_text, now-unwrap_or, under_its_text}
+use Rattle.dirty_walk.specs.declared.exchange.ElementId.{ElementId}
+use Rattle.dirty_walk.specs.declared.kept.Kept.{Kept}
+use Rattle.dirty_walk.specs.Exchanges.{IsIndexBefore, coming, elements_in, exchanges}
+use Rattle.dirty_walk.specs.Holding.{IsIndexOf}
+use Rattle.dirty_walk.specs.PlaceStyles.{StandsAt, StandsBefore}
+use Rattle.dirty_walk.proofs.ExchangeLaws.{index_after, index_back}
+use Rattle.dirty_walk.proofs.PlaceLemmas.{stands_at}
 use Rattle.dirty_walk.proofs.planning.evaluated.Goals as goal
 
--- the styles that are evaluated under: the new ones, or else those from before
-chosen : (new : Option DocumentStyles) (lent : Option (Bor DocumentStyles)) (before picked : Bor DocumentStyles) (text : List ℕ) (tree : Forest (Keyed Node))
-    → picked ≡ unwrap_or lent before → option_copied lent ≡ new → unwrap_or new before.now ≡ document_styles text tree
-    → picked.now ≡ document_styles text tree
-chosen new lent before picked text tree is lends are =
-    ap (λ (styles : Bor DocumentStyles). styles.now) is ∙ now-unwrap_or lent before ∙ ap (λ (new : Option DocumentStyles). unwrap_or new before.now) lends ∙ are
+module _ (edit : Edit) (gone : List ElementId) (before after : Index) (new : Forest (Keyed Node)) (was : IsIndexBefore edit gone before new)
+    (made : (id : List ℕ) (key : ℕ) → is_holder after id key ≡ holds_after_all (exchanges gone (elements_in (coming edit new))) id key (is_holder before id key)) where
+  -- the index is that of the edited document
+  its_index : IsIndexOf after new
+  its_index =
+      index_after edit was.old new was.done before after was.indexed
+      (λ id key. made id key ∙ ap (λ (g : List ElementId). holds_after_all (exchanges g (elements_in (coming edit new))) id key (is_holder before id key)) was.gone_are)
 
-pub invariant_of-document-clause-styles_are : goal.invariant_of-document-clause-styles_are
-invariant_of-document-clause-styles_are g c =
-    let text = edited_sheet c.args.edit.now c.args.styles.now.sheet in
-    let tree = c.args.arena.now.tree in
-    under_its_text c.unwrap_or.result.now text tree
-    (chosen c.in_ok-new.new c.as_ref.result c.args.styles c.unwrap_or.result text tree c.unwrap_or.ensures c.as_ref.ensures.value c.in_ok-new.ensures.styles)
+  -- and on the way back it is again that of the one before
+  its_way_back : (changes : List IndexChange) (last : Index) → changes ≡ exchanges (elements_in (coming edit new)) gone
+      → ((id : List ℕ) (key : ℕ) → is_holder last id key ≡ holds_after_all changes id key (is_holder after id key))
+      → (id : List ℕ) (key : ℕ) → is_holder last id key ≡ is_holder before id key
+  its_way_back changes last are undone id key =
+      index_back edit was.old new was.done after last its_index
+      (λ id key.
+      undone id key ∙ ap (λ (c : List IndexChange). holds_after_all c id key (is_holder after id key)) (are ∙ ap (exchanges (elements_in (coming edit new))) was.gone_are))
+      id key
+      ∙ sym (was.indexed id key)
 
-pub returns-clause-changes : goal.returns-clause-changes
-returns-clause-changes g c =
-    let text = edited_sheet c.args.edit.now c.args.styles.now.sheet in
-    let tree = c.args.arena.now.tree in
-    let are = chosen c.in_ok-new.new c.as_ref.result c.args.styles c.unwrap_or.result text tree c.unwrap_or.ensures c.as_ref.ensures.value c.in_ok-new.ensures.styles in
-    subst (λ (text : List ℕ). AreChanges c.args.board.now.held (document_entries (author_sheet text tree) tree) c.in_ok-changes.changes.items)
-    (its_text c.unwrap_or.result.now text (style_texts tree) are)
-    c.in_ok-changes.ensures.changes
+pub renewed-requires-clause-indexed : goal.renewed-requires-clause-indexed
+renewed-requires-clause-indexed g c =
+    its_index c.args.edit.now c.args.gone.now c.args.index.now c.exchange_ids.new.index c.args.arena.now.tree c.requires.before c.in_ok-back.ensures.holders
+
+-- the stops are there, with the key of what comes
+named_there : (edit : Edit) (styles : DocumentStyles) (held : FinMap nat_cmp Kept) (new : Forest (Keyed Node)) (stops named : Option (Vec Stop Global)) → is_some named ≡ is_some stops
+    → IfSome named (λ named. (old : Forest (Keyed Node)) → IfSome stops (λ stops. stops.items ≡ edit_stops edit 0 old) → named.items ≡ edit_stops edit (inserted_key edit new) old)
+    → IfSome stops (λ stops. StandsBefore edit styles held stops.items new)
+    → IfSome named (λ named. StandsAt edit styles held named.items new)
+named_there edit styles held new stops None some names there = tt
+named_there edit styles held new None (Some named) some names there = absurd (cc some)
+named_there edit styles held new (Some stops) (Some named) some names there = stands_at edit styles held stops.items named.items new there names
+
+pub renewed-requires-clause-place : goal.renewed-requires-clause-place
+renewed-requires-clause-place g c =
+    named_there c.args.edit.now c.args.styles.now c.args.board.now.held c.args.arena.now.tree c.args.stops c.named_stops-stops.result c.named_stops-stops.ensures.some c.named_stops-stops.ensures.stops c.requires.place
+
+pub returns-in-Ok-clause-indexed : goal.returns-in-Ok-clause-indexed
+returns-in-Ok-clause-indexed g c =
+    its_index c.args.edit.now c.args.gone.now c.args.index.now c.exchange_ids.new.index c.args.arena.now.tree c.requires.before c.in_ok-back.ensures.holders
+
+pub returns-in-Err-clause-err : goal.returns-in-Err-clause-err
+returns-in-Err-clause-err g c =
+    its_way_back c.args.edit.now c.args.gone.now c.args.index.now c.exchange_ids.new.index c.args.arena.now.tree c.requires.before c.in_ok-back.ensures.holders
+    c.in_ok-back.back c.commit.new.self c.in_ok-back.ensures.back c.commit.ensures.holders

@@ -1,7 +1,7 @@
 use Rattle.std.proofs.Common.{◌≡◌, ◌∙◌, ◌≤◌, List, Option, Some, None, IfSome, ap, arith, length, refl, sym, subst, ℕ, true}
 use Rattle.std.specs.Option.{is_none}
 use Rattle.forest.specs.Forest.{Forest}
-use Rattle.forest.specs.Keys.{Keyed}
+use Rattle.forest.specs.Keys.{HasDistinctKeys, Keyed}
 use Rattle.plain_types.specs.declared.node.Node.{Node}
 use Rattle.node_arena.specs.declared.reversal.Reversal.{Reversal}
 use Rattle.node_arena.specs.Reversals.{IsCommitted, IsReversal}
@@ -10,8 +10,9 @@ use Rattle.snapshot_board.specs.Records.{put_all, take_all}
 use Rattle.dirty_walk.specs.Books.{StyledDocument, HasRoomFor, UsesItsKeys}
 use Rattle.dirty_walk.specs.DocumentStyles.{document_styles}
 use Rattle.dirty_walk.specs.Plans.{IsPlannedBy, settled_after}
-use Rattle.dirty_walk.proofs.PlanLemmas.{index_where, is_settled, kept_where, room_where}
+use Rattle.dirty_walk.proofs.PlanLemmas.{index_where, is_settled, kept_where, plain_where, room_where}
 use Rattle.dirty_walk.proofs.SettlingLemmas.{below_of}
+use Rattle.dirty_walk.proofs.ToldLemmas.{keeps_entries}
 use Rattle.dirty_walk.proofs.book.Book.commit.Goals as goal
 
 pub put_changes-requires : goal.put_changes-requires
@@ -29,7 +30,7 @@ invariant_of-self g c =
     let held =
     c.put_changes.ensures.held
     ∙ ap (put_all plan.puts.items)
-    (c.take_entries.ensures.held ∙ ap (λ (keys : List ℕ). take_all keys c.self.inside.board.held) c.as_slice.ensures.items ∙ ap (λ (styled : StyledDocument). take_all plan.takes styled.entries) c.self.view_is) in
+    (c.take_entries.ensures.held ∙ ap (λ (keys : List ℕ). take_all keys c.self.inside.board.held) c.as_slice.ensures.items ∙ ap (λ (styled : StyledDocument). take_all plan.takes styled.kept) c.self.view_is) in
     let same = c.settle.ensures.tree in
     record {
       agent_is = c.self.invariant.agent_is;
@@ -44,6 +45,7 @@ invariant_of-self g c =
           let grown : c.self.inside.board.room ≤ c.put_changes.new.board.room = omega (arith, c.put_changes.ensures.room, c.take_entries.ensures.room) in
           room_where c.self.inside.arena.tree c.settle.new.self.tree c.self.inside.board.room c.put_changes.new.board.room same grown c.self.invariant.room;
       indexed = index_where c.self.inside.arena.tree c.settle.new.self.tree c.self.inside.index c.self.inside.index same (λ id key. refl) c.self.invariant.indexed;
+      plain_is = plain_where c.self.inside.arena.tree c.settle.new.self.tree c.self.inside.styles.sheet c.self.inside.is_plain same c.self.invariant.plain_is;
       back = subst (λ (planned : Option Reversal). IfSome planned (λ reversal. IsReversal c.settle.new.self reversal)) (sym c.take.ensures.after) tt;
       keys =
           let was : c.self.inside.planned ≡ Some c.in-Some.reversal = sym c.take.ensures.value ∙ c.in-Some.is in
@@ -59,7 +61,7 @@ invariant_of-self-in_default g c =
     let held =
     c.put_changes.ensures.held
     ∙ ap (put_all plan.puts.items)
-    (c.take_entries.ensures.held ∙ ap (λ (keys : List ℕ). take_all keys c.self.inside.board.held) c.as_slice.ensures.items ∙ ap (λ (styled : StyledDocument). take_all plan.takes styled.entries) c.self.view_is) in
+    (c.take_entries.ensures.held ∙ ap (λ (keys : List ℕ). take_all keys c.self.inside.board.held) c.as_slice.ensures.items ∙ ap (λ (styled : StyledDocument). take_all plan.takes styled.kept) c.self.view_is) in
     record {
       agent_is = c.self.invariant.agent_is;
       styles_are = c.self.invariant.styles_are;
@@ -73,6 +75,7 @@ invariant_of-self-in_default g c =
           let grown : c.self.inside.board.room ≤ c.put_changes.new.board.room = omega (arith, c.put_changes.ensures.room, c.take_entries.ensures.room) in
           room_where c.self.inside.arena.tree c.self.inside.arena.tree c.self.inside.board.room c.put_changes.new.board.room refl grown c.self.invariant.room;
       indexed = c.self.invariant.indexed;
+      plain_is = c.self.invariant.plain_is;
       back = subst (λ (planned : Option Reversal). IfSome planned (λ reversal. IsReversal c.self.inside.arena reversal)) (sym c.take.ensures.after) tt;
       keys =
           let was : c.self.inside.planned ≡ None = sym c.take.ensures.value ∙ c.in_default.is in
@@ -86,12 +89,13 @@ returns-in-Some g c =
     let held =
     c.put_changes.ensures.held
     ∙ ap (put_all plan.puts.items)
-    (c.take_entries.ensures.held ∙ ap (λ (keys : List ℕ). take_all keys c.self.inside.board.held) c.as_slice.ensures.items ∙ ap (λ (styled : StyledDocument). take_all plan.takes styled.entries) c.self.view_is) in
+    (c.take_entries.ensures.held ∙ ap (λ (keys : List ℕ). take_all keys c.self.inside.board.held) c.as_slice.ensures.items ∙ ap (λ (styled : StyledDocument). take_all plan.takes styled.kept) c.self.view_is) in
     let tree = c.settle.ensures.tree ∙ ap (λ (styled : StyledDocument). styled.tree) c.self.view_is in
+    let distinct = subst (λ (document : Forest (Keyed Node)). HasDistinctKeys document) (sym c.settle.ensures.tree) c.arena_holds_document.ensures.document.distinct in
     let sheet = ap (λ (styled : StyledDocument). styled.sheet) c.self.view_is in
     record {
       settled = is_settled c.args.self.now.tree c.settle.new.self.tree c.args.self.now.sheet c.self.inside.styles.sheet _ c.put_changes.new.board.held c.take.new.self tree sheet held c.take.ensures.after;
-      keeps = kept_where c.args.self.now.tree c.settle.new.self.tree c.args.self.now.sheet c.self.inside.styles.sheet _ c.put_changes.new.board.held true (is_none c.take.new.self) tree sheet held c.requires.planned.1;
+      keeps = keeps_entries (record { tree = c.settle.new.self.tree; sheet = c.self.inside.styles.sheet; settled = is_none c.take.new.self; kept = c.put_changes.new.board.held }) distinct (kept_where c.args.self.now.tree c.settle.new.self.tree c.args.self.now.sheet c.self.inside.styles.sheet _ c.put_changes.new.board.held true (is_none c.take.new.self) tree sheet held c.requires.planned.1);
       steps = omega (arith, c.take_entries.ensures.steps, c.put_changes.ensures.steps, ap length c.as_slice.ensures.items);
     }
 
@@ -102,11 +106,12 @@ returns g c =
     let held =
     c.put_changes.ensures.held
     ∙ ap (put_all plan.puts.items)
-    (c.take_entries.ensures.held ∙ ap (λ (keys : List ℕ). take_all keys c.self.inside.board.held) c.as_slice.ensures.items ∙ ap (λ (styled : StyledDocument). take_all plan.takes styled.entries) c.self.view_is) in
+    (c.take_entries.ensures.held ∙ ap (λ (keys : List ℕ). take_all keys c.self.inside.board.held) c.as_slice.ensures.items ∙ ap (λ (styled : StyledDocument). take_all plan.takes styled.kept) c.self.view_is) in
     let tree = ap (λ (styled : StyledDocument). styled.tree) c.self.view_is in
+    let distinct = c.arena_holds_document.ensures.document.distinct in
     let sheet = ap (λ (styled : StyledDocument). styled.sheet) c.self.view_is in
     record {
       settled = is_settled c.args.self.now.tree c.self.inside.arena.tree c.args.self.now.sheet c.self.inside.styles.sheet _ c.put_changes.new.board.held c.take.new.self tree sheet held c.take.ensures.after;
-      keeps = kept_where c.args.self.now.tree c.self.inside.arena.tree c.args.self.now.sheet c.self.inside.styles.sheet _ c.put_changes.new.board.held true (is_none c.take.new.self) tree sheet held c.requires.planned.1;
+      keeps = keeps_entries (record { tree = c.self.inside.arena.tree; sheet = c.self.inside.styles.sheet; settled = is_none c.take.new.self; kept = c.put_changes.new.board.held }) distinct (kept_where c.args.self.now.tree c.self.inside.arena.tree c.args.self.now.sheet c.self.inside.styles.sheet _ c.put_changes.new.board.held true (is_none c.take.new.self) tree sheet held c.requires.planned.1);
       steps = omega (arith, c.take_entries.ensures.steps, c.put_changes.ensures.steps, ap length c.as_slice.ensures.items);
     }

@@ -9,16 +9,18 @@ use Rattle.plain_types.specs.declared.node.Node.{Node}
 use Rattle.node_arena.proofs.KeyLaws.{committed, reverted, still_settled}
 use Rattle.node_arena.specs.Document.{IsKeyedDocument}
 use Rattle.node_arena.specs.Edits.{IsEdited, edited, edited_sheet, place_fault}
-use Rattle.generated_texts.specs.declared.entry.NodeEntry.{NodeEntry}
-use Rattle.generated_texts.specs.Entries.{document_entries}
 use Rattle.generated_texts.specs.References.{kept_at}
 use Rattle.generated_texts.specs.StyleElements.{author_sheet, style_texts}
 use Rattle.document_walk.specs.Elements.{element_count}
 use Rattle.snapshot_board.specs.Records.{put_all, take_all}
+use Rattle.dirty_walk.specs.declared.kept.Kept.{Kept}
 use Rattle.dirty_walk.specs.Books.{StyledDocument}
+use Rattle.dirty_walk.specs.Changes.{AreOthers}
+use Rattle.dirty_walk.specs.Evaluations.{document_kept}
 use Rattle.dirty_walk.specs.Exchanges.{InsertsOneTree, IsDone, taken_keys}
-use Rattle.dirty_walk.specs.Plans.{settled_after, AreOthers, IsPlannedBy}
-use Rattle.dirty_walk.proofs.ChangeLemmas.{are_others}
+use Rattle.dirty_walk.specs.Plain.{is_plain}
+use Rattle.dirty_walk.specs.Plans.{settled_after, IsPlannedBy}
+use Rattle.dirty_walk.proofs.PlaceLemmas.{stands_before}
 use Rattle.dirty_walk.proofs.PlanLemmas.{as_read, its_keys, its_text, same_document, under_its_text}
 use Rattle.dirty_walk.proofs.SettlingLemmas.{few, has_room, keeps_all, of_elements}
 use Rattle.dirty_walk.proofs.book.Book.plan.Goals as goal
@@ -46,10 +48,19 @@ evaluated-requires-clause-before g c = record {
   indexed = c.self.invariant.indexed;
 }
 
+pub evaluated-requires-clause-place : goal.evaluated-requires-clause-place
+evaluated-requires-clause-place g c =
+    let none : is_none c.self.inside.planned ≡ true = ap (λ (styled : StyledDocument). styled.settled) c.self.view_is ∙ c.requires.settled in
+    stands_before c.args.edit.now c.self.inside.agent c.self.inside.styles c.self.inside.board.held c.self.inside.is_plain c.self.inside.arena.tree c.commit-reversal.new.self.tree c.in_ok-stops.stops
+    c.self.invariant.agent_is c.self.invariant.styles_are
+    (done_by c.args.edit.now c.self.inside.arena.tree _ c.commit-reversal.new.self.tree c.args.self.now c.arena_holds_document.ensures.document c.arena_holds_document-2.ensures.document
+    (ap (λ (styled : StyledDocument). styled.tree) c.self.view_is) c.requires.allowed c.inserts_one_tree.ensures c.in_ok-prepared.ensures.edits c.commit-reversal.ensures.tree)
+    (c.self.invariant.kept none) c.self.invariant.plain_is c.in_ok-stops.ensures.plain c.in_ok-stops.ensures.own c.in_ok-stops.ensures.stops
+
 pub invariant_of-self : goal.invariant_of-self
 invariant_of-self g c =
     let none : is_none c.self.inside.planned ≡ true = ap (λ (styled : StyledDocument). styled.settled) c.self.view_is ∙ c.requires.settled in
-    same_document _ _ _ _ _ _ _ _ _ none c.prepare.ensures.tree (λ were. still_settled _ _ were c.prepare.ensures.tree c.in_err-prepared.ensures.err) refl (omega arith) (λ id key. refl) c.self.invariant
+    same_document _ _ _ _ _ _ _ _ _ _ none c.prepare.ensures.tree (λ were. still_settled _ _ were c.prepare.ensures.tree c.in_err-prepared.ensures.err) refl (omega arith) (λ id key. refl) c.self.invariant
 
 pub invariant_of-self-in-Ok : goal.invariant_of-self-in-Ok
 invariant_of-self-in-Ok g c =
@@ -65,9 +76,10 @@ invariant_of-self-in-Ok g c =
       agent_is = c.self.invariant.agent_is;
       styles_are = under_its_text c.replace_styles.new.styles text tree (c.replace_styles.ensures ∙ c.in-Ok.ensures.styles);
       kept = λ settled. cc;
-      room = has_room c.args.edit.now old tree done c.self.inside.styles.sheet text c.self.inside.board.held c.in-Ok.puts.items c.in_ok-takes.takes (c.self.invariant.kept none) c.in-Ok.ensures.changes taken
+      room = has_room c.args.edit.now old tree done c.self.inside.styles.sheet text c.self.inside.board.held c.in-Ok.made.changes.items c.in_ok-takes.takes (c.self.invariant.kept none) c.in-Ok.ensures.changes taken
           c.self.inside.board.room c.evaluated.new.board.room c.self.invariant.room c.evaluated.ensures.grown c.in-Ok.ensures.room;
       indexed = c.in-Ok.ensures.indexed;
+      plain_is = c.in-Ok.ensures.plain ∙ ap (λ (t : List ℕ). is_plain (author_sheet t tree) tree) (sym (its_text c.replace_styles.new.styles text (style_texts tree) (c.replace_styles.ensures ∙ c.in-Ok.ensures.styles)));
       back = c.commit-reversal.ensures.reversal;
       keys =
           committed _ _ _ _ _ (its_keys c.self.inside.arena c.self.inside.planned none c.self.invariant.keys) c.prepare.ensures.tree c.in_ok-prepared.ensures.reserves
@@ -77,7 +89,7 @@ invariant_of-self-in-Ok g c =
 pub invariant_of-self-in-Err : goal.invariant_of-self-in-Err
 invariant_of-self-in-Err g c =
     let none : is_none c.self.inside.planned ≡ true = ap (λ (styled : StyledDocument). styled.settled) c.self.view_is ∙ c.requires.settled in
-    same_document _ _ _ _ _ _ _ _ _ none (c.revert.ensures.tree ∙ c.commit-reversal.ensures.before ∙ c.prepare.ensures.tree)
+    same_document _ _ _ _ _ _ _ _ _ _ none (c.revert.ensures.tree ∙ c.commit-reversal.ensures.before ∙ c.prepare.ensures.tree)
     (λ were.
     reverted _ _ _
     (committed _ _ _ _ _ were c.prepare.ensures.tree c.in_ok-prepared.ensures.reserves c.commit-reversal.ensures.tree c.commit-reversal.ensures.before c.commit-reversal.ensures.used)
@@ -93,7 +105,7 @@ returns-in-Ok-clause-planned g c =
     let before = c.self.inside.styles.sheet in
     let text = edited_sheet c.args.edit.now before in
     let held = c.self.inside.board.held in
-    let puts = c.in-Ok.puts.items in
+    let puts = c.in-Ok.made.changes.items in
     let takes = c.in_ok-takes.takes in
     let sheet = its_text c.replace_styles.new.styles text (style_texts tree) (c.replace_styles.ensures ∙ c.in-Ok.ensures.styles) in
     let done =
@@ -103,16 +115,16 @@ returns-in-Ok-clause-planned g c =
     let kept = c.self.invariant.kept none in (
       refl,
       λ key.
-          ap (λ (map : FinMap nat_cmp NodeEntry). get (put_all puts (take_all takes map)) key) c.evaluated.ensures.held
+          ap (λ (map : FinMap nat_cmp Kept). get (put_all puts (take_all takes map)) key) c.evaluated.ensures.held
           ∙ keeps_all c.args.edit.now old tree done before text held puts takes kept c.in-Ok.ensures.changes taken key
-          ∙ ap (λ (text : List ℕ). kept_at (document_entries (author_sheet text tree) tree) key) (sym sheet),
+          ∙ ap (λ (text : List ℕ). kept_at (document_kept (author_sheet text tree) tree) key) (sym sheet),
       of_elements c.args.edit.now old tree done before text held puts takes kept c.in-Ok.ensures.changes taken,
-      subst (λ (map : FinMap nat_cmp NodeEntry). AreOthers map puts) (sym c.evaluated.ensures.held)
-          (are_others held (document_entries (author_sheet text tree) tree) puts c.in-Ok.ensures.changes),
+      subst (λ (map : FinMap nat_cmp Kept). AreOthers map puts) (sym c.evaluated.ensures.held)
+          c.in-Ok.ensures.changes.others,
     )
 
-pub returns-in-Ok-clause-entries : goal.returns-in-Ok-clause-entries
-returns-in-Ok-clause-entries g c = c.evaluated.ensures.held ∙ ap (λ (styled : StyledDocument). styled.entries) c.self.view_is
+pub returns-in-Ok-clause-kept : goal.returns-in-Ok-clause-kept
+returns-in-Ok-clause-kept g c = c.evaluated.ensures.held ∙ ap (λ (styled : StyledDocument). styled.kept) c.self.view_is
 
 pub returns-in-Ok-clause-document : goal.returns-in-Ok-clause-document
 unfolding settled_after
@@ -142,7 +154,7 @@ returns-in-Ok-clause-size g c =
     let tree = c.commit-reversal.new.self.tree in
     let before = c.self.inside.styles.sheet in
     let text = edited_sheet c.args.edit.now before in
-    let puts = c.in-Ok.puts.items in
+    let puts = c.in-Ok.made.changes.items in
     let takes = c.in_ok-takes.takes in
     let done =
     done_by c.args.edit.now old _ tree c.args.self.now c.arena_holds_document.ensures.document c.arena_holds_document-2.ensures.document

@@ -24,11 +24,11 @@ no_fault edit tree old told fault is same view none =
 
 -- a bound on the steps of an edit that is allowed
 allowed_within : (edit : Edit) (old told : StyledDocument) (low high : ℕ) → edits.place_fault edit (without_keys told.tree) ≡ None → old ≡ told
-    → low ≤ high + (8 * element_count (edits.edited edit (without_keys old.tree)) + element_count (without_keys old.tree))
-    → IfOk (edited (source_of told) edit) (λ source. low ≤ high + (8 * element_count source.tree + element_count (source_of told).tree))
+    → low ≤ high + (13 * element_count (edits.edited edit (without_keys old.tree)) + element_count (without_keys old.tree))
+    → IfOk (edited (source_of told) edit) (λ source. low ≤ high + (13 * element_count source.tree + element_count (source_of told).tree))
 allowed_within edit old told low high allowed view bound =
     rw (edited, allowed)
-    (subst (λ (styled : StyledDocument). low ≤ high + (8 * element_count (edits.edited edit (without_keys styled.tree)) + element_count (without_keys styled.tree))) view bound)
+    (subst (λ (styled : StyledDocument). low ≤ high + (13 * element_count (edits.edited edit (without_keys styled.tree)) + element_count (without_keys styled.tree))) view bound)
 
 pub returns-in-Some-clause-keeps : goal.returns-in-Some-clause-keeps
 returns-in-Some-clause-keeps g c = (same_evaluated c.self.inside.book c.args.self.now (sym c.self.view_is) c.self.invariant).1

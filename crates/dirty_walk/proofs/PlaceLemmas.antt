@@ -1,0 +1,364 @@
+-- A walk from the place of an edit finds what comes to a board.
+use Rattle.std.proofs.Common.{◌≡◌, ◌≢◌, ◌≤◌, ◌⊎◌, ℕ, ℤ, Bool, true, false, List, [], ◌∷◌, length, map, Option, Some, None, refl, sym, ap, ap₂, subst, ◌∙◌, inl, inr, arith, unwrap_or, Global}
+use Rattle.std.specs.Prelude.{All, Contains, IfSome, option_map}
+use Rattle.std.specs.Prelude.{Vec}
+use Rattle.std.specs.FinMap.{FinMap, get}
+use Rattle.std.specs.Ordering.{nat_cmp}
+use Rattle.std.proofs.lemmas.List.{length-map}
+use Rattle.std.proofs.lemmas.List.Elements.{All-contains, All-contains_itself, All-map, All-weaker, Contains-append_cases, Contains-append_right}
+use Rattle.forest.specs.Forest.{Forest}
+use Rattle.forest.specs.Keys.{HasDistinctKeys, Keyed, without_keys}
+use Rattle.plain_types.specs.declared.box_id.BoxId.{BoxId}
+use Rattle.plain_types.specs.declared.edit.Edit.{Edit}
+use Rattle.plain_types.specs.declared.edit.Edit.TheVariants.{Insert, Remove, Move, SetAttr, UnsetAttr, ReplaceSheet}
+use Rattle.plain_types.specs.declared.counter_style.CounterStyle.{CounterStyle}
+use Rattle.plain_types.specs.declared.node.Node.{Node}
+use Rattle.plain_types.specs.declared.sheet.Sheet.{Sheet}
+use Rattle.plain_types.specs.declared.style.ElementStyle.{ElementStyle}
+use Rattle.plain_types.specs.declared.style.Style.{Style}
+use Rattle.mini_cascade.specs.Styles.{element_style}
+use Rattle.node_arena.specs.Edits.{edited_sheet}
+use Rattle.content_eval.specs.Targets.{Known}
+use Rattle.css_reader.specs.Sheets.{sheets}
+use Rattle.box_eval.specs.Evaluation.{StyledNode, styled}
+use Rattle.box_eval.specs.Starts.{no_starts}
+use Rattle.generated_texts.specs.Documents.{agent_sheet, counter_styles, document_style}
+use Rattle.generated_texts.specs.References.{kept_at, known_targets}
+use Rattle.generated_texts.specs.StyleElements.{author_sheet, style_texts}
+use Rattle.merged_walk.specs.declared.stop.Stop.{Stop}
+use Rattle.merged_walk.specs.Entries.{AreAmong, Covers, Holds, first_at}
+use Rattle.merged_walk.specs.Evaluators.{told_all}
+use Rattle.merged_walk.specs.Laws.{Merges}
+use Rattle.merged_walk.specs.Merges.{Merge}
+use Rattle.merged_walk.proofs.EntryLaws.{contains-first}
+use Rattle.surroundings.specs.declared.told.Told.{Told}
+use Rattle.surroundings.specs.declared.walked.Walked.{Walked}
+use Rattle.surroundings.specs.StyledEvaluators.{root_surroundings, styled_evaluator}
+use Rattle.document_walk.specs.Catching.{Reading}
+use Rattle.document_walk.specs.CatchingUp.{AreAllAmong, CanCatchUp, CoversAll}
+use Rattle.document_walk.specs.Elements.{element_count}
+use Rattle.edit_merge.specs.EditMerges.{edit_merge, edit_stops, inserted_key}
+use Rattle.edit_merge.specs.Laws as merges
+use Rattle.edit_merge.proofs.EditLaws.{edits_have_leaves, edits_lead, edits_merge, edits_stop}
+use Rattle.style_reach.specs.Laws.{Edits}
+use Rattle.style_reach.specs.Reaches.{all_features, reach}
+use Rattle.style_reach.specs.TouchedSheets.{touches_sheet}
+use Rattle.style_reach.specs.declared.extent.Reach.{Reach}
+use Rattle.style_reach.specs.declared.extent.Reach.TheVariants.{Own, All as Everywhere}
+use Rattle.style_reach.proofs.AuthorLaws.{sheet-stays, texts-stay, touches-not}
+use Rattle.styled_merge.specs.Laws.{HasShape, looks_beside, style_beside}
+use Rattle.styled_merge.specs.StyledMerges.{styled_merge}
+use Rattle.styled_merge.proofs.LawLemmas.{own_styles_documents, starts_are_their_own, styled_merges_keep_shape}
+use Rattle.dirty_walk.specs.declared.document_styles.DocumentStyles.{DocumentStyles}
+use Rattle.dirty_walk.specs.declared.kept.Kept.{Kept}
+use Rattle.dirty_walk.specs.declared.styled_arena.StyledArena.{StyledArena}
+use Rattle.dirty_walk.specs.Changes.{AreChanges, Renews}
+use Rattle.dirty_walk.specs.DocumentStyles.{document_styles, read_styles}
+use Rattle.dirty_walk.specs.Evaluations.{all_kept_of, document_kept, document_told, kept_of, said_of}
+use Rattle.dirty_walk.specs.Exchanges.{InsertsOneTree, IsDone}
+use Rattle.dirty_walk.specs.PlaceReadings.{read_of}
+use Rattle.dirty_walk.specs.PlaceStyles.{StandsAt, StandsBefore}
+use Rattle.dirty_walk.specs.Places.{IsAtPlace, IsSomePlace, nothing_known, place_merge, reading_of, walked_at}
+use Rattle.dirty_walk.specs.Plain.{are_plain, is_plain, rests_on_others}
+use Rattle.dirty_walk.proofs.AskLemmas.{plain_without_starts, without_starts_plain}
+use Rattle.dirty_walk.proofs.KnownLemmas.{kept_mapped}
+use Rattle.dirty_walk.proofs.PlainLemmas.{all_plain, each_plain, same_kept}
+use Rattle.dirty_walk.proofs.PlanLemmas.{its_author}
+use Rattle.dirty_walk.proofs.RenewalLemmas.{at_first, kept_there, later, once_there, renews, the_one}
+use Rattle.dirty_walk.proofs.ToldLemmas.{kept_count, told_once}
+
+not_everywhere : (reached : Reach) → reached ≡ Own → reached ≢ Everywhere
+not_everywhere reached own everywhere = absurd (cc)
+
+contains_mapped : {A B : Type 0} (f : A → B) (xs : List A) (x : A) → Contains xs x → Contains (map f xs) (f x)
+contains_mapped f [] x there = absurd (omega (arith, there.1))
+contains_mapped f (y ∷ xs) x there = elim (Contains-append_cases (y ∷ []) xs x there) [
+  | inl first ↦ subst (λ z. Contains (map f (y ∷ xs)) (f z)) (the_one y x first) (contains-first (f y) (map f xs))
+  | inr rest ↦ later (f y) (f x) (map f xs) (contains_mapped f xs x rest)
+]
+
+one_tree : (edit : Edit) → InsertsOneTree edit → merges.InsertsOneTree edit
+one_tree (Insert parent index fragment) one = one
+one_tree (Remove path) one = tt
+one_tree (Move from parent index) one = tt
+one_tree (SetAttr path name value) one = tt
+one_tree (UnsetAttr path name) one = tt
+one_tree (ReplaceSheet text) one = tt
+
+changes_document : (edit : Edit) (tree : Forest (Keyed Node)) → touches_sheet tree edit ≡ false → merges.ChangesDocument edit
+changes_document (Insert parent index fragment) tree free = tt
+changes_document (Remove path) tree free = tt
+changes_document (Move from parent index) tree free = tt
+changes_document (SetAttr path name value) tree free = tt
+changes_document (UnsetAttr path name) tree free = tt
+changes_document (ReplaceSheet text) tree free = absurd (cc)
+
+walked_of : (f : Told → Kept) → ((told : Told) → (f told).walked ≡ told.walked) → (o : Option Told) → option_map (λ (kept : Kept). kept.walked) (option_map f o) ≡ option_map (λ (told : Told). told.walked) o
+walked_of f same None = refl
+walked_of f same (Some told) = ap (λ (walked : Walked). Some walked) (same told)
+
+module _ (edit : Edit) (text : List ℕ) (held : FinMap nat_cmp Kept) (stops : List Stop) (old new : Forest (Keyed Node)) (at : IsAtPlace edit text held old new)
+    (stops_are : stops ≡ edit_stops edit (inserted_key edit new) old) where
+  edits : Edits edit old new
+  edits = record { document = at.done.before; allowed = at.done.allowed; edited = at.done.edited }
+
+  -- The sheets stay.
+
+  free : touches_sheet old edit ≡ false
+  free = touches-not (looks_beside text old) edit old (not_everywhere _ at.own)
+
+  pub sheet_is : edited_sheet edit text ≡ text
+  sheet_is = sheet-stays edit old text free
+
+  pub sheet_stays : author_sheet text new ≡ author_sheet text old
+  sheet_stays = ap (λ texts. sheets (text ∷ texts)) (texts-stay edit old new edits free)
+
+  pub styles_stay : document_styles text new ≡ document_styles text old
+  styles_stay = ap (read_styles text) (texts-stay edit old new edits free)
+
+  abbrev author : Sheet
+  author = author_sheet text old
+
+  abbrev told_now : List (ℕ × Told)
+  told_now = told_all (styled_evaluator (counter_styles author)) root_surroundings (styled (document_style author new) no_starts new)
+
+  abbrev told_before : List (ℕ × Told)
+  told_before = document_told author old
+
+  abbrev table : List CounterStyle
+  table = counter_styles author
+
+  -- what is told of the document before is what the board has
+  abbrev pub told_at : ℕ → Option Told
+  told_at = first_at told_before
+
+  abbrev known_before : Known
+  known_before = known_targets table old (said_of told_before)
+
+  kept_before : (key : ℕ) → get held key ≡ option_map (kept_of table known_before) (kept_at told_before key)
+  kept_before key = at.kept key ∙ kept_mapped (kept_of table known_before) told_before key
+
+  read : (key : ℕ) → option_map (λ (kept : Kept). kept.walked) (get held key) ≡ option_map (λ (told : Told). told.walked) (told_at key)
+  read key =
+      ap (option_map (λ (kept : Kept). kept.walked)) (kept_before key)
+      ∙ walked_of (kept_of table known_before) (λ told. refl) (kept_at told_before key)
+      ∙ ap (option_map (λ (told : Told). told.walked)) (sym (at_first told_before key))
+
+  before : (one : ℕ × Told) → told_at one.0 ≡ Some one.1 → Contains told_before one
+  before one is = kept_there told_before one.0 one.1 (sym (at_first told_before one.0) ∙ is)
+
+  holds : Holds told_at told_before
+  holds =
+      All-weaker (Contains told_before) (λ (one : ℕ × Told). told_at one.0 ≡ Some one.1)
+      (λ one there. at_first told_before one.0 ∙ once_there told_before (told_once author old at.done.before.distinct) one there)
+      told_before (All-contains_itself told_before)
+
+  -- The walk may begin.
+
+  done : merges.IsDone edit old new
+  done = record { before = at.done.before; after = at.done.after; allowed = at.done.allowed; fragment = one_tree edit at.done.fragment; edited = at.done.edited }
+
+  abbrev m : Merge Node
+  m = edit_merge edit old new
+
+  shape : HasShape (place_merge edit text old new) m
+  shape = styled_merges_keep_shape (style_beside text old) (style_beside text new) no_starts no_starts None m
+
+  forests : Merges (place_merge edit text old new) (styled (style_beside text old) no_starts old) (styled (style_beside text new) no_starts new)
+  forests =
+      subst (λ (t : List ℕ). Merges (styled_merge (style_beside text old) (style_beside t new) no_starts no_starts None m) (styled (style_beside text old) no_starts old) (styled (style_beside t new) no_starts new))
+      sheet_is
+      (own_styles_documents edit old new edits (edits_merge edit old new done) text at.own no_starts no_starts (starts_are_their_own (style_beside (edited_sheet edit text) new) no_starts m))
+
+  -- what a walk reads under an author's sheet
+  abbrev under : Sheet → Reading
+  under a = record { table = counter_styles a; style = document_style a new; start = no_starts; tree = new }
+
+  pub can : CanCatchUp (reading_of text new) (walked_at held) stops (place_merge edit text old new) told_at
+  can = subst (λ (a : Sheet). CanCatchUp (under a) (walked_at held) stops (place_merge edit text old new) told_at) (sym sheet_stays) (record {
+    new = forests.new ∙ ap (λ (a : Sheet). styled (document_style a new) no_starts new) sheet_stays;
+    holds = subst (λ (trees : Forest (Keyed StyledNode)). Holds told_at (told_all (styled_evaluator table) root_surroundings trees)) (sym forests.old)
+        (subst (λ (told : List (ℕ × Told)). Holds told_at told) (sym (plain_without_starts table (document_style author old) old at.plain)) holds);
+    read = read;
+    stops = stops_are ∙ sym (edits_stop edit old new done) ∙ sym (shape.stops 0);
+    leaves = shape.leaves (edits_have_leaves edit old new done);
+    led = shape.all_led (edits_lead edit old new done (changes_document edit old free));
+  })
+
+  -- What it finds, where that is plain.
+
+  -- what the new document's evaluation tells under an author's sheet
+  abbrev told_under : Sheet → List (ℕ × Told)
+  told_under a = told_all (styled_evaluator (counter_styles a)) root_surroundings (styled (document_style a new) no_starts new)
+
+  module _ (caught : List (ℕ × Told)) (covers_all : CoversAll (reading_of text new) (walked_at held) stops caught) (among_all : AreAllAmong (reading_of text new) (walked_at held) stops caught)
+      (plain : are_plain caught ≡ true) where
+    covers : Covers caught told_at told_now
+    covers = subst (λ (a : Sheet). Covers caught told_at (told_under a)) sheet_stays (covers_all (place_merge edit text old new) told_at can)
+
+    among : AreAmong caught told_now
+    among = subst (λ (a : Sheet). AreAmong caught (told_under a)) sheet_stays (among_all (place_merge edit text old new) told_at can)
+
+    each : All (λ (one : ℕ × Told). rests_on_others one.1 ≡ false) told_now
+    each =
+        All-weaker (λ (one : ℕ × Told). Contains caught one ⊎ (told_at one.0 ≡ Some one.1)) (λ (one : ℕ × Told). rests_on_others one.1 ≡ false)
+        (λ one is. elim is [ inl there ↦ each_plain caught plain one there | inr is ↦ each_plain told_before at.plain one (before one is) ])
+        told_now covers
+
+    told_is : told_now ≡ document_told author new
+    told_is = without_starts_plain table (document_style author new) new (all_plain told_now each)
+
+    pub plain_now : is_plain (author_sheet text new) new ≡ true
+    plain_now = ap (λ (a : Sheet). is_plain a new) sheet_stays ∙ ap are_plain (sym told_is) ∙ all_plain told_now each
+
+    abbrev known_now : Known
+    known_now = known_targets table new (said_of (document_told author new))
+
+    abbrev all : List (ℕ × Kept)
+    all = document_kept author new
+
+    abbrev found : List (ℕ × Kept)
+    found = all_kept_of table nothing_known caught
+
+    into : (one : ℕ × Told) → Contains caught one → Contains all (one.0, kept_of table nothing_known one.1)
+    into one there =
+        subst (λ (kept : Kept). Contains all (one.0, kept)) (same_kept table known_now nothing_known one.1 (each_plain caught plain one there))
+        (contains_mapped (λ (e : ℕ × Told). (e.0, kept_of table known_now e.1)) (document_told author new) one
+        (subst (λ (told : List (ℕ × Told)). Contains told one) told_is (All-contains (Contains told_now) caught one among there)))
+
+    all_among : AreAmong found all
+    all_among =
+        All-map (Contains all) (λ (e : ℕ × Told). (e.0, kept_of table nothing_known e.1)) caught
+        (All-weaker (Contains caught) (λ (e : ℕ × Told). Contains all (e.0, kept_of table nothing_known e.1)) into caught (All-contains_itself caught))
+
+    module _ (changes : List (ℕ × Kept)) (are : AreChanges held found changes) where
+      first : Renews held found changes
+      first = renews held found changes are
+
+      covered : (one : ℕ × Told) → Contains caught one ⊎ (told_at one.0 ≡ Some one.1)
+          → Contains changes (one.0, kept_of table known_now one.1) ⊎ (get held one.0 ≡ Some (kept_of table known_now one.1))
+      covered one (inl there) =
+          subst (λ (kept : Kept). Contains changes (one.0, kept) ⊎ (get held one.0 ≡ Some kept)) (same_kept table nothing_known known_now one.1 (each_plain caught plain one there))
+          (All-contains (λ (e : ℕ × Kept). Contains changes e ⊎ (get held e.0 ≡ Some e.1)) found (one.0, kept_of table nothing_known one.1) first.covers
+          (contains_mapped (λ (e : ℕ × Told). (e.0, kept_of table nothing_known e.1)) caught one there))
+      covered one (inr is) =
+          inr (kept_before one.0
+          ∙ ap (option_map (kept_of table known_before)) (sym (at_first told_before one.0) ∙ is)
+          ∙ ap (λ (kept : Kept). Some kept) (same_kept table known_before known_now one.1 (each_plain told_before at.plain one (before one is))))
+
+      all_covered : Covers changes (get held) all
+      all_covered =
+          All-map (λ (e : ℕ × Kept). Contains changes e ⊎ (get held e.0 ≡ Some e.1)) (λ (e : ℕ × Told). (e.0, kept_of table known_now e.1)) (document_told author new)
+          (subst (λ (told : List (ℕ × Told)). All (λ (e : ℕ × Told). Contains changes (e.0, kept_of table known_now e.1) ⊎ (get held e.0 ≡ Some (kept_of table known_now e.1))) told) told_is
+          (All-weaker (λ (one : ℕ × Told). Contains caught one ⊎ (told_at one.0 ≡ Some one.1))
+          (λ (e : ℕ × Told). Contains changes (e.0, kept_of table known_now e.1) ⊎ (get held e.0 ≡ Some (kept_of table known_now e.1))) covered told_now covers))
+
+      pub renewed : length caught ≤ element_count (without_keys new) → Renews held (document_kept (author_sheet text new) new) changes
+      renewed few =
+          subst (λ (a : Sheet). Renews held (document_kept a new) changes) (sym sheet_stays) (record {
+            among = All-weaker (Contains found) (Contains all) (λ one there. All-contains (Contains all) found one all_among there) changes first.among;
+            covers = all_covered;
+            others = first.others;
+            few =
+                let fewer : length changes ≤ length found = first.few in
+                let same : length found ≡ length caught = length-map caught (λ (e : ℕ × Told). (e.0, kept_of table nothing_known e.1)) in
+                omega (arith, fewer, same, few, kept_count author new at.done.after.distinct);
+          })
+
+-- The same where a document and its styles are known, and some edit.
+
+-- what a walk reads of a document and its styles
+reads : (document : StyledArena) → document.agent.now ≡ agent_sheet → document.styles.now ≡ document_styles document.styles.now.sheet document.arena.now.tree
+    → read_of document ≡ reading_of document.styles.now.sheet document.arena.now.tree
+unfolding read_styles
+reads document is_agent styles_are =
+    let tree = document.arena.now.tree in
+    let styles = document.styles.now in
+    ap (λ (agent : Sheet). reading_by styles.table (element_style tree agent styles.author) tree) is_agent
+    ∙ ap (λ (s : DocumentStyles). reading_by s.table (element_style tree agent_sheet s.author) tree) styles_are
+  where
+    reading_by : List CounterStyle → (ℕ → Option Style → ElementStyle) → Forest (Keyed Node) → Reading
+    reading_by table style tree = record { table = table; style = style; start = no_starts; tree = tree }
+
+its_table : (styles : DocumentStyles) (text : List ℕ) (tree : Forest (Keyed Node)) → styles ≡ document_styles text tree → styles.table ≡ counter_styles (author_sheet text tree)
+unfolding read_styles
+its_table styles text tree are = ap (λ (s : DocumentStyles). s.table) are
+
+module _ (document : StyledArena) (is_agent : document.agent.now ≡ agent_sheet) (styles_are : document.styles.now ≡ document_styles document.styles.now.sheet document.arena.now.tree)
+    (held : FinMap nat_cmp Kept) (stops : List Stop) (place : IsSomePlace document.styles.now.sheet held stops document.arena.now.tree) where
+  abbrev text : List ℕ
+  text = document.styles.now.sheet
+
+  abbrev tree : Forest (Keyed Node)
+  tree = document.arena.now.tree
+
+  pub stands : (merge : Merge StyledNode) × ((told : ℕ → Option Told) × CanCatchUp (read_of document) (walked_at held) stops merge told)
+  stands = (
+    place_merge place.edit text place.old tree,
+    (
+      told_at place.edit text held stops place.old tree place.at place.stops_are,
+      subst (λ (from : Reading). CanCatchUp from (walked_at held) stops (place_merge place.edit text place.old tree) (told_at place.edit text held stops place.old tree place.at place.stops_are))
+          (sym (reads document is_agent styles_are)) (can place.edit text held stops place.old tree place.at place.stops_are),
+    ),
+  )
+
+  module _ (caught : List (ℕ × Told)) (covers : CoversAll (read_of document) (walked_at held) stops caught) (among : AreAllAmong (read_of document) (walked_at held) stops caught) (plain : are_plain caught ≡ true) where
+    covers_now : CoversAll (reading_of text tree) (walked_at held) stops caught
+    covers_now = subst (λ (from : Reading). CoversAll from (walked_at held) stops caught) (reads document is_agent styles_are) covers
+
+    among_now : AreAllAmong (reading_of text tree) (walked_at held) stops caught
+    among_now = subst (λ (from : Reading). AreAllAmong from (walked_at held) stops caught) (reads document is_agent styles_are) among
+
+    pub is_plain_now : is_plain (author_sheet text tree) tree ≡ true
+    is_plain_now = plain_now place.edit text held stops place.old tree place.at place.stops_are caught covers_now among_now plain
+
+    pub renews_now : (changes : List (ℕ × Kept)) → AreChanges held (all_kept_of document.styles.now.table nothing_known caught) changes → length caught ≤ element_count (without_keys tree)
+        → Renews held (document_kept (author_sheet text tree) tree) changes
+    renews_now changes are few =
+        renewed place.edit text held stops place.old tree place.at place.stops_are caught covers_now among_now plain changes
+        (subst (λ (table : List CounterStyle). AreChanges held (all_kept_of table nothing_known caught) changes)
+        (its_table document.styles.now text tree styles_are ∙ ap counter_styles (sheet_stays place.edit text held stops place.old tree place.at place.stops_are)) are)
+        few
+
+-- A book before its edit is evaluated.
+
+module _ (edit : Edit) (styles : DocumentStyles) (held : FinMap nat_cmp Kept) (stops : List Stop) (new : Forest (Keyed Node)) (there : StandsAt edit styles held stops new) where
+  -- the styles are those of the edited document
+  pub styles_now : styles ≡ document_styles styles.sheet new
+  styles_now = there.styles_are ∙ sym (styles_stay edit styles.sheet held stops there.old new there.at there.stops_are)
+
+  pub sheet_now : edited_sheet edit styles.sheet ≡ styles.sheet
+  sheet_now = sheet_is edit styles.sheet held stops there.old new there.at there.stops_are
+
+  pub styles_after : (made : Option DocumentStyles) → made ≡ None → unwrap_or made styles ≡ document_styles (edited_sheet edit styles.sheet) new
+  styles_after made none = ap (λ (o : Option DocumentStyles). unwrap_or o styles) none ∙ styles_now ∙ ap (λ (text : List ℕ). document_styles text new) (sym sheet_now)
+
+  pub some_place : IsSomePlace styles.sheet held stops new
+  some_place = record { edit = edit; old = there.old; at = there.at; stops_are = there.stops_are }
+
+-- once the key of what comes is known
+pub stands_at : (edit : Edit) (styles : DocumentStyles) (held : FinMap nat_cmp Kept) (stops named : List Stop) (new : Forest (Keyed Node)) → StandsBefore edit styles held stops new
+    → ((old : Forest (Keyed Node)) → stops ≡ edit_stops edit 0 old → named ≡ edit_stops edit (inserted_key edit new) old) → StandsAt edit styles held named new
+stands_at edit styles held stops named new there names = record { old = there.old; styles_are = there.styles_are; at = there.at; stops_are = names there.old there.stops_are }
+
+-- where the edit's walk may begin, before the edit is done
+pub stands_before : (edit : Edit) (agent : Sheet) (styles : DocumentStyles) (held : FinMap nat_cmp Kept) (plain : Bool) (old new : Forest (Keyed Node)) (stops : Option (Vec Stop Global))
+    → agent ≡ agent_sheet → styles ≡ document_styles styles.sheet old → IsDone edit old new
+    → ((key : ℕ) → get held key ≡ kept_at (document_kept (author_sheet styles.sheet old) old) key) → plain ≡ is_plain (author_sheet styles.sheet old) old
+    → IfSome stops (λ _. plain ≡ true) → IfSome stops (λ _. reach (all_features agent styles.author) old edit ≡ Own) → IfSome stops (λ stops. stops.items ≡ edit_stops edit 0 old)
+    → IfSome stops (λ stops. StandsBefore edit styles held stops.items new)
+stands_before edit agent styles held plain old new None is_agent styles_are finished kept plain_is answer own stops_are = tt
+stands_before edit agent styles held plain old new (Some stops) is_agent styles_are finished kept plain_is answer own stops_are = record {
+  old = old;
+  styles_are = styles_are;
+  at = record {
+    done = finished;
+    own =
+        ap (λ (a : Sheet). reach (all_features a (author_sheet styles.sheet old)) old edit) (sym is_agent)
+        ∙ ap (λ (author : Sheet). reach (all_features agent author) old edit) (sym (its_author styles styles.sheet old styles_are))
+        ∙ own;
+    kept = kept;
+    plain = sym plain_is ∙ answer;
+  };
+  stops_are = stops_are;
+}

@@ -1,0 +1,41 @@
+use Rattle.std.proofs.Common.{◌∙◌, ℕ, List, ap, arith, length, subst, sym}
+use Rattle.surroundings.specs.declared.told.Told.{Told}
+use Rattle.dirty_walk.specs.declared.kept.Kept.{Kept}
+use Rattle.dirty_walk.specs.Changes.{AreBelow, AreChanges}
+use Rattle.dirty_walk.specs.Evaluations.{all_kept_of}
+use Rattle.dirty_walk.specs.Places.{nothing_known}
+use Rattle.dirty_walk.specs.Plain.{are_plain}
+use Rattle.dirty_walk.proofs.ChangeLemmas.{below-more}
+use Rattle.dirty_walk.proofs.PlaceLemmas.{is_plain_now, renews_now, stands}
+use Rattle.dirty_walk.proofs.places.changes_from_place.Goals as goal
+
+pub caught_from-requires : goal.caught_from-requires
+caught_from-requires g c =
+    let document = c.args.document.now in
+    record { stands = stands document document.agent_is document.styles_are c.args.board.now.held c.args.stops.items c.requires.place }
+
+pub returns-clause-changes : goal.returns-clause-changes
+returns-clause-changes g c =
+    let document = c.args.document.now in
+    let caught = c.in_ok-caught.caught.changes in
+    let told = c.as_slice-told.ensures.items in
+    renews_now document document.agent_is document.styles_are c.args.board.now.held c.args.stops.items c.requires.place caught c.in_ok-caught.ensures.covers c.in_ok-caught.ensures.among
+    (ap are_plain (sym told) ∙ sym c.are_plain.ensures ∙ c.if-not-are_plain.false)
+    c.in_ok-changes.changes.items
+    (subst (λ (records : List (ℕ × Told)). AreChanges c.args.board.now.held (all_kept_of document.styles.now.table nothing_known records) c.in_ok-changes.changes.items) told c.in_ok-changes.ensures.changes)
+    c.in_ok-caught.ensures.count
+
+pub returns-clause-plain : goal.returns-clause-plain
+returns-clause-plain g c =
+    let document = c.args.document.now in
+    is_plain_now document document.agent_is document.styles_are c.args.board.now.held c.args.stops.items c.requires.place c.in_ok-caught.caught.changes c.in_ok-caught.ensures.covers c.in_ok-caught.ensures.among
+    (ap are_plain (sym c.as_slice-told.ensures.items) ∙ sym c.are_plain.ensures ∙ c.if-not-are_plain.false)
+
+pub returns-in_err-reserve-clause-steps : goal.returns-in_err-reserve-clause-steps
+returns-in_err-reserve-clause-steps g c =
+    omega (arith, c.caught_from.ensures.whole, c.in_ok-caught.ensures.count, c.changed_entries.ensures.steps, ap length c.as_slice-told.ensures.items)
+
+pub returns-clause-room : goal.returns-clause-room
+returns-clause-room g c =
+    below-more c.in_ok-room.room c.reserve.new.self.room c.in_ok-changes.changes.items c.in_ok-reserve.ensures.room
+    (subst (λ (items : List (ℕ × Kept)). AreBelow c.in_ok-room.room items) c.as_slice.ensures.value c.in_ok-room.ensures.room)

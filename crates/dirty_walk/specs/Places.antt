@@ -1,0 +1,58 @@
+-- Where what comes to a board by an edit is told by a walk from the edit's place (our own).
+use Rattle.std.specs.Prelude.{◌≡◌, ℕ, true, List, [], Option, None, option_map}
+use Rattle.std.specs.FinMap.{FinMap, get}
+use Rattle.std.specs.Ordering.{nat_cmp}
+use Rattle.forest.specs.Forest.{Forest}
+use Rattle.forest.specs.Keys.{Keyed}
+use Rattle.plain_types.specs.declared.edit.Edit.{Edit}
+use Rattle.plain_types.specs.declared.node.Node.{Node}
+use Rattle.box_eval.specs.Evaluation.{StyledNode}
+use Rattle.box_eval.specs.Starts.{no_starts}
+use Rattle.content_eval.specs.Targets.{Known}
+use Rattle.generated_texts.specs.Documents.{counter_styles}
+use Rattle.generated_texts.specs.References.{kept_at}
+use Rattle.generated_texts.specs.StyleElements.{author_sheet}
+use Rattle.merged_walk.specs.declared.stop.Stop.{Stop}
+use Rattle.merged_walk.specs.Merges.{Merge}
+use Rattle.document_walk.specs.Catching.{Reading}
+use Rattle.edit_merge.specs.EditMerges.{edit_merge, edit_stops, inserted_key}
+use Rattle.style_reach.specs.Reaches.{reach}
+use Rattle.style_reach.specs.declared.extent.Reach.TheVariants.{Own}
+use Rattle.styled_merge.specs.Laws.{looks_beside, style_beside}
+use Rattle.styled_merge.specs.StyledMerges.{styled_merge}
+use Rattle.surroundings.specs.declared.walked.Walked.{Walked}
+use Rattle.dirty_walk.specs.declared.kept.Kept.{Kept}
+use Rattle.dirty_walk.specs.Evaluations.{document_kept}
+use Rattle.dirty_walk.specs.Exchanges.{IsDone}
+use Rattle.dirty_walk.specs.Plain.{is_plain}
+
+-- nothing is known of any element
+abbrev pub nothing_known : Known
+nothing_known = record { counters = λ id. None; characters = λ id. []; flat = λ id part. None }
+
+-- A document has become another by an edit that changes no styles but those of the trees that it puts in, takes out,
+-- moves or addresses; the text of the sheet stays. The first was plain, and this is kept of it.
+pub record IsAtPlace (edit : Edit) (text : List ℕ) (held : FinMap nat_cmp Kept) (old new : Forest (Keyed Node)) : Type 0 where
+  pub done : IsDone edit old new
+  pub own : reach (looks_beside text old) old edit ≡ Own
+  pub kept : (key : ℕ) → get held key ≡ kept_at (document_kept (author_sheet text old) old) key
+  pub plain : is_plain (author_sheet text old) old ≡ true
+
+-- the merge of an edit, with the styles of both documents
+abbrev pub place_merge : Edit → List ℕ → (old new : Forest (Keyed Node)) → Merge StyledNode
+place_merge edit text old new = styled_merge (style_beside text old) (style_beside text new) no_starts no_starts None (edit_merge edit old new)
+
+-- a document has become this one so by some edit, of which these are the stops
+pub record IsSomePlace (text : List ℕ) (held : FinMap nat_cmp Kept) (stops : List Stop) (new : Forest (Keyed Node)) : Type 0 where
+  pub edit : Edit
+  pub old : Forest (Keyed Node)
+  pub at : IsAtPlace edit text held old new
+  pub stops_are : stops ≡ edit_stops edit (inserted_key edit new) old
+
+-- What a walk reads of a document under the sheet of this text, where all starts are 0.
+abbrev pub reading_of : List ℕ → Forest (Keyed Node) → Reading
+reading_of text tree = record { table = counter_styles (author_sheet text tree); style = style_beside text tree; start = no_starts; tree = tree }
+
+-- what is kept of walks
+abbrev pub walked_at : FinMap nat_cmp Kept → ℕ → Option Walked
+walked_at held key = option_map (λ (kept : Kept). kept.walked) (get held key)
