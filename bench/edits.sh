@@ -1,34 +1,42 @@
 #!/usr/bin/env bash
-# The mean time of an edit by `marker edit`, over documents of sections with a heading, a list and a reference each,
-# of 10, 1,000, 10,000 and 100,000 elements: the time of a script of edits and one `show`, less that of the `show`
-# alone, by the number of edits; and how many times as long an edit takes as at the size before. With two programs,
-# also how many times as long the second takes as the first, so that a change can be compared with what was before.
-#   bench/edits.sh [PROGRAM [OTHER]] [ELEMENTS..]      the repository's program where none is named
+# The mean time of an edit by `marker edit`, over documents of sections with a heading, a list and a link each, of 10,
+# 1,000, 10,000 and 100,000 elements: the time of a script of edits and one `show`, less that of the `show` alone, by
+# the number of edits; and how many times as long an edit takes as at the size before. Under the plain sheet no link is
+# a reference, so that an edit is evaluated from its place. With two programs, also how many times as long the second
+# takes as the first, so that a change can be compared with what was before.
+#   bench/edits.sh [--plain] [PROGRAM [OTHER]] [ELEMENTS..]      the repository's program where none is named
 set -eu
 here=$(cd "$(dirname "$0")/.." && pwd)
+sheets=()
+if [ "${1-}" = --plain ]; then
+  sheets=(--plain)
+  shift
+fi
 programs=()
 while [ $# -gt 0 ] && [[ ! $1 =~ ^[0-9]+$ ]]; do
   programs+=("$(realpath "$1")")
   shift
 done
 if [ ${#programs[@]} -eq 0 ]; then
-  "$here/marker" dump "$here/examples/list.xhtml" "$here/examples/empty.css" >/dev/null # builds it, if need be
+  "$here/marker" --build
   programs=("$here/crates/marker/out/marker")
 fi
 work=$(mktemp -d)
 trap 'rm -rf "$work"' EXIT
 cd "$work"
-PYTHONPATH=$here/bench python3 - "${programs[@]}" "$@" <<'PY'
+PYTHONPATH=$here/bench python3 - "${sheets[@]}" "${programs[@]}" "$@" <<'PY'
 import sys
 from seconds import seconds
 
-programs = [word for word in sys.argv[1:] if not word.isdigit()]
+programs = [word for word in sys.argv[1:] if not word.isdigit() and word != "--plain"]
 sizes = [int(word) for word in sys.argv[1:] if word.isdigit()] or [10, 1_000, 10_000, 100_000]
-SHEET = (
+PLAIN = (
     'body{counter-reset:s}section{counter-increment:s;counter-reset:i}li{counter-increment:i list-item}'
     'h2::before{content:counter(s)". "}li::before{content:counters(i,".")}'
-    'a::after{content:"("target-counter(attr(href),s)")"}'
 )
+SHEETS = {"plain": PLAIN}
+if "--plain" not in sys.argv:
+    SHEETS["with references"] = PLAIN + 'a::after{content:"("target-counter(attr(href),s)")"}'
 
 
 def document(elements):
@@ -67,19 +75,27 @@ def an_edit(program, count):
     return max(seconds(*words, "edits.txt", runs=runs) - seconds(*words, "none.txt"), 0.001) / count
 
 
-put("sheet.css", SHEET)
-put("none.txt", "show\n")
-before = None
-for size in sizes:
-    count = max(5, min(10_000, 500_000 // size))
-    put("document.xhtml", document(size))
+def measure(kind, size, before):
+    """Says what an edit takes at this size, and gives it; `before` is what it took at the size before."""
+    # An edit that evaluates the whole document takes the longer the larger that is, and the other program may do so.
+    is_from_place = kind == "plain" and len(programs) == 1
+    count = 10_000 if is_from_place else max(5, min(10_000, 500_000 // size))
     put("edits.txt", edits(size, count))
     taken, *others = [an_edit(program, count) for program in programs]
-    line = f"{size} elements, {count} edits: {taken * 1e6:.0f} µs an edit"
-    if before is not None:
-        line += f", {taken / before[1]:.1f} times that at {before[0]} elements"
+    line = f"{kind}, {size} elements, {count} edits: {taken * 1e6:.0f} µs an edit"
+    if before:
+        line += f", {taken / before:.2f} times that at the size before"
     for other in others:
         line += f"; the other program {other * 1e6:.0f} µs, {other / taken:.2f} times as long"
     print(line, flush=True)
-    before = size, taken
+    return taken
+
+
+put("none.txt", "show\n")
+before = {}
+for size in sizes:
+    put("document.xhtml", document(size))
+    for kind, sheet in SHEETS.items():
+        put("sheet.css", sheet)
+        before[kind] = measure(kind, size, before.get(kind))
 PY

@@ -12,7 +12,7 @@ while [ $# -gt 0 ] && [[ ! $1 =~ ^[0-9]+$ ]]; do
   shift
 done
 if [ ${#programs[@]} -eq 0 ]; then
-  "$here/marker" dump "$here/examples/list.xhtml" "$here/examples/empty.css" >/dev/null # builds it, if need be
+  "$here/marker" --build
   programs=("$here/crates/marker/out/marker")
 fi
 work=$(mktemp -d)

@@ -8,7 +8,7 @@
 set -eu
 here=$(cd "$(dirname "$0")/.." && pwd)
 most=${1:-40}
-"$here/marker" dump "$here/examples/list.xhtml" "$here/examples/empty.css" >/dev/null # builds it, if need be
+"$here/marker" --build
 work=$(mktemp -d)
 trap 'rm -rf "$work"' EXIT
 cd "$work"

@@ -4,7 +4,7 @@
 #   bench/references.sh [REFERENCES]
 set -eu
 here=$(cd "$(dirname "$0")/.." && pwd)
-"$here/marker" dump "$here/examples/list.xhtml" "$here/examples/empty.css" >/dev/null # builds it, if need be
+"$here/marker" --build
 work=$(mktemp -d)
 trap 'rm -rf "$work"' EXIT
 cd "$work"

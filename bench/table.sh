@@ -17,7 +17,7 @@ cat >styles.css <<'CSS'
 @counter-style additive { system: additive; additive-symbols: 50 l, 40 xl, 10 x, 9 ix, 5 v, 4 iv, 1 i }
 @counter-style padded { system: extends decimal; pad: 12 "0" }
 CSS
-"$here/marker" table styles.css decimal 0 0 >/dev/null 2>&1 # builds it, if need be
+"$here/marker" --build
 PYTHONPATH=$here/bench python3 - "$here/crates/marker/out/marker" <<'PY'
 import sys
 from seconds import seconds, ratio
