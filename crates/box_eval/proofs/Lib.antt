@@ -14,4 +14,4 @@ pub mod ValueLemmas
 mod NeededStarts
 mod BoxChangeLemmas
 pub mod StartLemmas
-mod AskingLemmas
+pub mod AskingLemmas

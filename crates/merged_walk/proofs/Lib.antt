@@ -14,16 +14,16 @@ pub mod ToldLaws
 mod SettleLaws
 mod EditLaws
 mod PutLaws
-mod WayStops
+pub mod WayStops
 pub mod WayLaws
 pub mod JoinWords
 mod JoinLaws
 mod MoveParts
 mod MoveLaws
 mod RoomLaws
-mod TurnedMerges
-mod WayOrder
-mod TurnedStops
+pub mod TurnedMerges
+pub mod WayOrder
+pub mod TurnedStops
 pub mod InputLaws
 pub mod WorkLaws
 pub mod LawLemmas
