@@ -35,5 +35,3 @@ mod piece_end;
 mod pieces;
 pub mod rules;
 pub mod sheet;
-#[cfg(test)]
-mod tests;

@@ -23,8 +23,6 @@ pub mod lexer;
 pub mod numbers;
 pub mod sheet_text;
 mod strings;
-#[cfg(test)]
-mod tests;
 pub mod token;
 pub mod token_reading;
 mod urls;

@@ -29,5 +29,3 @@ mod parts;
 mod quotes;
 mod styles;
 mod targets;
-#[cfg(test)]
-mod tests;

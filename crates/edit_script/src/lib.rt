@@ -38,8 +38,6 @@ mod operands;
 mod path;
 mod script;
 mod sections;
-#[cfg(test)]
-mod tests;
 mod texts;
 pub mod words;
 

@@ -26,23 +26,11 @@
 
 pub mod agent_sheet;
 mod applicable;
-#[cfg(test)]
-mod attribute_rows;
 mod candidate;
 mod defaulting;
-#[cfg(test)]
-mod documents;
-#[cfg(test)]
-mod hint_rows;
 pub mod hints;
 mod property;
 mod rank;
-#[cfg(test)]
-mod shown;
 pub mod style_attributes;
 pub mod style_of;
-#[cfg(test)]
-mod style_rows;
-#[cfg(test)]
-mod styling;
 mod texts;

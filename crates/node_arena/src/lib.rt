@@ -47,8 +47,6 @@ mod attrs;
 mod change;
 mod children;
 mod copies;
-#[cfg(test)]
-mod edit_tests;
 mod edits;
 mod entry;
 pub mod laws;
@@ -56,5 +54,3 @@ pub mod place_fault;
 pub mod prepared;
 mod preparing;
 pub mod reversal;
-#[cfg(test)]
-mod tests;

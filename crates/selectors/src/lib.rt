@@ -32,5 +32,3 @@ mod pseudo_classes;
 pub mod selector_list;
 mod simples;
 pub mod specificity;
-#[cfg(test)]
-mod tests;

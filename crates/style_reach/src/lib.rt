@@ -36,5 +36,3 @@ pub mod extent;
 pub mod laws;
 pub mod reach;
 mod style_elements;
-#[cfg(test)]
-mod tests;

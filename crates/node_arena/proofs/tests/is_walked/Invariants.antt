@@ -1,5 +1,0 @@
-use Rattle.forest.specs.Spots.{IsLive}
-use Rattle.node_arena.proofs.tests.is_walked.Given as goal
-
-abbrev pub invariant-walk : goal.invariant-walk
-invariant-walk l = IsLive l.arena.tree l.at

@@ -1,0 +1,5 @@
+use Rattle.forest.specs.Spots.{IsLive}
+use Rattle.tree_rows.proofs.edit_rows.has_shape.Given as goal
+
+abbrev pub invariant-walk : goal.invariant-walk
+invariant-walk l = IsLive l.arena.tree l.at
