@@ -6,7 +6,8 @@ use Rattle.forest.specs.Spots.{IsLink, IsLive, first_key, on_link}
 use Rattle.forest.proofs.SpotLaws.{on_root, root_link}
 use Rattle.plain_types.specs.declared.node.Node.{Node}
 use Rattle.node_arena.specs.Nodes.{node_name}
-use Rattle.box_eval.specs.Evaluation.{StyledNode, styled_trees}
+use Rattle.box_eval.specs.declared.change.Change.{Change}
+use Rattle.box_eval.specs.Evaluation.{StyledNode, all_changes, styled_trees}
 use Rattle.merged_walk.specs.Entries.{AreAmong, Covers}
 use Rattle.merged_walk.specs.Evaluators as evaluators
 use Rattle.merged_walk.specs.Evaluators.{AllFit, Evaluator, IsSound}
@@ -22,22 +23,24 @@ use Rattle.surroundings.specs.StyledEvaluators.{is_element, root_surroundings, s
 use Rattle.surroundings.proofs.Fits.{fits_document}
 use Rattle.document_walk.specs.declared.catching.Catching.{Catching}
 use Rattle.document_walk.specs.declared.catching.OpenElement.{OpenElement}
-use Rattle.document_walk.specs.Catching.{CanClose, Reading, document_of, frames_of, stops_left}
+use Rattle.document_walk.specs.Catching.{CanClose, Reading, document_of, frames_of, stops_left, with_changes}
 use Rattle.document_walk.specs.CatchingUp.{CanCatchUp, budget, told_all}
 use Rattle.document_walk.specs.Elements.{element_count, one_where}
-use Rattle.document_walk.specs.Standing.{Handing, IsAt, IsWhole, OpenNode, Reaches, Stands, elements_behind, elements_in, elements_left, frame_of, spared_for, state_at}
+use Rattle.document_walk.specs.Standing.{Handing, IsAt, IsWhole, OpenNode, Reaches, Stands, changes_left, elements_behind, elements_in, elements_left, frame_of, spared_for, state_at}
+use Rattle.document_walk.specs.TreeChanges.{tree_changes}
+use Rattle.document_walk.proofs.ChangeLemmas.{document_changes, with-none}
 use Rattle.document_walk.proofs.ChoiceLemmas.{closes_as}
 use Rattle.document_walk.proofs.ElementLemmas.{weigh-without_keys}
-use Rattle.document_walk.proofs.LevelLemmas.{styled_distinct}
+use Rattle.document_walk.proofs.StyledKeys.{styled_distinct}
 use Rattle.document_walk.proofs.NodeLemmas.{styled_first}
 
 -- a walk that began with so many steps stands where it can, and has told no more elements and taken no more steps than the
 -- document's elements allow
-pub record IsUnderWay (from : Reading) (kept : ℕ → Option Walked) (merge : Merge StyledNode) (held : ℕ → Option Told) (first : ℕ) (walk : Catching) (now : ℕ) : Type 0 where
+pub record IsUnderWay (from : Reading) (kept : ℕ → Option Walked) (merge : Merge StyledNode) (held : ℕ → Option Told) (first : ℕ) (before : Option (List Change)) (walk : Catching) (now : ℕ) : Type 0 where
   pub at : IsAt from kept held (told_all from (document_of from)) (first + budget from merge) walk now
   pub told : length walk.told + (elements_left from walk + length (frames_of walk)) ≤ element_count (without_keys from.tree)
   pub few : now + spared_for from walk ≤ first + 4 * element_count (without_keys from.tree)
-  pub whole : merge ≡ all_come (document_of from) → IsWhole from (told_all from (document_of from)) (first + 3 * element_count (without_keys from.tree)) walk now at.above at.here
+  pub whole : merge ≡ all_come (document_of from) → IsWhole from (told_all from (document_of from)) (with_changes before (all_changes from.table (document_of from))) (first + 3 * element_count (without_keys from.tree)) walk now at.above at.here
   pub found : IsAt from kept held (told_all from (document_of from)) (0 + budget from merge) walk 0
 
 module _ (from : Reading) (kept : ℕ → Option Walked) where
@@ -89,7 +92,7 @@ module _ (from : Reading) (kept : ℕ → Option Walked) where
         let open_count : length (frames_of walk) ≡ 0 = ap length frames in
         omega (arith, on, count, behind, open_count)
 
-    begins_whole : merge ≡ all_come (document_of from) → IsWhole from (told_all from (document_of from)) (steps + 3 * element_count (without_keys from.tree)) walk steps [] merge
+    begins_whole : merge ≡ all_come (document_of from) → IsWhole from (told_all from (document_of from)) (with_changes walk.changes (all_changes from.table (document_of from))) (steps + 3 * element_count (without_keys from.tree)) walk steps [] merge
     begins_whole come =
         let open_count : length (frames_of walk) ≡ 0 = ap length frames in
         record {
@@ -98,11 +101,14 @@ module _ (from : Reading) (kept : ℕ → Option Walked) where
           told =
               ap (λ t. t ++ news e [] walk.around merge) told ∙ ap (λ i. news e [] i merge) around
               ∙ append-nil (evaluators.told_all e root_surroundings (new_of merge)) ∙ ap (evaluators.told_all e root_surroundings) can.new;
+          changes =
+              ap (λ i. with_changes walk.changes (changes_left from [] i merge)) around
+              ∙ ap (with_changes walk.changes) (append-nil (tree_changes from.table root_surroundings (new_of merge)) ∙ ap (tree_changes from.table root_surroundings) can.new ∙ document_changes from.table (document_of from) keys);
           few = omega (arith, all_left, open_count);
         }
 
   pub begins_way : (distinct : HasDistinctKeys from.tree) (walk : Catching) (merge : Merge StyledNode) (held : ℕ → Option Told) (steps : ℕ) → CanCatchUp from kept (stops_left walk) merge held
-      → frames_of walk ≡ [] → walk.link ≡ first_key from.tree → walk.around ≡ root_surroundings → walk.told ≡ [] → IsUnderWay from kept merge held steps walk steps
+      → frames_of walk ≡ [] → walk.link ≡ first_key from.tree → walk.around ≡ root_surroundings → walk.told ≡ [] → IsUnderWay from kept merge held steps walk.changes walk steps
   begins_way distinct walk merge held steps can frames link around told =
       let none : length walk.told ≡ 0 = ap length told in
       let open_count : length (frames_of walk) ≡ 0 = ap length frames in
@@ -116,12 +122,12 @@ module _ (from : Reading) (kept : ℕ → Option Walked) where
       }
 
   -- the way goes on
-  pub goes_way : (merge : Merge StyledNode) (held : ℕ → Option Told) (first : ℕ) (walk new : Catching) (steps more : ℕ) (way : IsUnderWay from kept merge held first walk steps)
+  pub goes_way : (merge : Merge StyledNode) (held : ℕ → Option Told) (first : ℕ) (before : Option (List Change)) (walk new : Catching) (steps more : ℕ) (way : IsUnderWay from kept merge held first before walk steps)
       → Reaches from kept held (told_all from (document_of from)) (first + budget from merge) walk steps way.at new more
       → Reaches from kept held (told_all from (document_of from)) (0 + budget from merge) walk 0 way.found new 0
-      → IsUnderWay from kept merge held first new more
-  goes_way merge held first walk new steps more way next found =
-      record { at = next.0; told = omega (arith, way.told, next.1.1.told); few = omega (arith, way.few, next.1.1.steps); whole = λ come. next.1.2 (first + 3 * element_count (without_keys from.tree)) (way.whole come); found = found.0 }
+      → IsUnderWay from kept merge held first before new more
+  goes_way merge held first before walk new steps more way next found =
+      record { at = next.0; told = omega (arith, way.told, next.1.1.told); few = omega (arith, way.few, next.1.1.steps); whole = λ come. next.1.2 (with_changes before (all_changes from.table (document_of from))) (first + 3 * element_count (without_keys from.tree)) (way.whole come); found = found.0 }
 
   module _ (held : ℕ → Option Told) (all : List (ℕ × Told)) (most : ℕ) (walk : Catching) (steps : ℕ) (at : IsAt from kept held all most walk steps) where
     pub within : steps + length walk.told ≤ most
@@ -138,11 +144,18 @@ module _ (from : Reading) (kept : ℕ → Option Walked) where
     covers none end = covers-ended e held all most (state_at walk steps at.above at.was_handed at.here) (record { above = none_open at.above (sym at.frames ∙ none); here = end }) at.walks
 
     -- where all comes, all is told in its order
-    pub all_told : frames_of walk ≡ [] → at.here ≡ End → (limit : ℕ) → IsWhole from all limit walk steps at.above at.here → walk.told ≡ all
-    all_told none end limit w =
+    pub all_told : frames_of walk ≡ [] → at.here ≡ End → (collected : Option (List Change)) (limit : ℕ) → IsWhole from all collected limit walk steps at.above at.here → walk.told ≡ all
+    all_told none end collected limit w =
         sym (append-nil walk.told)
         ∙ ap (λ bs. walk.told ++ news e bs walk.around End) (sym (none_open at.above (sym at.frames ∙ none)))
         ∙ ap (λ m. walk.told ++ news e at.above walk.around m) (sym end) ∙ w.told
+
+    -- and all is collected
+    pub all_collected : frames_of walk ≡ [] → at.here ≡ End → (collected : Option (List Change)) (limit : ℕ) → IsWhole from all collected limit walk steps at.above at.here → walk.changes ≡ collected
+    all_collected none end collected limit w =
+        sym (with-none walk.changes)
+        ∙ ap (λ bs. with_changes walk.changes (changes_left from bs walk.around End)) (sym (none_open at.above (sym at.frames ∙ none)))
+        ∙ ap (λ m. with_changes walk.changes (changes_left from at.above walk.around m)) (sym end) ∙ w.changes
 
     -- The innermost open element may be left.
 
@@ -209,12 +222,12 @@ told_few told more count h = omega (arith, h)
 pub whole_few : (steps more most : ℕ) → steps + more ≤ most → steps ≤ most
 whole_few steps more most h = omega (arith, h)
 
-pub leaving_limit : (from : Reading) (all : List (ℕ × Told)) (limit now before : ℕ) (walk : Catching) (above : List OpenNode) (here : Merge StyledNode) → now ≤ before + 1 → 1 ≤ length (frames_of walk)
-    → IsWhole from all limit walk before above here → now ≤ limit
-leaving_limit from all limit now before walk above here h some w = omega (arith, h, some, w.few)
+pub leaving_limit : (from : Reading) (all : List (ℕ × Told)) (collected : Option (List Change)) (limit now before : ℕ) (walk : Catching) (above : List OpenNode) (here : Merge StyledNode) → now ≤ before + 1 → 1 ≤ length (frames_of walk)
+    → IsWhole from all collected limit walk before above here → now ≤ limit
+leaving_limit from all collected limit now before walk above here h some w = omega (arith, h, some, w.few)
 
-pub whole_limit : (from : Reading) (all : List (ℕ × Told)) (limit now : ℕ) (walk : Catching) (above : List OpenNode) (here : Merge StyledNode) → IsWhole from all limit walk now above here → now ≤ limit
-whole_limit from all limit now walk above here w = omega (arith, w.few)
+pub whole_limit : (from : Reading) (all : List (ℕ × Told)) (collected : Option (List Change)) (limit now : ℕ) (walk : Catching) (above : List OpenNode) (here : Merge StyledNode) → IsWhole from all collected limit walk now above here → now ≤ limit
+whole_limit from all collected limit now walk above here w = omega (arith, w.few)
 
 pub counted_alone : (count most : ℕ) → 0 + count ≤ most → count ≤ most
 counted_alone count most h = omega (arith, h)

@@ -221,7 +221,7 @@ module _ (from : Reading) (kept : ℕ → Option Walked) (held : ℕ → Option 
     pub anew_entering : (key more : ℕ) → stop.way ≡ Anew → walk.link ≡ Some key → is_some (name_of from.tree key) ≡ true → more ≤ steps + 2 → Enters true later more
     anew_entering key more way link named few = anew_cases key more way link named few place
 
-    module _ (new : Catching) (frames : frames_of new ≡ frames_of walk) (around : new.around ≡ walk.around) (told : new.told ≡ walk.told) (stops : stops_left new ≡ later) where
+    module _ (new : Catching) (frames : frames_of new ≡ frames_of walk) (around : new.around ≡ walk.around) (told : new.told ≡ walk.told) (changes : new.changes ≡ walk.changes) (stops : stops_left new ≡ later) where
       past_cases : stop.way ≡ Past → new.link ≡ walk.link → AtStop is_element at.above at.here stop → Goes new steps
       past_cases way link (at_kept n c r is some s) = absurd (let clash : Past ≡ Inside = sym way ∙ ap (λ (s : Stop). s.way) s in cc)
       past_cases way link (at_turned was n c r is s) = absurd (let clash : Past ≡ Inside = sym way ∙ ap (λ (s : Stop). s.way) s in cc)
@@ -236,7 +236,7 @@ module _ (from : Reading) (kept : ℕ → Option Walked) (held : ℕ → Option 
       text_cases key way link next named (at_turned was n c r is s) = absurd (let clash : Anew ≡ Inside = sym way ∙ ap (λ (s : Stop). s.way) s in cc)
       text_cases key way link next named (at_gone n c r is s) = absurd (let clash : Anew ≡ Past = sym way ∙ ap (λ (s : Stop). s.way) s in cc)
       text_cases key way link next named (at_come n c r is s) =
-          passes_come from kept held all most sound walk steps at distinct new key later link frames around told stops next named n c r is (taken_fresh n c r s)
+          passes_come from kept held all most sound walk steps at distinct new key later link frames around told changes stops next named n c r is (taken_fresh n c r s)
 
       pub text_turn : (key : ℕ) → stop.way ≡ Anew → walk.link ≡ Some key → new.link ≡ next_sibling_of from.tree key → is_some (name_of from.tree key) ≡ false → Goes new steps
       text_turn key way link next named = text_cases key way link next named place
@@ -303,16 +303,16 @@ module _ (from : Reading) (kept : ℕ → Option Walked) (held : ℕ → Option 
     come_taken n c r fresh = sym (ap (λ b. cond (not b) (stop_at is_element (length at.above) Anew (Come n c r) ∷ stops_left walk) (stops_left walk)) fresh)
 
     module _ (key : ℕ) (link : walk.link ≡ Some key) where
-      passes_cases : (new : Catching) → frames_of new ≡ frames_of walk → new.around ≡ walk.around → new.told ≡ walk.told → stops_left new ≡ stops_left walk → new.link ≡ next_sibling_of from.tree key
+      passes_cases : (new : Catching) → frames_of new ≡ frames_of walk → new.around ≡ walk.around → new.told ≡ walk.told → new.changes ≡ walk.changes → stops_left new ≡ stops_left walk → new.link ≡ next_sibling_of from.tree key
           → is_some (name_of from.tree key) ≡ false → NodeIs → Goes new steps
-      passes_cases new frames around told stops next named (kept_is n c r is none stays) =
-          passes_kept from kept held all most sound walk steps at distinct new key (stops_left walk) link frames around told stops next named n c r is refl
-      passes_cases new frames around told stops next named (come_is n c r is fresh) =
-          passes_come from kept held all most sound walk steps at distinct new key (stops_left walk) link frames around told stops next named n c r is (come_taken n c r fresh)
+      passes_cases new frames around told changes stops next named (kept_is n c r is none stays) =
+          passes_kept from kept held all most sound walk steps at distinct new key (stops_left walk) link frames around told changes stops next named n c r is refl
+      passes_cases new frames around told changes stops next named (come_is n c r is fresh) =
+          passes_come from kept held all most sound walk steps at distinct new key (stops_left walk) link frames around told changes stops next named n c r is (come_taken n c r fresh)
 
-      pub passes_turn : (new : Catching) → frames_of new ≡ frames_of walk → new.around ≡ walk.around → new.told ≡ walk.told → stops_left new ≡ stops_left walk → new.link ≡ next_sibling_of from.tree key
+      pub passes_turn : (new : Catching) → frames_of new ≡ frames_of walk → new.around ≡ walk.around → new.told ≡ walk.told → new.changes ≡ walk.changes → stops_left new ≡ stops_left walk → new.link ≡ next_sibling_of from.tree key
           → is_some (name_of from.tree key) ≡ false → Goes new steps
-      passes_turn new frames around told stops next named = passes_cases new frames around told stops next named (node_is key link)
+      passes_turn new frames around told changes stops next named = passes_cases new frames around told changes stops next named (node_is key link)
 
       module _ (named : is_some (name_of from.tree key) ≡ true) where
         element_is : (n : Keyed StyledNode) (c r : Forest (Keyed StyledNode)) → new_of at.here ≡ Tree n c r → is_element n.label ≡ true

@@ -20,7 +20,7 @@ use Rattle.surroundings.specs.declared.surroundings.Surroundings.{Surroundings}
 use Rattle.surroundings.specs.Surroundings.{handed_behind, handed_by, handed_inside, surroundings_of}
 use Rattle.surroundings.specs.StyledEvaluators.{asks_of, inside_node, is_element, past_styled, said_of}
 use Rattle.surroundings.proofs.Ties.{inside-entry}
-use Rattle.document_walk.specs.declared.frame.Opened.{Opened}
+use Rattle.document_walk.specs.declared.opened.Opened.{Opened}
 use Rattle.document_walk.specs.Catching.{Reading, inside_opened, opened_at, past_by, said_by, style_above}
 use Rattle.document_walk.specs.Standing.{AreBoxed, Handing, OpenNode, attrs_in, frame_of, opened_as, opened_of, parent_style, style_in}
 use Rattle.document_walk.specs.Walking.{asks_before, closing_with, opened_in, told_opened}
@@ -96,7 +96,7 @@ module _ (from : Reading) where
 
   -- What it hands to its children.
 
-  abbrev made_in : ℕ → Styled → Surroundings → Opened
+  abbrev pub made_in : ℕ → Styled → Surroundings → Opened
   made_in key element around = record {
     parent = around.parent;
     depth = around.depth;

@@ -1,12 +1,10 @@
 -- One element, as a walk comes to it and leaves it.
 use Rattle.std.proofs.Common.{◌≡◌, ◌∷◌, ◌++◌, ◌==◌, ℕ, ℤ, List, [], Bool, true, false, cond, Option, Some, None, refl, sym, ap, subst, ◌∙◌}
-use Rattle.std.proofs.lemmas.Bool.{and_right}
 use Rattle.std.specs.List.{list_any}
 use Rattle.forest.specs.Forest.{Forest}
 use Rattle.forest.specs.Keys.{Keyed}
 use Rattle.plain_types.specs.declared.attr.Attr.{Attr}
 use Rattle.plain_types.specs.declared.box_id.BoxId.{BoxId}
-use Rattle.plain_types.specs.declared.box_kind.BoxKind.{BoxKind}
 use Rattle.plain_types.specs.declared.box_kind.BoxKind.TheVariants as kind
 use Rattle.plain_types.specs.declared.counter.Counter.{Counter}
 use Rattle.plain_types.specs.declared.counter_style.CounterStyle.{CounterStyle}
@@ -14,19 +12,19 @@ use Rattle.plain_types.specs.declared.node.Node.{Node}
 use Rattle.plain_types.specs.declared.style.ElementStyle.{ElementStyle}
 use Rattle.plain_types.specs.declared.style.Style.{Style}
 use Rattle.node_arena.specs.Nodes.{attrs_of}
-use Rattle.counter_sets.specs.Sets.{is_by_peer, is_same_box, is_same_kind}
+use Rattle.counter_sets.specs.Sets.{is_by_peer, is_same_box}
 use Rattle.box_eval.specs.declared.entry.Entry.{Entry}
 use Rattle.box_eval.specs.declared.inputs.Inputs.{Inputs}
 use Rattle.box_eval.specs.declared.inputs.Start.{Start}
 use Rattle.box_eval.specs.Boxes.{box_of, generates_box, has_marker, has_pseudo_box}
 use Rattle.box_eval.specs.Elements.{Handed, by_parent, entry_of, handed_in, styled_by}
 use Rattle.box_eval.specs.Evaluation.{element_starts}
-use Rattle.box_eval.specs.Scopes.{AreNew, first_boxes, last_boxes}
-use Rattle.box_eval.proofs.ListLemmas.{each_imp, or_none}
-use Rattle.document_walk.specs.declared.frame.Opened.{Opened}
+use Rattle.box_eval.specs.Scopes.{AreNew, first_boxes}
+use Rattle.box_eval.proofs.ListLemmas.{each_imp}
+use Rattle.document_walk.specs.declared.opened.Opened.{Opened}
 use Rattle.surroundings.specs.declared.surroundings.Surroundings.{Surroundings}
-use Rattle.surroundings.specs.Surroundings.{IsByOther, handed_by, inputs_from}
-use Rattle.document_walk.specs.Walking.{HandsOn, IsByNoAfter, is_after_box, opened_in, opened_with}
+use Rattle.surroundings.specs.Surroundings.{HandsOn, IsByOther, handed_by, inputs_from}
+use Rattle.document_walk.specs.Walking.{opened_in, opened_with}
 
 -- What its boxes did not create.
 
@@ -36,33 +34,14 @@ by_no_first creator key true false e = rw e refl
 by_no_first creator key false true e = rw e refl
 by_no_first creator key false false e = rw e refl
 
-not_after : (which : BoxKind) → is_after_box which ≡ false → is_same_kind which kind.After ≡ false
-not_after kind.Element e = refl
-not_after kind.Marker e = refl
-not_after kind.Before e = refl
-not_after kind.After e = absurd (cc)
-
-by_no_last : (creator : BoxId) (key : ℕ) (after : Bool) → is_after_box creator.kind ≡ false → list_any (is_same_box creator) (cond after (box_of key kind.After ∷ []) []) ≡ false
-by_no_last creator key true e = or_none (is_same_box creator (box_of key kind.After)) false (and_right (creator.key == key) _ (not_after creator.kind e)) refl
-by_no_last creator key false e = refl
-
 module _ (key : ℕ) (starts : List Start) (around : Surroundings) (style : ElementStyle) where
-  pub new_first : (inputs : Inputs) → inputs ≡ inputs_from key starts around → HandsOn (IsByOther key) (handed_by around) → AreNew (first_boxes inputs.key style) inputs
+  pub new_first : (inputs : Inputs) → inputs ≡ inputs_from key starts around → HandsOn (IsByOther key) around → AreNew (first_boxes inputs.key style) inputs
   new_first inputs is others =
       let boxes = first_boxes key style in
       let none : (counter : Counter) → IsByOther key counter → is_by_peer boxes counter ≡ false = λ counter e. by_no_first counter.creator key (has_marker style) (has_pseudo_box style.before) e in
       subst (λ (inputs : Inputs). AreNew (first_boxes inputs.key style) inputs) (sym is) (record {
         parent = each_imp (IsByOther key) (λ counter. is_by_peer boxes counter ≡ false) none around.parent others.parent;
         sibling = each_imp (IsByOther key) (λ counter. is_by_peer boxes counter ≡ false) none _ others.sibling;
-      })
-
-  pub new_last : (inputs : Inputs) → inputs ≡ inputs_from key starts around → HandsOn IsByNoAfter (handed_by around) → AreNew (last_boxes inputs.key style) inputs
-  new_last inputs is others =
-      let boxes = last_boxes key style in
-      let none : (counter : Counter) → IsByNoAfter counter → is_by_peer boxes counter ≡ false = λ counter e. by_no_last counter.creator key (has_pseudo_box style.after) e in
-      subst (λ (inputs : Inputs). AreNew (last_boxes inputs.key style) inputs) (sym is) (record {
-        parent = each_imp IsByNoAfter (λ counter. is_by_peer boxes counter ≡ false) none around.parent others.parent;
-        sibling = each_imp IsByNoAfter (λ counter. is_by_peer boxes counter ≡ false) none _ others.sibling;
       })
 
 -- Whether it has a box.

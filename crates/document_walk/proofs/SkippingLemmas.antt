@@ -135,7 +135,7 @@ module _ (from : Reading) where
       spare = spares-skipping (state_at walk steps at.above at.was_handed at.here) n c r there there (more + length walk.told) is element none (omega (arith, few))
 
       pub skips-paid : Pays from kept held all most sound walk steps at more
-      skips-paid = paid from kept held all most sound walk steps at next more skip spare refl (λ limit w. absurd (not_come at.here (ap comes is) w.come))
+      skips-paid = paid from kept held all most sound walk steps at next more skip spare refl (λ collected limit w. absurd (not_come at.here (ap comes is) w.come))
 
       module _ (distinct : HasDistinctKeys from.tree) (new : Catching) (h : HasSkipped kept walk new) where
         skips_from : (bs : List OpenNode) → at.above ≡ bs → Reaches from kept held all most walk steps at new more
@@ -169,7 +169,7 @@ module _ (from : Reading) where
               leaves = leaves_from (Kept n c r) (subst (HasLeaves is_element) is at.leaves);
               stands = at.stands;
               root = subst (λ bs. IsRootLed bs (from_place (Kept n c r))) (sym above) (subst (λ bs. IsRootLed bs at.here) above at.root);
-            }) spare (λ spared limit w. absurd (not_come at.here (ap comes is) w.come))
+            }) spare (λ spared collected limit w. absurd (not_come at.here (ap comes is) w.come))
 
         pub skips : Reaches from kept held all most walk steps at new more
         skips = skips_from at.above refl

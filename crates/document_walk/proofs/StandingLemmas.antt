@@ -8,7 +8,8 @@ use Rattle.forest.specs.Keys.{Keyed, HasDistinctKeys}
 use Rattle.forest.specs.Spots.{IsLink, IsLive, after_of, children_of, first_key, next_sibling_of, on_link}
 use Rattle.forest.proofs.SpotLaws.{on_first, on_next}
 use Rattle.node_arena.specs.Nodes.{name_of, node_name}
-use Rattle.box_eval.specs.Evaluation.{StyledNode, styled_trees}
+use Rattle.box_eval.specs.declared.change.Change.{Change}
+use Rattle.box_eval.specs.Evaluation.{StyledNode, changes_in, styled_trees}
 use Rattle.merged_walk.specs.declared.stop.Stop.{Stop}
 use Rattle.merged_walk.specs.Evaluators.{Evaluator, IsSound, told}
 use Rattle.merged_walk.specs.Merges.{Merge, End, Kept, Turned, Gone, Come, all_come, new_of}
@@ -22,12 +23,14 @@ use Rattle.merged_walk.proofs.WalkLaws.{goes_on, spent-within}
 use Rattle.surroundings.specs.declared.told.Told.{Told}
 use Rattle.surroundings.specs.declared.walked.Walked.{Walked}
 use Rattle.surroundings.specs.MergedLevels.{AreLeaves, HasLeaves}
-use Rattle.surroundings.specs.StyledEvaluators.{is_element, kept_of, past_styled, said_of, styled_asks, styled_evaluator}
+use Rattle.surroundings.specs.StyledEvaluators.{inside_node, is_element, kept_of, past_styled, said_of, styled_asks, styled_evaluator}
 use Rattle.document_walk.specs.declared.catching.Catching.{Catching}
 use Rattle.document_walk.specs.declared.catching.OpenElement.{OpenElement}
-use Rattle.document_walk.specs.Catching.{HasEntered, HasLeft, Reading, frames_of, inside_opened, opened_at, past_by, stops_left, told_by}
-use Rattle.document_walk.specs.Standing.{AllCome, AreBoxed, Handing, IsAt, IsRootLed, IsWhole, OpenNode, Reaches, Spares, Stands, elements_behind, elements_in, elements_left, frame_of, left_frames, left_of, opened_of, parent_style, spared_for, state_at, style_in}
-use Rattle.document_walk.specs.Walking.{asks_before}
+use Rattle.document_walk.specs.Catching.{HasEntered, HasLeft, Reading, frames_of, inside_opened, opened_at, past_by, said_by, stops_left, told_by, with_changes}
+use Rattle.document_walk.specs.Standing.{AllCome, AreBoxed, Handing, IsAt, IsRootLed, IsWhole, OpenNode, Reaches, Spares, Stands, changes_left, elements_behind, elements_in, elements_left, frame_of, left_frames, left_of, opened_of, parent_style, spared_for, state_at, style_in}
+use Rattle.document_walk.specs.TreeChanges.{changes_after_children, changes_before_children}
+use Rattle.document_walk.specs.Walking.{asks_before, changes_before}
+use Rattle.document_walk.proofs.ChangeLemmas.{changes_entered, changes_opened, changes_passed, with-more}
 use Rattle.document_walk.proofs.SparingLemmas.{Sparing, behind_is, behind_open, elements, elements-after, elements_of, one_longer, same_elements, spares-leaving, spares-passing, styled_elements}
 use Rattle.document_walk.proofs.WholeLemmas.{come_after, comes, news_entered, news_left, news_passed, not_come}
 use Rattle.document_walk.proofs.NodeLemmas.{Here, boxed_as, boxed_inside, boxed_past, child_first, here_is, inside_is, is_left, next_first, opens_at, style_down, styled_size}
@@ -126,7 +129,7 @@ module _ (from : Reading) where
 
       -- a turn leads there
       pub arrives : (new : Catching) (more : ℕ) (next : State StyledNode Told Handing) → WalkTurn e state next → Arrives new more next → Sparing state next
-          → (Spares from walk steps new more → (limit : ℕ) → IsWhole from all limit walk steps at.above at.here → IsWhole from all limit new more next.above next.here)
+          → (Spares from walk steps new more → (collected : Option (List Change)) (limit : ℕ) → IsWhole from all collected limit walk steps at.above at.here → IsWhole from all collected limit new more next.above next.here)
           → Reaches from kept held all most walk steps at new more
       arrives new more next turn a spare whole =
           let went = goes_on e held all most sound state next turn at.walks in
@@ -154,11 +157,11 @@ module _ (from : Reading) where
 
       -- so many steps are within what the walk may take
       abbrev pub Pays : ℕ → Type 0
-      Pays more = (more ≤ most) × (more ≤ steps + spared_for from walk) × ((limit : ℕ) → IsWhole from all limit walk steps at.above at.here → more ≤ limit)
+      Pays more = (more ≤ most) × (more ≤ steps + spared_for from walk) × ((collected : Option (List Change)) (limit : ℕ) → IsWhole from all collected limit walk steps at.above at.here → more ≤ limit)
 
       -- and its steps are there, also where the walk does not arrive
       pub paid : (next : State StyledNode Told Handing) (more : ℕ) → WalkTurn e state next → Sparing state next → more + length next.changes ≡ next.spent
-          → ((limit : ℕ) → IsWhole from all limit walk steps at.above at.here → more ≤ limit) → Pays more
+          → ((collected : Option (List Change)) (limit : ℕ) → IsWhole from all collected limit walk steps at.above at.here → more ≤ limit) → Pays more
       paid next more turn spare count whole =
           let went = goes_on e held all most sound state next turn at.walks in
           let within = spent-within e held all most next went.0 in
@@ -168,7 +171,7 @@ module _ (from : Reading) where
 
       -- where no step is taken, none is wanting
       pub still : Pays steps
-      still = let within = spent-within e held all most state at.walks in (omega (arith, within), omega arith, λ limit w. omega (arith, w.few))
+      still = let within = spent-within e held all most state at.walks in (omega (arith, within), omega arith, λ collected limit w. omega (arith, w.few))
 
       -- An element is entered.
 
@@ -212,8 +215,8 @@ module _ (from : Reading) where
         pub cheap : fresh ≡ true → more ≤ steps + 2
         pub come : at.here ≡ all_come (new_of at.here) → (fresh ≡ true) × ((trees : Forest (Keyed StyledNode)) × ((at.here ≡ Come node trees after) × (children ≡ all_come trees)))
 
-      entering-whole : (fresh : Bool) (later : List Stop) (more : ℕ) → Entering fresh later more → (limit : ℕ) → IsWhole from all limit walk steps at.above at.here → more ≤ limit
-      entering-whole fresh later more it limit w =
+      entering-whole : (fresh : Bool) (later : List Stop) (more : ℕ) → Entering fresh later more → (collected : Option (List Change)) (limit : ℕ) → IsWhole from all collected limit walk steps at.above at.here → more ≤ limit
+      entering-whole fresh later more it collected limit w =
           let cheap : more ≤ steps + 2 = it.cheap (it.come w.come).0 in
           let here = elements_is walk steps at in
           let deep = deep_is walk steps at in omega (arith, w.few, it.spare.told, cheap, here, deep)
@@ -222,7 +225,7 @@ module _ (from : Reading) where
       entering-paid fresh later more it = paid _ more it.turn it.spare refl (entering-whole fresh later more it)
 
       module _ (distinct : HasDistinctKeys from.tree) (mid new : Catching) (key : ℕ) (fresh : Bool) (later : List Stop) (more : ℕ) (it : Entering fresh later more) (link : walk.link ≡ Some key)
-          (frames : frames_of mid ≡ frames_of walk) (around : mid.around ≡ walk.around) (told : mid.told ≡ walk.told) (stops : stops_left mid ≡ later) (h : HasEntered from mid new key fresh) where
+          (frames : frames_of mid ≡ frames_of walk) (around : mid.around ≡ walk.around) (told : mid.told ≡ walk.told) (changes : mid.changes ≡ walk.changes) (stops : stops_left mid ≡ later) (h : HasEntered from mid new key fresh) where
         its : Here from (parent_style at.above) key it.node (new_of it.children) (new_of it.after)
         its = its_here key it.node (new_of it.children) (new_of it.after) link it.first
 
@@ -253,8 +256,13 @@ module _ (from : Reading) where
             ∙ ap (λ parent. styled_trees from.style from.start parent (children_of from.tree key)) (style_down from (parent_style at.above) key its.label named)
             ∙ its.children
 
-        whole : Spares from walk steps new more → (limit : ℕ) → IsWhole from all limit walk steps at.above at.here → IsWhole from all limit new more (top ∷ at.above) it.children
-        whole spared limit w =
+        changes_are : new.changes ≡ with_changes walk.changes (changes_before_children from.table it.node walk.around)
+        changes_are =
+            h.changes ∙ ap (λ collected. with_changes collected (changes_before (opened_at from (frames_of mid) key mid.around))) changes
+            ∙ ap (λ opened. with_changes walk.changes (changes_before opened)) made_is ∙ ap (with_changes walk.changes) (changes_opened from it.node walk.around)
+
+        whole : Spares from walk steps new more → (collected : Option (List Change)) (limit : ℕ) → IsWhole from all collected limit walk steps at.above at.here → IsWhole from all collected limit new more (top ∷ at.above) it.children
+        whole spared collected limit w =
             let come = it.come w.come in
             let trees = come.1.0 in
             let children = come.1.1.1 in
@@ -271,6 +279,12 @@ module _ (from : Reading) where
                   ∙ ap (λ i. walk.told ++ news e (top ∷ at.above) i it.children) (h.around ∙ ap inside_opened made_is ∙ inside_is from it.node walk.around)
                   ∙ ap (λ all. walk.told ++ all) (sym (news_entered e at.above i top trees it.children refl (ap new_of children ∙ new-all_come trees)))
                   ∙ ap (λ m. walk.told ++ news e at.above i m) (sym come.1.1.0) ∙ w.told;
+              changes =
+                  ap (λ collected. with_changes collected (changes_left from (top ∷ at.above) new.around it.children)) changes_are
+                  ∙ ap (λ i. with_changes (with_changes walk.changes (changes_before_children from.table it.node walk.around)) (changes_left from (top ∷ at.above) i it.children)) (h.around ∙ ap inside_opened made_is ∙ inside_is from it.node walk.around)
+                  ∙ with-more walk.changes (changes_before_children from.table it.node i) (changes_left from (top ∷ at.above) (inside_node from.table it.node i) it.children)
+                  ∙ ap (with_changes walk.changes) (sym (changes_entered from at.above i top trees it.children refl (ap new_of children ∙ new-all_come trees)))
+                  ∙ ap (λ m. with_changes walk.changes (changes_left from at.above i m)) (sym come.1.1.0) ∙ w.changes;
               few = omega (arith, w.few, spared.told, longer, deeper, deep, cheap);
             }
 
@@ -302,10 +316,10 @@ module _ (from : Reading) where
       -- A text is passed, and a tree that is gone.
 
       module _ (distinct : HasDistinctKeys from.tree) (new : Catching) (key : ℕ) (later : List Stop) (link : walk.link ≡ Some key)
-          (frames : frames_of new ≡ frames_of walk) (around : new.around ≡ walk.around) (told : new.told ≡ walk.told) (stops : stops_left new ≡ later) (next : new.link ≡ next_sibling_of from.tree key) where
-        passes_whole : (r : Merge StyledNode) → (at.here ≡ all_come (new_of at.here) → (r ≡ all_come (new_of r)) × (news e at.above walk.around at.here ≡ news e at.above walk.around r))
-            → Spares from walk steps new steps → (limit : ℕ) → IsWhole from all limit walk steps at.above at.here → IsWhole from all limit new steps at.above r
-        passes_whole r come spared limit w =
+          (frames : frames_of new ≡ frames_of walk) (around : new.around ≡ walk.around) (told : new.told ≡ walk.told) (changes : new.changes ≡ walk.changes) (stops : stops_left new ≡ later) (next : new.link ≡ next_sibling_of from.tree key) where
+        passes_whole : (r : Merge StyledNode) → (at.here ≡ all_come (new_of at.here) → (r ≡ all_come (new_of r)) × (news e at.above walk.around at.here ≡ news e at.above walk.around r) × (changes_left from at.above walk.around at.here ≡ changes_left from at.above walk.around r))
+            → Spares from walk steps new steps → (collected : Option (List Change)) (limit : ℕ) → IsWhole from all collected limit walk steps at.above at.here → IsWhole from all collected limit new steps at.above r
+        passes_whole r come spared collected limit w =
             let its = come w.come in
             let same : length new.told ≡ length walk.told = ap length told in
             let deep : length (frames_of new) ≡ length (frames_of walk) = ap length frames in
@@ -315,12 +329,15 @@ module _ (from : Reading) where
               told =
                   ap (λ t. t ++ news e at.above new.around r) told ∙ ap (λ i. walk.told ++ news e at.above i r) around
                   ∙ ap (λ all. walk.told ++ all) (sym its.1) ∙ w.told;
+              changes =
+                  ap (λ collected. with_changes collected (changes_left from at.above new.around r)) changes ∙ ap (λ i. with_changes walk.changes (changes_left from at.above i r)) around
+                  ∙ ap (with_changes walk.changes) (sym its.2) ∙ w.changes;
               few = omega (arith, w.few, spared.told, same, deep);
             }
 
         passes : (n : Keyed StyledNode) (c : Forest (Keyed StyledNode)) (r : Merge StyledNode) → new_of at.here ≡ Tree n c (new_of r) → HasLeaves is_element r → IsRootLed at.above r
             → WalkTurn e state (record state { here = r; stops = later })
-            → (at.here ≡ all_come (new_of at.here) → (r ≡ all_come (new_of r)) × (news e at.above walk.around at.here ≡ news e at.above walk.around r))
+            → (at.here ≡ all_come (new_of at.here) → (r ≡ all_come (new_of r)) × (news e at.above walk.around at.here ≡ news e at.above walk.around r) × (changes_left from at.above walk.around at.here ≡ changes_left from at.above walk.around r))
             → Reaches from kept held all most walk steps at new steps
         passes n c r is leaf root turn come =
             let its = its_here key n c (new_of r) link is in
@@ -362,7 +379,7 @@ module _ (from : Reading) where
             let whole = is ∙ ap (λ c. Come n c r) (leaf.0 text) in
             passes n c r (ap new_of is) leaf.2 (led_come at.above n c r (subst (IsRootLed at.above) is at.root))
             (passing_fresh n r later whole text (subst (λ c. IsTaken (not (is_fresh at.above)) (stop_at is_element (length at.above) Anew (Come n c r)) (stops_left walk) later) (leaf.0 text) taken))
-            (λ h. (come_after at.here n c r is h, ap (news e at.above walk.around) whole ∙ news_passed e sound at.above walk.around n r text))
+            (λ h. (come_after at.here n c r is h, ap (news e at.above walk.around) whole ∙ news_passed e sound at.above walk.around n r text, ap (changes_left from at.above walk.around) whole ∙ changes_passed from at.above walk.around n r text))
 
       pub misses : (new : Catching) (stop : Stop) (later : List Stop) → frames_of new ≡ frames_of walk → new.around ≡ walk.around → new.told ≡ walk.told → stops_left new ≡ later → new.link ≡ walk.link
           → (n : Keyed StyledNode) (c : Forest (Keyed StyledNode)) (r : Merge StyledNode) → at.here ≡ Gone n c r → is_fresh at.above ≡ false → stops_left walk ≡ stop ∷ later
@@ -382,7 +399,7 @@ module _ (from : Reading) where
             stands = at.stands;
             root = led_gone at.above n c r (subst (IsRootLed at.above) is at.root);
           }) (spares-passing state r _ later (same_elements (new_of r) (new_of at.here) (ap new_of is)))
-          (λ spared limit w. absurd (not_come at.here (ap comes is) w.come))
+          (λ spared collected limit w. absurd (not_come at.here (ap comes is) w.come))
 
       -- The innermost open element is left.
 
@@ -395,11 +412,11 @@ module _ (from : Reading) where
       rest_frames (x ∷ xs) = xs
 
       module _ (distinct : HasDistinctKeys from.tree) (mid new : Catching) (frame : OpenElement) (more : ℕ) (top : frames_of walk ≡ frame ∷ frames_of mid)
-          (around : mid.around ≡ walk.around) (stops : mid.stops ≡ walk.stops) (told_same : mid.told ≡ walk.told) (h : HasLeft from mid new frame) (end : at.here ≡ End) (few : more ≤ steps + 1) where
-        left_whole : (b : OpenNode) (bs : List OpenNode) → at.above ≡ b ∷ bs → Spares from walk steps new more → (limit : ℕ) → IsWhole from all limit walk steps at.above at.here
-            → new.told ≡ walk.told ++ (b.node.key, kept_of from.table b.node b.handed walk.around) ∷ [] → new.around ≡ past_styled from.table b.node b.handed walk.around → frames_of new ≡ frames_of mid
-            → IsWhole from all limit new more bs b.after
-        left_whole b bs is spared limit w told around frames =
+          (around : mid.around ≡ walk.around) (stops : mid.stops ≡ walk.stops) (told_same : mid.told ≡ walk.told) (changes_same : mid.changes ≡ walk.changes) (h : HasLeft from mid new frame) (end : at.here ≡ End) (few : more ≤ steps + 1) where
+        left_whole : (b : OpenNode) (bs : List OpenNode) → at.above ≡ b ∷ bs → Spares from walk steps new more → (collected : Option (List Change)) (limit : ℕ) → IsWhole from all collected limit walk steps at.above at.here
+            → new.told ≡ walk.told ++ (b.node.key, kept_of from.table b.node b.handed walk.around) ∷ [] → new.changes ≡ with_changes walk.changes (changes_after_children from.table b.node b.handed walk.around) → new.around ≡ past_styled from.table b.node b.handed walk.around → frames_of new ≡ frames_of mid
+            → IsWhole from all collected limit new more bs b.after
+        left_whole b bs is spared collected limit w told changes around frames =
             let behind = subst AllCome is w.come_behind in
             let i = walk.around in
             let element : is_element b.node.label ≡ true = (subst (AreElements is_element) is at.walks.elements).0 in
@@ -415,6 +432,11 @@ module _ (from : Reading) where
                   ap (λ t. t ++ news e bs new.around b.after) told ∙ ap (λ i. (walk.told ++ entry ∷ []) ++ news e bs i b.after) around
                   ∙ news_left e bs i b walk.told element
                   ∙ ap (λ bs. walk.told ++ news e bs i End) (sym is) ∙ ap (λ m. walk.told ++ news e at.above i m) (sym end) ∙ w.told;
+              changes =
+                  ap (λ collected. with_changes collected (changes_left from bs new.around b.after)) changes
+                  ∙ ap (λ i. with_changes (with_changes walk.changes (changes_after_children from.table b.node b.handed walk.around)) (changes_left from bs i b.after)) around
+                  ∙ with-more walk.changes (changes_after_children from.table b.node b.handed i) (changes_left from bs (past_styled from.table b.node b.handed i) b.after)
+                  ∙ ap (λ bs. with_changes walk.changes (changes_left from bs i End)) (sym is) ∙ ap (λ m. with_changes walk.changes (changes_left from at.above i m)) (sym end) ∙ w.changes;
               few = omega (arith, w.few, spared.told, longer, deep, deeper, few);
             }
 
@@ -443,6 +465,9 @@ module _ (from : Reading) where
             h.told ∙ ap (λ told. told ++ (frame.key, told_by from frame mid.around) ∷ []) told_same
             ∙ ap (λ entry. walk.told ++ (frame.key, entry) ∷ []) entry
             ∙ ap (λ k. walk.told ++ (k, kept_of from.table b.node b.handed behind) ∷ []) key in
+            let next_changes : new.changes ≡ with_changes walk.changes (changes_after_children from.table b.node b.handed behind) =
+            h.changes ∙ ap (λ collected. with_changes collected (changes_in (said_by from frame.key frame.opened mid.around).after)) changes_same
+            ∙ ap (λ (told : Told). with_changes walk.changes (changes_in told.said.after)) entry in
             arrives new more _ (leaving b bs (more + length walk.told + 1) is end (omega (arith, few))) (record {
               frames = next_frames ∙ rest;
               around = next_around;
@@ -457,7 +482,7 @@ module _ (from : Reading) where
               stands = stands.4;
               root = subst (λ bs. IsRootLed bs at.here) is at.root;
             }) (spares-leaving state b bs _ _ _ (more + length walk.told + 1) is end (omega (arith, few)))
-            (λ spared limit w. left_whole b bs is spared limit w next_told next_around next_frames)
+            (λ spared collected limit w. left_whole b bs is spared collected limit w next_told next_changes next_around next_frames)
 
         pub leaves : Reaches from kept held all most walk steps at new more
         leaves = leaves_from at.above refl

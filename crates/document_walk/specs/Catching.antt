@@ -11,8 +11,9 @@ use Rattle.plain_types.specs.declared.node.Node.{Node}
 use Rattle.plain_types.specs.declared.style.ElementStyle.{ElementStyle}
 use Rattle.plain_types.specs.declared.style.Style.{Style}
 use Rattle.mini_cascade.specs.Styles.{element_style}
+use Rattle.box_eval.specs.declared.change.Change.{Change}
 use Rattle.box_eval.specs.declared.element_record.ElementRecord.{ElementRecord}
-use Rattle.box_eval.specs.Evaluation.{StyledNode, styled, without_box}
+use Rattle.box_eval.specs.Evaluation.{StyledNode, changes_in, styled, without_box}
 use Rattle.merged_walk.specs.declared.stop.Stop.{Stop}
 use Rattle.snapshot_board.specs.Records.{Records}
 use Rattle.surroundings.specs.declared.surroundings.Surroundings.{Surroundings}
@@ -22,9 +23,9 @@ use Rattle.surroundings.specs.StyledEvaluators.{IsBehindChildren}
 use Rattle.surroundings.specs.Surroundings.{HandsOn, IsByOther, handed_behind, handed_by, handed_inside, is_same}
 use Rattle.document_walk.specs.declared.catching.Catching.{Catching}
 use Rattle.document_walk.specs.declared.catching.OpenElement.{OpenElement}
-use Rattle.document_walk.specs.declared.frame.Opened.{Opened}
+use Rattle.document_walk.specs.declared.opened.Opened.{Opened}
 use Rattle.document_walk.specs.declared.sources.Sources.{Sources}
-use Rattle.document_walk.specs.Walking.{asks_before, closing_with, opened_in, told_opened}
+use Rattle.document_walk.specs.Walking.{asks_before, changes_before, closing_with, opened_in, told_opened}
 
 -- What a walk reads: the author's counter styles, the styles of elements, the starts of reversed counters, and the document.
 pub record Reading : Type 0 where
@@ -110,6 +111,10 @@ CanClose key (Some around) = IsBehindChildren key around
 abbrev pub inside_opened : Option Opened → Option Surroundings
 inside_opened opened = option_map (λ (opened : Opened). handed_inside opened.entry) opened
 
+-- what is collected, with these changes behind it; where none are collected, these aren't either
+abbrev pub with_changes : Option (List Change) → List Change → Option (List Change)
+with_changes collected more = option_map (λ (changes : List Change). changes ++ more) collected
+
 module _ (from : Reading) where
   -- what is made of an element under these open ones, where it is handed this; nothing where nothing is handed
   abbrev pub opened_at : List OpenElement → ℕ → Option Surroundings → Option Opened
@@ -144,6 +149,7 @@ module _ (from : Reading) where
     pub link : new.link ≡ first_child_of from.tree key
     pub stops : new.stops ≡ old.stops
     pub told : new.told ≡ old.told
+    pub changes : new.changes ≡ with_changes old.changes (changes_before (opened_at (frames_of old) key old.around))
 
   -- this element was left, which was off the stack already
   pub record HasLeft (old new : Catching) (frame : OpenElement) : Type 0 where
@@ -152,6 +158,7 @@ module _ (from : Reading) where
     pub link : new.link ≡ next_sibling_of from.tree frame.key
     pub stops : new.stops ≡ old.stops
     pub told : new.told ≡ old.told ++ (frame.key, told_by frame old.around) ∷ []
+    pub changes : new.changes ≡ with_changes old.changes (changes_in (said_by frame.key frame.opened old.around).after)
 
 -- the walk went to the next stop of its level, or to the level's end
 pub record HasSkipped (kept : ℕ → Option Walked) (old new : Catching) : Type 0 where
@@ -160,3 +167,4 @@ pub record HasSkipped (kept : ℕ → Option Walked) (old new : Catching) : Type
   pub link : new.link ≡ link_of (stop_ahead (stops_left old) (length (frames_of old)))
   pub stops : new.stops ≡ old.stops
   pub told : new.told ≡ old.told
+  pub changes : new.changes ≡ old.changes

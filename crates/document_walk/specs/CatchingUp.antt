@@ -2,7 +2,8 @@
 use Rattle.std.specs.Prelude.{◌≡◌, ◌≤◌, ◌+◌, ◌*◌, ℕ, List, length, Option, option_map}
 use Rattle.forest.specs.Forest.{Forest}
 use Rattle.forest.specs.Keys.{Keyed, without_keys}
-use Rattle.box_eval.specs.Evaluation.{StyledNode}
+use Rattle.box_eval.specs.declared.change.Change.{Change}
+use Rattle.box_eval.specs.Evaluation.{StyledNode, all_changes}
 use Rattle.merged_walk.specs.declared.stop.Stop.{Stop}
 use Rattle.merged_walk.specs.Counts as counts
 use Rattle.merged_walk.specs.Entries.{AreAmong, Covers, Holds}
@@ -14,7 +15,7 @@ use Rattle.surroundings.specs.declared.walked.Walked.{Walked}
 use Rattle.surroundings.specs.MergedLevels.{AreAllLed, HasLeaves}
 use Rattle.surroundings.specs.StyledEvaluators.{is_element, root_surroundings, styled_evaluator}
 use Rattle.document_walk.specs.Elements.{element_count}
-use Rattle.document_walk.specs.Catching.{Reading, document_of}
+use Rattle.document_walk.specs.Catching.{Reading, document_of, with_changes}
 
 module _ (from : Reading) where
   -- what is told of trees that are the roots of a document
@@ -57,6 +58,11 @@ module _ (from : Reading) where
   abbrev pub AreAllTold : (ℕ → Option Walked) → List Stop → List (ℕ × Told) → Type 0
   AreAllTold kept stops records =
       (merge : Merge StyledNode) (held : ℕ → Option Told) → CanCatchUp kept stops merge held → merge ≡ all_come (document_of from) → records ≡ told_all (document_of from)
+
+  -- where changes are collected, what its boxes do to counters was
+  abbrev pub AreAllCollected : (ℕ → Option Walked) → List Stop → (before now : Option (List Change)) → Type 0
+  AreAllCollected kept stops before now =
+      (merge : Merge StyledNode) (held : ℕ → Option Told) → CanCatchUp kept stops merge held → merge ≡ all_come (document_of from) → now ≡ with_changes before (all_changes from.table (document_of from))
 
   -- and three steps are enough for each of its elements
   abbrev pub IsWithinWhole : (ℕ → Option Walked) → List Stop → (before now : ℕ) → Type 0

@@ -1,5 +1,6 @@
 pub mod Elements
 pub mod Walking
 pub mod Catching
+pub mod TreeChanges
 pub mod Standing
 pub mod CatchingUp

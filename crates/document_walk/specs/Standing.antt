@@ -7,22 +7,25 @@ use Rattle.plain_types.specs.declared.attr.Attr.{Attr}
 use Rattle.plain_types.specs.declared.style.Style.{Style}
 use Rattle.plain_types.specs.declared.node.Node.{Node}
 use Rattle.node_arena.specs.Nodes.{attrs_of, node_name}
+use Rattle.box_eval.specs.declared.change.Change.{Change}
 use Rattle.box_eval.specs.Boxes.{generates_box}
 use Rattle.box_eval.specs.Elements.{by_parent, entry_of}
 use Rattle.box_eval.specs.Evaluation.{Element, StyledNode, Text, styled_trees}
+use Rattle.merged_walk.specs.Evaluators.{past_all}
 use Rattle.merged_walk.specs.Merges.{Merge, all_come, new_of}
 use Rattle.merged_walk.specs.Walks.{Fits, Open, State, Walks, news}
 use Rattle.surroundings.specs.declared.surroundings.Surroundings.{Surroundings}
 use Rattle.surroundings.specs.declared.told.Told.{Told}
 use Rattle.surroundings.specs.declared.walked.Walked.{Walked}
 use Rattle.surroundings.specs.MergedLevels.{AreAllLed, HasLeaves}
-use Rattle.surroundings.specs.StyledEvaluators.{is_element, styled_asks, styled_evaluator}
+use Rattle.surroundings.specs.StyledEvaluators.{is_element, past_styled, styled_asks, styled_evaluator}
 use Rattle.surroundings.specs.Surroundings.{handed_by}
 use Rattle.document_walk.specs.declared.catching.Catching.{Catching}
 use Rattle.document_walk.specs.declared.catching.OpenElement.{OpenElement}
-use Rattle.document_walk.specs.declared.frame.Opened.{Opened}
+use Rattle.document_walk.specs.declared.opened.Opened.{Opened}
 use Rattle.document_walk.specs.Elements.{one_where}
-use Rattle.document_walk.specs.Catching.{Reading, frames_of, stops_left}
+use Rattle.document_walk.specs.Catching.{Reading, frames_of, stops_left, with_changes}
+use Rattle.document_walk.specs.TreeChanges.{changes_after_children, tree_changes}
 
 -- what is handed on
 abbrev pub Handing : Type 0
@@ -141,12 +144,26 @@ module _ (from : Reading) where
     pub told : length new.told + (elements_left new + length (frames_of new)) ≤ length old.told + (elements_left old + length (frames_of old))
     pub steps : now + spared_for new ≤ before + spared_for old
 
-  -- A walk over trees that all come, where all this is told of them: what was told and what is still told is all, and it takes no
-  -- more steps than this, 3 for each element.
-  pub record IsWhole (all : List (ℕ × Told)) (limit : ℕ) (walk : Catching) (steps : ℕ) (above : List OpenNode) (here : Merge StyledNode) : Type 0 where
+  -- What the boxes behind open nodes do to counters, and all those that are still to be closed or opened.
+
+  abbrev pub changes_behind : List OpenNode → Handing → List Change
+  changes_behind [] behind = []
+  changes_behind (open_node ∷ above) behind =
+      let next = past_styled from.table open_node.node open_node.handed behind in
+      changes_after_children from.table open_node.node open_node.handed behind
+      ++ (tree_changes from.table next (new_of open_node.after)
+      ++ changes_behind above (past_all (styled_evaluator from.table) next (new_of open_node.after)))
+
+  abbrev pub changes_left : List OpenNode → Handing → Merge StyledNode → List Change
+  changes_left above handed here = tree_changes from.table handed (new_of here) ++ changes_behind above (past_all (styled_evaluator from.table) handed (new_of here))
+
+  -- A walk over trees that all come, where all this is told of them, and this is collected: what was told and what is still told is
+  -- all, and so is what was collected and what still is; and it takes no more steps than this, 3 for each element.
+  pub record IsWhole (all : List (ℕ × Told)) (collected : Option (List Change)) (limit : ℕ) (walk : Catching) (steps : ℕ) (above : List OpenNode) (here : Merge StyledNode) : Type 0 where
     pub come : here ≡ all_come (new_of here)
     pub come_behind : AllCome above
     pub told : walk.told ++ news (styled_evaluator from.table) above walk.around here ≡ all
+    pub changes : with_changes walk.changes (changes_left above walk.around here) ≡ collected
     pub few : steps + (3 * elements_left walk + length (frames_of walk)) ≤ limit
 
   module _ (kept : ℕ → Option Walked) where
@@ -181,7 +198,7 @@ module _ (from : Reading) where
         (next : IsAt held all most new now)
         × ((left_of new < left_of old)
         × Spares old before new now
-        × ((limit : ℕ) → IsWhole all limit old before at.above at.here → IsWhole all limit new now next.above next.here))
+        × ((collected : Option (List Change)) (limit : ℕ) → IsWhole all collected limit old before at.above at.here → IsWhole all collected limit new now next.above next.here))
 
     -- wherever it stands
     abbrev pub GoesOn : Catching → ℕ → Catching → ℕ → Type 0
@@ -192,4 +209,4 @@ module _ (from : Reading) where
     abbrev pub IsWithinMost : Catching → ℕ → ℕ → Type 0
     IsWithinMost old before now =
         (held : ℕ → Option Told) (all : List (ℕ × Told)) (most : ℕ) (at : IsAt held all most old before)
-        → (now ≤ most) × (now ≤ before + spared_for old) × ((limit : ℕ) → IsWhole all limit old before at.above at.here → now ≤ limit)
+        → (now ≤ most) × (now ≤ before + spared_for old) × ((collected : Option (List Change)) (limit : ℕ) → IsWhole all collected limit old before at.above at.here → now ≤ limit)

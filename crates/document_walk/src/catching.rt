@@ -7,11 +7,13 @@ ghost use Rattle.merged_walk.specs.Stops.{is_at};
 ghost use Rattle.surroundings.specs.StyledEvaluators.{root_surroundings};
 ghost use Rattle.document_walk.specs.Catching.{CanClose, CanOpen, HasEntered, HasLeft, HasSkipped, frames_of, from_of, inside_opened, is_fresh_in, is_same_at, kept_on, link_of, opened_at, parent_in, reading, stop_ahead, stops_left, style_above, told_at};
 
+use crate::collecting::{collect_made, collect_opened};
 use crate::element::open;
-use crate::frame::Opened;
 use crate::leaving::{Left, left_of};
+use crate::opened::Opened;
 use crate::snapshot::Snapshot;
 use crate::sources::Sources;
+use box_eval::change::Change;
 use box_eval::starts::Starts;
 use merged_walk::stop::Stop;
 use plain_types::list::List;
@@ -51,6 +53,8 @@ pub(crate) struct Catching {
     pub(crate) around: Option<Surroundings>,
     /// What was told of the elements that it has evaluated.
     pub(crate) told: List<(usize, Told)>,
+    /// What the boxes of those did to counters, in tree order, where it is collected.
+    pub(crate) changes: Option<List<Change>>,
 }
 
 impl Catching {
@@ -107,6 +111,7 @@ impl Catching {
         ensures steps { steps.new ≤ steps.old + 2 }
     {
         let opened = self.open_next(alloc, sources, key, steps)?;
+        collect_opened(alloc, &mut self.changes, opened.as_ref())?;
         let inside = inside_opened(alloc, opened.as_ref())?;
         self.go_inside(key, opened, inside, fresh)?;
         self.link = sources.arena.first_child(key);
@@ -154,6 +159,7 @@ impl Catching {
         ensures around { OnOk result (self.new.around ≡ inside) }
         ensures stops { self.new.stops ≡ self.old.stops }
         ensures told { self.new.told ≡ self.old.told }
+        ensures changes { self.new.changes ≡ self.old.changes }
     {
         let handed = mem::replace(&mut self.around, inside);
         self.stack.push(OpenElement {
@@ -193,6 +199,7 @@ impl Catching {
             self.around.as_ref(),
             steps,
         )?;
+        collect_made(alloc, &mut self.changes, left.said.after.as_ref())?;
         self.tell(key, handed, left)?;
         self.link = sources.arena.next_sibling(key);
         Ok(())
@@ -204,6 +211,7 @@ impl Catching {
         ensures around { OnOk result (self.new.around ≡ left.past) }
         ensures stack { self.new.stack ≡ self.old.stack }
         ensures stops { self.new.stops ≡ self.old.stops }
+        ensures changes { self.new.changes ≡ self.old.changes }
     {
         let Left { said, asks, past } = left;
         let behind = mem::replace(&mut self.around, past);

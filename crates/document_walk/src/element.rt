@@ -7,10 +7,10 @@ ghost use Rattle.mini_cascade.specs.Styles.{element_style};
 ghost use Rattle.box_eval.specs.Boxes.{generates_box};
 ghost use Rattle.box_eval.specs.Elements.{by_parent, closing_of, handed_in, styled_by};
 ghost use Rattle.box_eval.specs.Scopes.{AreBehindChildren, AreNew, last_boxes};
-ghost use Rattle.surroundings.specs.Surroundings.{IsByOther, handed_by};
-ghost use Rattle.document_walk.specs.Walking.{HandsOn, opened_by, opened_in, opened_with};
+ghost use Rattle.surroundings.specs.Surroundings.{HandsOn, IsByOther, handed_by};
+ghost use Rattle.document_walk.specs.Walking.{opened_by, opened_in, opened_with};
 
-use crate::frame::Opened;
+use crate::opened::Opened;
 use crate::sources::Sources;
 use box_eval::boxes::generates_box;
 use box_eval::element::{close_element, eval_element};
@@ -37,7 +37,7 @@ pub(crate) fn open<L: Ledger, T: Starts>(
     steps: &mut Steps<L>,
 ) -> Result<Option<Opened>, Memory>
     requires live { IsLive sources.now.arena.now.tree key }
-    requires new { HandsOn (IsByOther key) (handed_by around.now) }
+    requires new { HandsOn (IsByOther key) around.now }
     ensures opened { IfOk result (λ opened. opened ≡ opened_in sources.now.table.now (element_style sources.now.arena.now.tree sources.now.agent.now sources.now.author.now) (T.starts sources.now.starts.now) sources.now.arena.now.tree true key (option_copied parent.entry) (handed_by around.now)) }
     ensures steps { steps.new ≤ steps.old + 2 }
 {
@@ -81,7 +81,7 @@ fn open_styled<L: Ledger, T: Starts>(
     steps: &mut Steps<L>,
 ) -> Result<Option<(Inputs, Entry)>, Memory>
     requires live { IsLive sources.now.arena.now.tree key }
-    requires new { HandsOn (IsByOther key) (handed_by around.now) }
+    requires new { HandsOn (IsByOther key) around.now }
     ensures opened { IfOk result (λ made. option_map (opened_by style.now) made ≡ opened_in sources.now.table.now (λ _ _. style.now) (T.starts sources.now.starts.now) sources.now.arena.now.tree true key None (handed_by around.now)) }
     ensures step { steps.new ≤ steps.old + 1 }
 {
@@ -102,7 +102,7 @@ fn open_box<L: Ledger, T: Starts>(
 ) -> Result<(Inputs, Entry), Memory>
     requires live { IsLive sources.now.arena.now.tree key }
     requires boxed { generates_box style.now ≡ true }
-    requires new { HandsOn (IsByOther key) (handed_by around.now) }
+    requires new { HandsOn (IsByOther key) around.now }
     ensures opened { IfOk result (λ made. opened_by style.now made ≡ opened_with sources.now.table.now (λ _ _. style.now) (T.starts sources.now.starts.now) sources.now.arena.now.tree key None (handed_by around.now)) }
     ensures step { steps.new ≤ steps.old + 1 }
 {

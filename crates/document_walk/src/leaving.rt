@@ -11,14 +11,13 @@ ghost use Rattle.document_walk.specs.Catching.{CanClose, past_by, reading, said_
 ghost use Rattle.document_walk.specs.Walking.{asks_before, closing_with, told_opened};
 
 use crate::element::close;
-use crate::evaluated::{asks_for_start, told_opened, without_box};
-use crate::frame::Opened;
-use crate::handing::past_box;
+use crate::opened::Opened;
 use crate::sources::Sources;
 use box_eval::element_record::ElementRecord;
-use box_eval::entry::Closing;
+use box_eval::entry::{Closing, Entry};
 use box_eval::inputs::Start;
 use box_eval::starts::Starts;
+use counter_sets::counter_set::CounterSet;
 use plain_types::list::List;
 use plain_types::memory::Memory;
 use plain_types::style::ElementStyle;
@@ -166,4 +165,63 @@ fn closing_under<L: Ledger, T: Starts>(
     let inputs = behind.inputs(alloc, key, starts)?;
     let closing = close(alloc, sources, style, &inputs, steps)?;
     Ok(closing)
+}
+
+/// Whether a box of an element asks for a start, where it has a box.
+fn asks_for_start(opened: Option<&Opened>) -> bool
+    ensures test { result ≡ asks_before (option_copied opened.entry) }
+{
+    match opened {
+        Some(opened) => !opened.starts.is_empty(),
+        None => false,
+    }
+}
+
+/// What is said of an element without a box.
+fn without_box(alloc: Global) -> Result<ElementRecord, Memory>
+    ensures told { IfOk result (λ told. told ≡ without_box) }
+{
+    Ok(ElementRecord {
+        has_box: false,
+        own: CounterSet::empty(alloc)?,
+        exit: CounterSet::empty(alloc)?,
+        depth_before: 0,
+        depth_after: 0,
+        marker: None,
+        before: None,
+        after: None,
+    })
+}
+
+/// What is said of an element with a box: the depth before its first box, and what was made of it.
+fn told_opened(depth: u64, entry: Entry, closing: Closing) -> ElementRecord
+    ensures told { result ≡ told_opened depth entry closing }
+{
+    ElementRecord {
+        has_box: true,
+        own: entry.own,
+        exit: closing.exit,
+        depth_before: depth,
+        depth_after: closing.depth,
+        marker: entry.marker,
+        before: entry.before,
+        after: closing.after,
+    }
+}
+
+/// What is handed on behind an element with these counters, whose parent box has those.
+fn past_box(
+    alloc: Global,
+    parent: CounterSet,
+    own: &CounterSet,
+    closing: &Closing,
+) -> Result<Surroundings, Memory>
+    ensures past { IfOk result (λ around. around ≡ handed_behind parent own.now closing.now) }
+{
+    Ok(Surroundings {
+        parent,
+        sibling: Some(own.share(alloc)?),
+        preceding: Some(closing.exit.share(alloc)?),
+        depth: closing.depth,
+    })
 }

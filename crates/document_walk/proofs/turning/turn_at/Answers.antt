@@ -12,7 +12,7 @@ returns-then-not-is_element-clause-next g c = λ held all most at.
     let from = reading g.T.Starts.starts c.args.sources.now in
     let walk = c.args.walk.now in
     passes_turn from (kept_on g.R.Snapshot.walked c.args.board.now) held all most (sound from.table) c.root-root.ensures.document.distinct walk c.args.steps.now at c.requires.off c.args.key c.requires.link
-    (record { stack = walk.stack; stops = walk.stops; link = c.next_sibling-walk.result; around = walk.around; told = walk.told }) refl refl refl refl
+    (record { stack = walk.stack; stops = walk.stops; link = c.next_sibling-walk.result; around = walk.around; told = walk.told; changes = walk.changes }) refl refl refl refl refl
     c.next_sibling-walk.ensures.link (sym c.is_element.ensures.test ∙ c.if-not-is_element.true)
 
 pub returns-then-is_fresh-clause-next : goal.returns-then-is_fresh-clause-next
@@ -25,7 +25,7 @@ returns-then-is_fresh-clause-next g c =
     (λ entered held all most at. enters from kept held all most (sound from.table) walk c.args.steps.now at c.root-root.ensures.document.distinct walk c.enter.new.self c.args.key true (stops_left walk) more
     (fresh_entering from kept held all most (sound from.table) c.root-root.ensures.document.distinct walk c.args.steps.now at c.requires.off c.args.key c.requires.link
     (sym c.is_element.ensures.test ∙ c.if-not-is_element.false) more (sym c.is_fresh.ensures.fresh ∙ c.if-is_fresh.true) c.enter.ensures.steps)
-    c.requires.link refl refl refl refl entered)
+    c.requires.link refl refl refl refl refl entered)
 
 pub returns-then-is_same-clause-next : goal.returns-then-is_same-clause-next
 returns-then-is_same-clause-next g c =
@@ -49,7 +49,7 @@ returns-clause-next g c =
     (other_entering from kept held all most (sound from.table) c.root-root.ensures.document.distinct walk c.args.steps.now at c.requires.off c.args.key c.requires.link
     (sym c.is_element.ensures.test ∙ c.if-not-is_element.false) more (sym c.is_fresh.ensures.fresh ∙ c.if-is_fresh.false) (sym c.is_same.ensures.test ∙ c.if-is_same.false)
     (plus c.args.steps.now c.is_same.new.steps more 1 2 c.is_same.ensures.step c.enter-2.ensures.steps))
-    c.requires.link refl refl refl refl entered)
+    c.requires.link refl refl refl refl refl entered)
 
 -- The steps.
 
@@ -104,7 +104,7 @@ returns-then-not-is_element-clause-found g c = λ held all most at.
     let from = reading g.T.Starts.starts c.args.sources.now in
     let walk = c.args.walk.now in
     passes_turn from (kept_on g.R.Snapshot.walked c.args.board.now) held all most (sound from.table) c.root-root.ensures.document.distinct walk 0 at c.requires.off c.args.key c.requires.link
-    (record { stack = walk.stack; stops = walk.stops; link = c.next_sibling-walk.result; around = walk.around; told = walk.told }) refl refl refl refl
+    (record { stack = walk.stack; stops = walk.stops; link = c.next_sibling-walk.result; around = walk.around; told = walk.told; changes = walk.changes }) refl refl refl refl refl
     c.next_sibling-walk.ensures.link (sym c.is_element.ensures.test ∙ c.if-not-is_element.true)
 
 pub returns-then-is_fresh-clause-found : goal.returns-then-is_fresh-clause-found
@@ -117,7 +117,7 @@ returns-then-is_fresh-clause-found g c =
     (λ entered held all most at. enters from kept held all most (sound from.table) walk 0 at c.root-root.ensures.document.distinct walk c.enter.new.self c.args.key true (stops_left walk) more
     (fresh_entering from kept held all most (sound from.table) c.root-root.ensures.document.distinct walk 0 at c.requires.off c.args.key c.requires.link
     (sym c.is_element.ensures.test ∙ c.if-not-is_element.false) more (sym c.is_fresh.ensures.fresh ∙ c.if-is_fresh.true) (omega arith))
-    c.requires.link refl refl refl refl entered)
+    c.requires.link refl refl refl refl refl entered)
 
 pub returns-then-is_same-clause-found : goal.returns-then-is_same-clause-found
 returns-then-is_same-clause-found g c =
@@ -141,4 +141,4 @@ returns-clause-found g c =
     (other_entering from kept held all most (sound from.table) c.root-root.ensures.document.distinct walk 0 at c.requires.off c.args.key c.requires.link
     (sym c.is_element.ensures.test ∙ c.if-not-is_element.false) more (sym c.is_fresh.ensures.fresh ∙ c.if-is_fresh.false) (sym c.is_same.ensures.test ∙ c.if-is_same.false)
     (omega arith))
-    c.requires.link refl refl refl refl entered)
+    c.requires.link refl refl refl refl refl entered)

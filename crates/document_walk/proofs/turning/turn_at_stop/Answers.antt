@@ -13,7 +13,7 @@ returns-in-Past-clause-next g c = λ held all most at.
     let walk = c.args.walk.now in
     past_turn from (kept_on g.R.Snapshot.walked c.args.board.now) held all most (sound from.table) c.root-root.ensures.document.distinct walk c.args.steps.now at
     c.in-Some.stop _ (last_first walk.stops.items c.pop.new.self.items c.in-Some.stop c.in-Some.ensures.items) c.requires.at
-    (record { stack = walk.stack; stops = c.pop.new.self; link = walk.link; around = walk.around; told = walk.told }) refl refl refl refl c.in-Past.is refl
+    (record { stack = walk.stack; stops = c.pop.new.self; link = walk.link; around = walk.around; told = walk.told; changes = walk.changes }) refl refl refl refl refl c.in-Past.is refl
 
 pub returns-in-Past-clause-most : goal.returns-in-Past-clause-most
 returns-in-Past-clause-most g c = λ held all most at.
@@ -28,9 +28,9 @@ returns-in_ok-enter-in-Inside-clause-next g c = λ held all most at.
     let taken = last_first walk.stops.items c.pop.new.self.items c.in-Some.stop c.in-Some.ensures.items in
     let more = c.enter.new.steps in
     enters from kept held all most (sound from.table) walk c.args.steps.now at c.root-root.ensures.document.distinct
-    (record { stack = walk.stack; stops = c.pop.new.self; link = walk.link; around = walk.around; told = walk.told }) c.enter.new.self c.in-Some-link.key _ _ more
+    (record { stack = walk.stack; stops = c.pop.new.self; link = walk.link; around = walk.around; told = walk.told; changes = walk.changes }) c.enter.new.self c.in-Some-link.key _ _ more
     (inside_entering from kept held all most (sound from.table) c.root-root.ensures.document.distinct walk c.args.steps.now at c.in-Some.stop _ taken c.requires.at more c.in-Inside.is (at_more more c.args.steps.now c.enter.ensures.steps))
-    c.in-Some-link.is refl refl refl refl c.in_ok-enter-in-Inside.ensures.entered
+    c.in-Some-link.is refl refl refl refl refl c.in_ok-enter-in-Inside.ensures.entered
 
 pub returns-in_ok-enter-in-Anew-clause-next : goal.returns-in_ok-enter-in-Anew-clause-next
 returns-in_ok-enter-in-Anew-clause-next g c = λ held all most at.
@@ -40,10 +40,10 @@ returns-in_ok-enter-in-Anew-clause-next g c = λ held all most at.
     let taken = last_first walk.stops.items c.pop.new.self.items c.in-Some.stop c.in-Some.ensures.items in
     let more = c.enter-then-is_element.new.steps in
     enters from kept held all most (sound from.table) walk c.args.steps.now at c.root-root.ensures.document.distinct
-    (record { stack = walk.stack; stops = c.pop.new.self; link = walk.link; around = walk.around; told = walk.told }) c.enter-then-is_element.new.self c.in-Some-link.key _ _ more
+    (record { stack = walk.stack; stops = c.pop.new.self; link = walk.link; around = walk.around; told = walk.told; changes = walk.changes }) c.enter-then-is_element.new.self c.in-Some-link.key _ _ more
     (anew_entering from kept held all most (sound from.table) c.root-root.ensures.document.distinct walk c.args.steps.now at c.in-Some.stop _ taken c.requires.at c.in-Some-link.key more c.in-Anew.is c.in-Some-link.is
     (sym c.is_element.ensures.test ∙ c.if-is_element.true) c.enter-then-is_element.ensures.steps)
-    c.in-Some-link.is refl refl refl refl c.in_ok-enter-in-Anew.ensures.entered
+    c.in-Some-link.is refl refl refl refl refl c.in_ok-enter-in-Anew.ensures.entered
 
 pub returns-else-is_element-clause-next : goal.returns-else-is_element-clause-next
 returns-else-is_element-clause-next g c = λ held all most at.
@@ -51,7 +51,7 @@ returns-else-is_element-clause-next g c = λ held all most at.
     let walk = c.args.walk.now in
     text_turn from (kept_on g.R.Snapshot.walked c.args.board.now) held all most (sound from.table) c.root-root.ensures.document.distinct walk c.args.steps.now at
     c.in-Some.stop _ (last_first walk.stops.items c.pop.new.self.items c.in-Some.stop c.in-Some.ensures.items) c.requires.at
-    (record { stack = walk.stack; stops = c.pop.new.self; link = c.next_sibling-walk.result; around = walk.around; told = walk.told }) refl refl refl refl
+    (record { stack = walk.stack; stops = c.pop.new.self; link = c.next_sibling-walk.result; around = walk.around; told = walk.told; changes = walk.changes }) refl refl refl refl refl
     c.in-Some-link.key c.in-Anew.is c.in-Some-link.is c.next_sibling-walk.ensures.link (sym c.is_element.ensures.test ∙ c.if-is_element.false)
 
 pub returns-in_default-link-clause-next : goal.returns-in_default-link-clause-next
@@ -61,7 +61,7 @@ returns-in_default-link-clause-next g c = λ held all most at.
     let walk = c.args.walk.now in
     let taken = last_first walk.stops.items c.pop.new.self.items c.in-Some.stop c.in-Some.ensures.items in
     past_turn from kept held all most (sound from.table) c.root-root.ensures.document.distinct walk c.args.steps.now at c.in-Some.stop _ taken c.requires.at
-    (record { stack = walk.stack; stops = c.pop.new.self; link = walk.link; around = walk.around; told = walk.told }) refl refl refl refl
+    (record { stack = walk.stack; stops = c.pop.new.self; link = walk.link; around = walk.around; told = walk.told; changes = walk.changes }) refl refl refl refl refl
     (link_there from kept held all most (sound from.table) c.root-root.ensures.document.distinct walk c.args.steps.now at c.in-Some.stop _ taken c.requires.at c.in_default-link.is) refl
 
 pub enter-requires-clause-opens : goal.enter-requires-clause-opens
@@ -134,7 +134,7 @@ returns-in-Past-clause-found g c = λ held all most at.
     let walk = c.args.walk.now in
     past_turn from (kept_on g.R.Snapshot.walked c.args.board.now) held all most (sound from.table) c.root-root.ensures.document.distinct walk 0 at
     c.in-Some.stop _ (last_first walk.stops.items c.pop.new.self.items c.in-Some.stop c.in-Some.ensures.items) c.requires.at
-    (record { stack = walk.stack; stops = c.pop.new.self; link = walk.link; around = walk.around; told = walk.told }) refl refl refl refl c.in-Past.is refl
+    (record { stack = walk.stack; stops = c.pop.new.self; link = walk.link; around = walk.around; told = walk.told; changes = walk.changes }) refl refl refl refl refl c.in-Past.is refl
 
 pub returns-in_ok-enter-in-Inside-clause-found : goal.returns-in_ok-enter-in-Inside-clause-found
 returns-in_ok-enter-in-Inside-clause-found g c = λ held all most at.
@@ -144,9 +144,9 @@ returns-in_ok-enter-in-Inside-clause-found g c = λ held all most at.
     let taken = last_first walk.stops.items c.pop.new.self.items c.in-Some.stop c.in-Some.ensures.items in
     let more : ℕ = 0 in
     enters from kept held all most (sound from.table) walk 0 at c.root-root.ensures.document.distinct
-    (record { stack = walk.stack; stops = c.pop.new.self; link = walk.link; around = walk.around; told = walk.told }) c.enter.new.self c.in-Some-link.key _ _ more
+    (record { stack = walk.stack; stops = c.pop.new.self; link = walk.link; around = walk.around; told = walk.told; changes = walk.changes }) c.enter.new.self c.in-Some-link.key _ _ more
     (inside_entering from kept held all most (sound from.table) c.root-root.ensures.document.distinct walk 0 at c.in-Some.stop _ taken c.requires.at more c.in-Inside.is (omega arith))
-    c.in-Some-link.is refl refl refl refl c.in_ok-enter-in-Inside.ensures.entered
+    c.in-Some-link.is refl refl refl refl refl c.in_ok-enter-in-Inside.ensures.entered
 
 pub returns-in_ok-enter-in-Anew-clause-found : goal.returns-in_ok-enter-in-Anew-clause-found
 returns-in_ok-enter-in-Anew-clause-found g c = λ held all most at.
@@ -156,10 +156,10 @@ returns-in_ok-enter-in-Anew-clause-found g c = λ held all most at.
     let taken = last_first walk.stops.items c.pop.new.self.items c.in-Some.stop c.in-Some.ensures.items in
     let more : ℕ = 0 in
     enters from kept held all most (sound from.table) walk 0 at c.root-root.ensures.document.distinct
-    (record { stack = walk.stack; stops = c.pop.new.self; link = walk.link; around = walk.around; told = walk.told }) c.enter-then-is_element.new.self c.in-Some-link.key _ _ more
+    (record { stack = walk.stack; stops = c.pop.new.self; link = walk.link; around = walk.around; told = walk.told; changes = walk.changes }) c.enter-then-is_element.new.self c.in-Some-link.key _ _ more
     (anew_entering from kept held all most (sound from.table) c.root-root.ensures.document.distinct walk 0 at c.in-Some.stop _ taken c.requires.at c.in-Some-link.key more c.in-Anew.is c.in-Some-link.is
     (sym c.is_element.ensures.test ∙ c.if-is_element.true) (omega arith))
-    c.in-Some-link.is refl refl refl refl c.in_ok-enter-in-Anew.ensures.entered
+    c.in-Some-link.is refl refl refl refl refl c.in_ok-enter-in-Anew.ensures.entered
 
 pub returns-else-is_element-clause-found : goal.returns-else-is_element-clause-found
 returns-else-is_element-clause-found g c = λ held all most at.
@@ -167,7 +167,7 @@ returns-else-is_element-clause-found g c = λ held all most at.
     let walk = c.args.walk.now in
     text_turn from (kept_on g.R.Snapshot.walked c.args.board.now) held all most (sound from.table) c.root-root.ensures.document.distinct walk 0 at
     c.in-Some.stop _ (last_first walk.stops.items c.pop.new.self.items c.in-Some.stop c.in-Some.ensures.items) c.requires.at
-    (record { stack = walk.stack; stops = c.pop.new.self; link = c.next_sibling-walk.result; around = walk.around; told = walk.told }) refl refl refl refl
+    (record { stack = walk.stack; stops = c.pop.new.self; link = c.next_sibling-walk.result; around = walk.around; told = walk.told; changes = walk.changes }) refl refl refl refl refl
     c.in-Some-link.key c.in-Anew.is c.in-Some-link.is c.next_sibling-walk.ensures.link (sym c.is_element.ensures.test ∙ c.if-is_element.false)
 
 pub returns-in_default-link-clause-found : goal.returns-in_default-link-clause-found
@@ -177,5 +177,5 @@ returns-in_default-link-clause-found g c = λ held all most at.
     let walk = c.args.walk.now in
     let taken = last_first walk.stops.items c.pop.new.self.items c.in-Some.stop c.in-Some.ensures.items in
     past_turn from kept held all most (sound from.table) c.root-root.ensures.document.distinct walk 0 at c.in-Some.stop _ taken c.requires.at
-    (record { stack = walk.stack; stops = c.pop.new.self; link = walk.link; around = walk.around; told = walk.told }) refl refl refl refl
+    (record { stack = walk.stack; stops = c.pop.new.self; link = walk.link; around = walk.around; told = walk.told; changes = walk.changes }) refl refl refl refl refl
     (link_there from kept held all most (sound from.table) c.root-root.ensures.document.distinct walk 0 at c.in-Some.stop _ taken c.requires.at c.in_default-link.is) refl

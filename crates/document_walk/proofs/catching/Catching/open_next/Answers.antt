@@ -3,7 +3,7 @@ use Rattle.std.specs.Prelude.{IfOk}
 use Rattle.plain_types.specs.declared.style.Style.{Style}
 use Rattle.surroundings.specs.declared.surroundings.Surroundings.{Surroundings}
 use Rattle.surroundings.specs.Surroundings.{handed_by}
-use Rattle.document_walk.specs.declared.frame.Opened.{Opened}
+use Rattle.document_walk.specs.declared.opened.Opened.{Opened}
 use Rattle.document_walk.specs.Catching.{frames_of, opened_at, reading}
 use Rattle.document_walk.specs.Walking.{opened_in}
 use Rattle.document_walk.proofs.catching.Catching.open_next.Goals as goal

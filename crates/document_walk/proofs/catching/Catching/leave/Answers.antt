@@ -1,0 +1,29 @@
+use Rattle.std.proofs.Common.{◌∙◌, ◌∷◌, ◌++◌, [], Bool, Option, ap}
+use Rattle.box_eval.specs.declared.element_record.ElementRecord.{ElementRecord}
+use Rattle.box_eval.specs.declared.made.Made.{Made}
+use Rattle.box_eval.specs.Evaluation.{changes_in}
+use Rattle.document_walk.specs.Catching.{past_by, reading, said_by, with_changes}
+use Rattle.document_walk.proofs.catching.Catching.leave.Goals as goal
+
+pub returns-clause-left : goal.returns-clause-left
+returns-clause-left g c =
+    let from = reading g.T.Starts.starts c.args.sources.now in
+    let walk = c.args.self.now in
+    let frame = c.args.frame in
+    let left = c.in_ok-left.left in
+    let said = c.in_ok-left.ensures.said ∙ ap (said_by from frame.key frame.opened) c.as_ref-2.ensures.value in
+    record {
+      stack = c.in_ok-tell.ensures.stack;
+      around =
+          c.in_ok-tell.ensures.around ∙ c.in_ok-left.ensures.past
+          ∙ (λ i. past_by from frame.key frame.opened (c.as_ref.ensures.value i) (c.as_ref-2.ensures.value i));
+      link = c.next_sibling-self.ensures.link;
+      stops = c.in_ok-tell.ensures.stops;
+      told =
+          c.in_ok-tell.ensures.told
+          ∙ ap (λ (said : ElementRecord). walk.told ++ (frame.key, record { said = said; walked = record { handed = frame.handed; behind = walk.around }; asks = left.asks }) ∷ []) said
+          ∙ ap (λ (asks : Bool). walk.told ++ (frame.key, record { said = said_by from frame.key frame.opened walk.around; walked = record { handed = frame.handed; behind = walk.around }; asks = asks }) ∷ []) c.in_ok-left.ensures.asks;
+      changes =
+          c.in_ok-tell.ensures.changes ∙ c.in_ok-collect_made.ensures.collected
+          ∙ ap (λ (made : Option Made). with_changes walk.changes (changes_in made)) (c.as_ref-3.ensures.value ∙ ap (λ (said : ElementRecord). said.after) said);
+    }
