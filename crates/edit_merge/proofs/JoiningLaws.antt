@@ -30,18 +30,18 @@ pub record IsJoined (stops others : List Stop) (count : ℕ) : Type 0 where
 pub joined-begins : (stops others : List Stop) → IsJoined stops others 0
 joined-begins stops others = record { within = omega arith; among = omega arith; same = λ is_first. refl }
 
-joined-common : (is_first : Bool) (stop other : Stop) (stops others : List Stop) → is_common stop other ≡ true → joined is_first (stop ∷ stops) (other ∷ others) ≡ stop ∷ joined is_first stops others
+pub joined-common : (is_first : Bool) (stop other : Stop) (stops others : List Stop) → is_common stop other ≡ true → joined is_first (stop ∷ stops) (other ∷ others) ≡ stop ∷ joined is_first stops others
 joined-common is_first stop other stops others common = ap (λ b. cond b (stop ∷ joined is_first stops others) (cond is_first ((stop ∷ stops) ++ (other ∷ others)) ((other ∷ others) ++ (stop ∷ stops)))) common
 
-joined-other : (is_first : Bool) (stop other : Stop) (stops others : List Stop) → is_common stop other ≡ false → joined is_first (stop ∷ stops) (other ∷ others) ≡ parted is_first (stop ∷ stops) (other ∷ others)
+pub joined-other : (is_first : Bool) (stop other : Stop) (stops others : List Stop) → is_common stop other ≡ false → joined is_first (stop ∷ stops) (other ∷ others) ≡ parted is_first (stop ∷ stops) (other ∷ others)
 joined-other is_first stop other stops others common = ap (λ b. cond b (stop ∷ joined is_first stops others) (cond is_first ((stop ∷ stops) ++ (other ∷ others)) ((other ∷ others) ++ (stop ∷ stops)))) common
 
 -- one of the lists has ended
-joined-none : (is_first : Bool) (others : List Stop) → joined is_first [] others ≡ parted is_first [] others
+pub joined-none : (is_first : Bool) (others : List Stop) → joined is_first [] others ≡ parted is_first [] others
 joined-none true others = refl
 joined-none false others = sym (append-nil others)
 
-none-joined : (is_first : Bool) (stops : List Stop) → joined is_first stops [] ≡ parted is_first stops []
+pub none-joined : (is_first : Bool) (stops : List Stop) → joined is_first stops [] ≡ parted is_first stops []
 none-joined is_first [] = joined-none is_first []
 none-joined true (stop ∷ stops) = sym (append-nil (stop ∷ stops))
 none-joined false (stop ∷ stops) = refl

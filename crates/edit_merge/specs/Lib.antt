@@ -1,3 +1,4 @@
 pub mod EditMerges
+pub mod NodeStops
 pub mod Joining
 pub mod Laws

@@ -17,6 +17,9 @@
 //! document before it. By the law `EditsStop` they are the `stops_of` the merge, in tree order. The merge of another
 //! sheet keeps all nodes: it has no stops, and its documents are to be evaluated whole.
 //!
+//! Where selectors see an edit from other nodes, these go and come again with all that is in them. [`nodes`] tells the
+//! stops of one such node, or of two, by their paths: one that stands in the other has none of its own.
+//!
 //! # Examples
 //!
 //! All are edits of `<ol><li>a</li><li>b</li><li>c</li></ol>`, where the list has the key 0, and its items with their
@@ -40,11 +43,13 @@
 //!
 //! # What the layers above cite
 //!
-//! In contracts: `edit_merge`, `edit_stops`, `inserted_key`, `is_element` and `IsDone`. In proofs: the laws, by the
-//! lemmas of `proofs/EditLaws.antt`, and `stops-named`, which joins them to the contracts of [`stops`].
+//! In contracts: `edit_merge`, `edit_stops`, `inserted_key`, `is_element`, `IsDone`, `stops_at_node` and
+//! `stops_at_nodes`. In proofs: the laws, by the lemmas of `proofs/EditLaws.antt`, and `stops-named`, which joins them to
+//! the contracts of [`stops`].
 #![tactic(auto)]
 
 mod joining;
 pub mod laws;
+pub mod nodes;
 mod places;
 pub mod stops;

@@ -128,7 +128,11 @@ fn removal_stops(alloc: Global, arena: &Arena, path: &[usize]) -> Result<Vec<Sto
 }
 
 /// The stops where the node at a path goes and comes again.
-fn relabelling_stops(alloc: Global, arena: &Arena, path: &[usize]) -> Result<Vec<Stop>, Memory>
+pub(crate) fn relabelling_stops(
+    alloc: Global,
+    arena: &Arena,
+    path: &[usize],
+) -> Result<Vec<Stop>, Memory>
     ensures stops { IfOk result (λ stops. stops.items ≡ relabelling_stops is_element path.now arena.now.tree) }
 {
     arena_holds_document(arena);

@@ -6,7 +6,7 @@ use Rattle.surroundings.specs.MergedLevels.{AreAllLed, AreLeaves, HasLeaves}
 use Rattle.styled_merge.specs.Reached.{reached}
 use Rattle.styled_merge.proofs.ReachedLaws.{at_kept, at_turned}
 
-either : (a b : Bool) → (a || b) ≡ true → (a ≡ true) ⊎ (b ≡ true)
+pub either : (a b : Bool) → (a || b) ≡ true → (a ≡ true) ⊎ (b ≡ true)
 either true b h = inl refl
 either false b h = inr h
 

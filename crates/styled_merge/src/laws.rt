@@ -1,6 +1,7 @@
 //! Laws of merges with the styles of their elements. The functions do nothing: each contract is a law.
 
 ghost use Rattle.styled_merge.specs.Laws.{AllIsLed, BoxStartsAreEnough, DocumentsStyleMerges, KeptAreOutside, KeptAreUntouched, KeptHaveSameStyles, NewForestsAreStyled, OldForestsAreStyled, OwnKeepsStyles, OwnReachesNothing, OwnStylesDocuments, OwnStylesMerges, ReachedKeepLevels, ReachedMerge, SheetsStyleMerges, StartsAreTheirOwn, StyledMergesKeepShape};
+ghost use Rattle.styled_merge.specs.StopLaws.{ReachesAreWalkable, StyledReachesAreWalkable};
 
 /// The old forest of a merge with styles is the old one with the old styles. Its new forest is the new one with the
 /// new styles, where what stays has the same in both. A walk over it stops at the same places.
@@ -23,6 +24,13 @@ pub fn reached_trees_go_and_come()
     ensures levels { ReachedKeepLevels }
     ensures own { OwnReachesNothing }
     ensures all { AllIsLed }
+{}
+
+/// A walk may go over the merge of an edit where what it reaches goes and comes, with styles or without: its stops are
+/// told by the document before, texts have no children in it, and its root isn't to be skipped.
+pub fn reached_merges_are_walkable()
+    ensures plain { ReachesAreWalkable }
+    ensures styled { StyledReachesAreWalkable }
 {}
 
 /// What the merge of an edit keeps is untouched, once what the edit reaches goes and comes in it.
