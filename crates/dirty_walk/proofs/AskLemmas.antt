@@ -1,5 +1,5 @@
 -- Plain documents ask for no start, so they may be evaluated with all starts 0.
-use Rattle.std.proofs.Common.{◌≡◌, ◌++◌, ◌&&◌, ◌||◌, ℕ, ℤ, List, [], ◌∷◌, Bool, true, false, cond, Option, Some, None, refl, sym, ap, ap₂, ◌∙◌, map, filter}
+use Rattle.std.proofs.Common.{◌≡◌, ◌++◌, ◌&&◌, ◌||◌, ℕ, ℤ, List, [], ◌∷◌, Bool, true, false, cond, Option, Some, None, refl, sym, ap₂, ◌∙◌, map, filter}
 use Rattle.std.specs.Prelude.{is_some, not}
 use Rattle.forest.specs.Forest.{Forest, Empty, Tree}
 use Rattle.forest.specs.Keys.{Keyed}
@@ -14,11 +14,10 @@ use Rattle.plain_types.specs.declared.style.Style.{Style}
 use Rattle.box_eval.specs.declared.inputs.Start.{Start}
 use Rattle.box_eval.specs.Boxes.{box_of, generates_box, has_pseudo_box}
 use Rattle.box_eval.specs.Elements.{Styled}
-use Rattle.box_eval.specs.Evaluation.{Element, StyledNode, box_starts, element_starts, styled, styled_trees}
+use Rattle.box_eval.specs.Evaluation.{Element, box_starts, element_starts, styled, styled_trees}
 use Rattle.box_eval.specs.Properties.{last_resets}
 use Rattle.box_eval.specs.Starts.{any_asks_for_start, document_starts, has_starts, no_starts, node_asks_for_start, started}
 use Rattle.merged_walk.specs.Evaluators.{told_all}
-use Rattle.surroundings.specs.declared.told.Told.{Told}
 use Rattle.surroundings.specs.StyledEvaluators.{root_surroundings, styled_evaluator}
 use Rattle.surroundings.proofs.Asking.{asks-all}
 use Rattle.dirty_walk.specs.Evaluations.{told_of}

@@ -20,7 +20,8 @@ use Rattle.target_index.specs.Holders.{is_holder}
 use Rattle.document_walk.specs.Elements.{element_count, one_where}
 use Rattle.document_walk.proofs.ElementLemmas.{weigh-without_keys}
 use Rattle.dirty_walk.specs.declared.exchange.ElementId.{ElementId}
-use Rattle.dirty_walk.specs.Exchanges.{IsDone, coming, elements_in, exchanges, first_node, leaving, taken_keys}
+use Rattle.edit_merge.specs.Laws.{IsDone}
+use Rattle.dirty_walk.specs.Exchanges.{coming, elements_in, exchanges, first_node, leaving, taken_keys}
 use Rattle.dirty_walk.specs.Holding.{IsIndexOf}
 use Rattle.dirty_walk.proofs.ExchangedLemmas.{AreExchanged, exchanged, exchanged-back}
 use Rattle.dirty_walk.proofs.IndexLemmas.{id_exchanged}

@@ -1,5 +1,5 @@
 -- What a document says before and after an edit.
-use Rattle.std.proofs.Common.{◌≡◌, ◌==◌, ◌≤◌, ◌+◌, ◌∙◌, ◌⊎◌, ℕ, true, false, ◌&&◌, Bool, cond, List, [], ◌∷◌, ◌++◌, length, Option, Some, None, is_some, refl, sym, ap, subst, inl, inr, arith}
+use Rattle.std.proofs.Common.{◌≡◌, ◌==◌, ◌≤◌, ◌∙◌, ◌⊎◌, ℕ, true, false, ◌&&◌, Bool, cond, List, [], ◌∷◌, ◌++◌, length, Option, Some, None, is_some, refl, sym, ap, subst, inl, inr, arith}
 use Rattle.std.specs.Option.{option_or}
 use Rattle.std.proofs.lemmas.Bool.{leb-true}
 use Rattle.std.proofs.lemmas.Option.{none-some}
@@ -23,7 +23,8 @@ use Rattle.node_arena.proofs.KeyAtLaws.{count-map, on-map}
 use Rattle.node_arena.proofs.MoveLaws.{inner-long}
 use Rattle.node_arena.proofs.PrepareLaws.{allowed-move}
 use Rattle.node_arena.proofs.TakeLaws.{length-roots}
-use Rattle.dirty_walk.specs.Exchanges.{IsDone, coming, first_node, leaving}
+use Rattle.edit_merge.specs.Laws.{IsDone}
+use Rattle.dirty_walk.specs.Exchanges.{coming, first_node, leaving}
 use Rattle.dirty_walk.proofs.SaidLemmas.{label-said, often, put-apart, put-said, put-sum, said, times-often}
 use Rattle.dirty_walk.proofs.SplitLemmas.{IsPut, around-label, inserted-put, label-in, label-out, others, put-first, removed-put}
 

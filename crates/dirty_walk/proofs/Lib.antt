@@ -28,3 +28,4 @@ pub mod StyleLemmas
 pub mod TakenLemmas
 pub mod ToldLemmas
 pub mod WalkLemmas
+pub mod WorkLemmas

@@ -1,14 +1,14 @@
 -- A walk from the place of an edit finds what comes to a board.
-use Rattle.std.proofs.Common.{◌≡◌, ◌≢◌, ◌≤◌, ◌⊎◌, ℕ, ℤ, Bool, true, false, List, [], ◌∷◌, length, map, Option, Some, None, refl, sym, ap, ap₂, subst, ◌∙◌, inl, inr, arith, unwrap_or, Global}
+use Rattle.std.proofs.Common.{◌≡◌, ◌≢◌, ◌≤◌, ◌+◌, ◌*◌, ◌⊎◌, ℕ, Bool, true, false, List, [], ◌∷◌, length, map, Option, Some, None, refl, sym, ap, subst, ◌∙◌, inl, inr, arith, unwrap_or, Global}
 use Rattle.std.specs.Prelude.{All, Contains, IfSome, option_map}
 use Rattle.std.specs.Prelude.{Vec}
+use Rattle.std.proofs.lemmas.Bool.{cases_Bool, true≢false}
 use Rattle.std.specs.FinMap.{FinMap, get}
 use Rattle.std.specs.Ordering.{nat_cmp}
 use Rattle.std.proofs.lemmas.List.{length-map}
-use Rattle.std.proofs.lemmas.List.Elements.{All-contains, All-contains_itself, All-map, All-weaker, Contains-append_cases, Contains-append_right}
+use Rattle.std.proofs.lemmas.List.Elements.{All-contains, All-contains_itself, All-map, All-weaker, Contains-append_cases}
 use Rattle.forest.specs.Forest.{Forest}
-use Rattle.forest.specs.Keys.{HasDistinctKeys, Keyed, without_keys}
-use Rattle.plain_types.specs.declared.box_id.BoxId.{BoxId}
+use Rattle.forest.specs.Keys.{Keyed, without_keys}
 use Rattle.plain_types.specs.declared.edit.Edit.{Edit}
 use Rattle.plain_types.specs.declared.edit.Edit.TheVariants.{Insert, Remove, Move, SetAttr, UnsetAttr, ReplaceSheet}
 use Rattle.plain_types.specs.declared.counter_style.CounterStyle.{CounterStyle}
@@ -24,7 +24,7 @@ use Rattle.box_eval.specs.Evaluation.{StyledNode, styled}
 use Rattle.box_eval.specs.Starts.{no_starts}
 use Rattle.generated_texts.specs.Documents.{agent_sheet, counter_styles, document_style}
 use Rattle.generated_texts.specs.References.{kept_at, known_targets}
-use Rattle.generated_texts.specs.StyleElements.{author_sheet, style_texts}
+use Rattle.generated_texts.specs.StyleElements.{author_sheet}
 use Rattle.merged_walk.specs.declared.stop.Stop.{Stop}
 use Rattle.merged_walk.specs.Entries.{AreAmong, Covers, Holds, first_at}
 use Rattle.merged_walk.specs.Evaluators.{told_all}
@@ -35,10 +35,10 @@ use Rattle.surroundings.specs.declared.told.Told.{Told}
 use Rattle.surroundings.specs.declared.walked.Walked.{Walked}
 use Rattle.surroundings.specs.StyledEvaluators.{root_surroundings, styled_evaluator}
 use Rattle.document_walk.specs.Catching.{Reading}
-use Rattle.document_walk.specs.CatchingUp.{AreAllAmong, CanCatchUp, CoversAll}
+use Rattle.document_walk.specs.CatchingUp.{AreAllAmong, CanCatchUp, CoversAll, IsWithinBudget}
 use Rattle.document_walk.specs.Elements.{element_count}
 use Rattle.edit_merge.specs.EditMerges.{edit_merge, edit_stops, inserted_key}
-use Rattle.edit_merge.specs.Laws as merges
+use Rattle.edit_merge.specs.Laws.{ChangesDocument, IsDone}
 use Rattle.edit_merge.proofs.EditLaws.{edits_have_leaves, edits_lead, edits_merge, edits_stop}
 use Rattle.style_reach.specs.Laws.{Edits}
 use Rattle.style_reach.specs.Reaches.{all_features, reach}
@@ -55,10 +55,9 @@ use Rattle.dirty_walk.specs.declared.styled_arena.StyledArena.{StyledArena}
 use Rattle.dirty_walk.specs.Changes.{AreChanges, Renews}
 use Rattle.dirty_walk.specs.DocumentStyles.{document_styles, read_styles}
 use Rattle.dirty_walk.specs.Evaluations.{all_kept_of, document_kept, document_told, kept_of, said_of}
-use Rattle.dirty_walk.specs.Exchanges.{InsertsOneTree, IsDone}
 use Rattle.dirty_walk.specs.PlaceReadings.{read_of}
 use Rattle.dirty_walk.specs.PlaceStyles.{StandsAt, StandsBefore}
-use Rattle.dirty_walk.specs.Places.{IsAtPlace, IsSomePlace, nothing_known, place_merge, reading_of, walked_at}
+use Rattle.dirty_walk.specs.Places.{IsAtPlace, IsSomePlace, IsWithinPlace, nothing_known, place_budget, place_merge, reading_of, walked_at}
 use Rattle.dirty_walk.specs.Plain.{are_plain, is_plain, rests_on_others}
 use Rattle.dirty_walk.proofs.AskLemmas.{plain_without_starts, without_starts_plain}
 use Rattle.dirty_walk.proofs.KnownLemmas.{kept_mapped}
@@ -67,7 +66,7 @@ use Rattle.dirty_walk.proofs.PlanLemmas.{its_author}
 use Rattle.dirty_walk.proofs.RenewalLemmas.{at_first, kept_there, later, once_there, renews, the_one}
 use Rattle.dirty_walk.proofs.ToldLemmas.{kept_count, told_once}
 
-not_everywhere : (reached : Reach) → reached ≡ Own → reached ≢ Everywhere
+pub not_everywhere : (reached : Reach) → reached ≡ Own → reached ≢ Everywhere
 not_everywhere reached own everywhere = absurd (cc)
 
 contains_mapped : {A B : Type 0} (f : A → B) (xs : List A) (x : A) → Contains xs x → Contains (map f xs) (f x)
@@ -77,15 +76,7 @@ contains_mapped f (y ∷ xs) x there = elim (Contains-append_cases (y ∷ []) xs
   | inr rest ↦ later (f y) (f x) (map f xs) (contains_mapped f xs x rest)
 ]
 
-one_tree : (edit : Edit) → InsertsOneTree edit → merges.InsertsOneTree edit
-one_tree (Insert parent index fragment) one = one
-one_tree (Remove path) one = tt
-one_tree (Move from parent index) one = tt
-one_tree (SetAttr path name value) one = tt
-one_tree (UnsetAttr path name) one = tt
-one_tree (ReplaceSheet text) one = tt
-
-changes_document : (edit : Edit) (tree : Forest (Keyed Node)) → touches_sheet tree edit ≡ false → merges.ChangesDocument edit
+changes_document : (edit : Edit) (tree : Forest (Keyed Node)) → touches_sheet tree edit ≡ false → ChangesDocument edit
 changes_document (Insert parent index fragment) tree free = tt
 changes_document (Remove path) tree free = tt
 changes_document (Move from parent index) tree free = tt
@@ -155,9 +146,6 @@ module _ (edit : Edit) (text : List ℕ) (held : FinMap nat_cmp Kept) (stops : L
 
   -- The walk may begin.
 
-  done : merges.IsDone edit old new
-  done = record { before = at.done.before; after = at.done.after; allowed = at.done.allowed; fragment = one_tree edit at.done.fragment; edited = at.done.edited }
-
   abbrev m : Merge Node
   m = edit_merge edit old new
 
@@ -168,7 +156,7 @@ module _ (edit : Edit) (text : List ℕ) (held : FinMap nat_cmp Kept) (stops : L
   forests =
       subst (λ (t : List ℕ). Merges (styled_merge (style_beside text old) (style_beside t new) no_starts no_starts None m) (styled (style_beside text old) no_starts old) (styled (style_beside t new) no_starts new))
       sheet_is
-      (own_styles_documents edit old new edits (edits_merge edit old new done) text at.own no_starts no_starts (starts_are_their_own (style_beside (edited_sheet edit text) new) no_starts m))
+      (own_styles_documents edit old new edits (edits_merge edit old new at.done) text at.own no_starts no_starts (starts_are_their_own (style_beside (edited_sheet edit text) new) no_starts m))
 
   -- what a walk reads under an author's sheet
   abbrev under : Sheet → Reading
@@ -180,16 +168,34 @@ module _ (edit : Edit) (text : List ℕ) (held : FinMap nat_cmp Kept) (stops : L
     holds = subst (λ (trees : Forest (Keyed StyledNode)). Holds told_at (told_all (styled_evaluator table) root_surroundings trees)) (sym forests.old)
         (subst (λ (told : List (ℕ × Told)). Holds told_at told) (sym (plain_without_starts table (document_style author old) old at.plain)) holds);
     read = read;
-    stops = stops_are ∙ sym (edits_stop edit old new done) ∙ sym (shape.stops 0);
-    leaves = shape.leaves (edits_have_leaves edit old new done);
-    led = shape.all_led (edits_lead edit old new done (changes_document edit old free));
+    stops = stops_are ∙ sym (edits_stop edit old new at.done) ∙ sym (shape.stops 0);
+    leaves = shape.leaves (edits_have_leaves edit old new at.done);
+    led = shape.all_led (edits_lead edit old new at.done (changes_document edit old free));
   })
 
-  -- What it finds, where that is plain.
+  -- What it finds. Where the document is plain, so is that.
 
   -- what the new document's evaluation tells under an author's sheet
   abbrev told_under : Sheet → List (ℕ × Told)
   told_under a = told_all (styled_evaluator (counter_styles a)) root_surroundings (styled (document_style a new) no_starts new)
+
+  module _ (caught : List (ℕ × Told)) (among_all : AreAllAmong (reading_of text new) (walked_at held) stops caught) where
+    all_found : is_plain (author_sheet text new) new ≡ true → are_plain caught ≡ true
+    all_found plain =
+        let is : is_plain author new ≡ true = ap (λ (a : Sheet). is_plain a new) (sym sheet_stays) ∙ plain in
+        let same : told_now ≡ document_told author new = plain_without_starts table (document_style author new) new is in
+        let among : AreAmong caught told_now = subst (λ (a : Sheet). AreAmong caught (told_under a)) sheet_stays (among_all (place_merge edit text old new) told_at can) in
+        all_plain caught
+        (All-weaker (Contains told_now) (λ (one : ℕ × Told). rests_on_others one.1 ≡ false)
+        (λ one there. each_plain (document_told author new) is one (subst (λ (told : List (ℕ × Told)). Contains told one) same there)) caught among)
+
+    pub rests_now : are_plain caught ≡ false → is_plain (author_sheet text new) new ≡ false
+    rests_now rests = elim (cases_Bool (is_plain (author_sheet text new) new)) [
+      | inl plain ↦ absurd (true≢false (sym (all_found plain) ∙ rests))
+      | inr not ↦ not
+    ]
+
+  -- And where that is plain, so is the document.
 
   module _ (caught : List (ℕ × Told)) (covers_all : CoversAll (reading_of text new) (walked_at held) stops caught) (among_all : AreAllAmong (reading_of text new) (walked_at held) stops caught)
       (plain : are_plain caught ≡ true) where
@@ -302,6 +308,18 @@ module _ (document : StyledArena) (is_agent : document.agent.now ≡ agent_sheet
     ),
   )
 
+  -- the steps of a walk over the merge of the edit
+  pub walk_within : (before now : ℕ) → IsWithinBudget (read_of document) (walked_at held) stops before now → now ≤ before + place_budget place.edit text place.old tree
+  walk_within before now within =
+      let there : CanCatchUp (reading_of text tree) (walked_at held) stops (place_merge place.edit text place.old tree) (told_at place.edit text held stops place.old tree place.at place.stops_are) =
+      can place.edit text held stops place.old tree place.at place.stops_are in
+      (subst (λ (from : Reading). IsWithinBudget from (walked_at held) stops before now) (reads document is_agent styles_are) within) _ _ there
+
+  pub rests : (caught : List (ℕ × Told)) → AreAllAmong (read_of document) (walked_at held) stops caught → are_plain caught ≡ false → is_plain (author_sheet text tree) tree ≡ false
+  rests caught among is =
+      rests_now place.edit text held stops place.old tree place.at place.stops_are caught
+      (subst (λ (from : Reading). AreAllAmong from (walked_at held) stops caught) (reads document is_agent styles_are) among) is
+
   module _ (caught : List (ℕ × Told)) (covers : CoversAll (read_of document) (walked_at held) stops caught) (among : AreAllAmong (read_of document) (walked_at held) stops caught) (plain : are_plain caught ≡ true) where
     covers_now : CoversAll (reading_of text tree) (walked_at held) stops caught
     covers_now = subst (λ (from : Reading). CoversAll from (walked_at held) stops caught) (reads document is_agent styles_are) covers
@@ -320,6 +338,31 @@ module _ (document : StyledArena) (is_agent : document.agent.now ≡ agent_sheet
         (its_table document.styles.now text tree styles_are ∙ ap counter_styles (sheet_stays place.edit text held stops place.old tree place.at place.stops_are)) are)
         few
 
+-- What a walk costs, and what is read of what it has found.
+module _ (document : StyledArena) (is_agent : document.agent.now ≡ agent_sheet) (styles_are : document.styles.now ≡ document_styles document.styles.now.sheet document.arena.now.tree)
+    (held : FinMap nat_cmp Kept) (stops : List Stop) where
+  twice : (before now budget : ℕ) → now ≤ before + budget → now ≤ before + 2 * budget
+  twice before now budget few = omega arith
+
+  once_more : (before walked spent found come budget : ℕ) → (walked + found) ≤ before + budget → found ≤ 0 + budget → spent ≤ walked + found → come ≤ found → (spent + come) ≤ before + 2 * budget
+  once_more before walked spent found come budget few small read fewer = omega arith
+
+  pub within_place : (before now spent : ℕ) → IsWithinBudget (read_of document) (walked_at held) stops before now → spent ≤ now → IsWithinPlace document.styles.now.sheet held stops document.arena.now.tree before spent
+  within_place before now spent within few place =
+      let walk : now ≤ before + place_budget place.edit document.styles.now.sheet place.old document.arena.now.tree = walk_within document is_agent styles_are held stops place before now within in
+      twice before spent (place_budget place.edit document.styles.now.sheet place.old document.arena.now.tree) (less spent now before _ few walk)
+    where
+      less : (spent now before budget : ℕ) → spent ≤ now → now ≤ before + budget → spent ≤ before + budget
+      less spent now before budget few walk = omega arith
+
+  pub read_within_place : (before walked spent found come : ℕ) → IsWithinBudget (read_of document) (walked_at held) stops before (walked + found) → IsWithinBudget (read_of document) (walked_at held) stops 0 found
+      → spent ≤ walked + found → come ≤ found → IsWithinPlace document.styles.now.sheet held stops document.arena.now.tree before (spent + come)
+  read_within_place before walked spent found come few small read fewer place =
+      once_more before walked spent found come (place_budget place.edit document.styles.now.sheet place.old document.arena.now.tree)
+      (walk_within document is_agent styles_are held stops place before (walked + found) few)
+      (walk_within document is_agent styles_are held stops place 0 found small)
+      read fewer
+
 -- A book before its edit is evaluated.
 
 module _ (edit : Edit) (styles : DocumentStyles) (held : FinMap nat_cmp Kept) (stops : List Stop) (new : Forest (Keyed Node)) (there : StandsAt edit styles held stops new) where
@@ -333,15 +376,30 @@ module _ (edit : Edit) (styles : DocumentStyles) (held : FinMap nat_cmp Kept) (s
   pub styles_after : (made : Option DocumentStyles) → made ≡ None → unwrap_or made styles ≡ document_styles (edited_sheet edit styles.sheet) new
   styles_after made none = ap (λ (o : Option DocumentStyles). unwrap_or o styles) none ∙ styles_now ∙ ap (λ (text : List ℕ). document_styles text new) (sym sheet_now)
 
-  pub some_place : IsSomePlace styles.sheet held stops new
+  abbrev pub some_place : IsSomePlace styles.sheet held stops new
   some_place = record { edit = edit; old = there.old; at = there.at; stops_are = there.stops_are }
 
 -- once the key of what comes is known
-pub stands_at : (edit : Edit) (styles : DocumentStyles) (held : FinMap nat_cmp Kept) (stops named : List Stop) (new : Forest (Keyed Node)) → StandsBefore edit styles held stops new
+abbrev pub stands_at : (edit : Edit) (styles : DocumentStyles) (held : FinMap nat_cmp Kept) (stops named : List Stop) (new : Forest (Keyed Node)) → StandsBefore edit styles held stops new
     → ((old : Forest (Keyed Node)) → stops ≡ edit_stops edit 0 old → named ≡ edit_stops edit (inserted_key edit new) old) → StandsAt edit styles held named new
 stands_at edit styles held stops named new there names = record { old = there.old; styles_are = there.styles_are; at = there.at; stops_are = names there.old there.stops_are }
 
 -- where the edit's walk may begin, before the edit is done
+pub stands_there : (edit : Edit) (agent : Sheet) (styles : DocumentStyles) (held : FinMap nat_cmp Kept) (plain : Bool) (old new : Forest (Keyed Node))
+    → agent ≡ agent_sheet → styles ≡ document_styles styles.sheet old → IsDone edit old new
+    → ((key : ℕ) → get held key ≡ kept_at (document_kept (author_sheet styles.sheet old) old) key) → plain ≡ is_plain (author_sheet styles.sheet old) old
+    → plain ≡ true → reach (all_features agent styles.author) old edit ≡ Own
+    → IsAtPlace edit styles.sheet held old new
+stands_there edit agent styles held plain old new is_agent styles_are finished kept plain_is answer own = record {
+  done = finished;
+  own =
+      ap (λ (a : Sheet). reach (all_features a (author_sheet styles.sheet old)) old edit) (sym is_agent)
+      ∙ ap (λ (author : Sheet). reach (all_features agent author) old edit) (sym (its_author styles styles.sheet old styles_are))
+      ∙ own;
+  kept = kept;
+  plain = sym plain_is ∙ answer;
+}
+
 pub stands_before : (edit : Edit) (agent : Sheet) (styles : DocumentStyles) (held : FinMap nat_cmp Kept) (plain : Bool) (old new : Forest (Keyed Node)) (stops : Option (Vec Stop Global))
     → agent ≡ agent_sheet → styles ≡ document_styles styles.sheet old → IsDone edit old new
     → ((key : ℕ) → get held key ≡ kept_at (document_kept (author_sheet styles.sheet old) old) key) → plain ≡ is_plain (author_sheet styles.sheet old) old
@@ -351,14 +409,6 @@ stands_before edit agent styles held plain old new None is_agent styles_are fini
 stands_before edit agent styles held plain old new (Some stops) is_agent styles_are finished kept plain_is answer own stops_are = record {
   old = old;
   styles_are = styles_are;
-  at = record {
-    done = finished;
-    own =
-        ap (λ (a : Sheet). reach (all_features a (author_sheet styles.sheet old)) old edit) (sym is_agent)
-        ∙ ap (λ (author : Sheet). reach (all_features agent author) old edit) (sym (its_author styles styles.sheet old styles_are))
-        ∙ own;
-    kept = kept;
-    plain = sym plain_is ∙ answer;
-  };
+  at = stands_there edit agent styles held plain old new is_agent styles_are finished kept plain_is answer own;
   stops_are = stops_are;
 }

@@ -1,18 +1,10 @@
 -- What elements that rest on nothing else need not know.
-use Rattle.std.proofs.Common.{◌≡◌, ◌||◌, ℕ, ℤ, Bool, true, false, List, [], ◌∷◌, Option, Some, None, not, refl, sym, ap, ap₂, subst, ◌∙◌, inl, inr, ◌⊎◌}
+use Rattle.std.proofs.Common.{◌≡◌, ◌||◌, ℕ, Bool, true, false, List, [], ◌∷◌, Option, Some, None, not, refl, sym, ap, ap₂, ◌∙◌}
 use Rattle.std.specs.Prelude.{All, Contains, IfSome, is_some, option_map}
 use Rattle.std.specs.List.{AllByRecursion, list_any}
-use Rattle.std.specs.Option.{option_map_or}
 use Rattle.std.proofs.lemmas.Bool.{or_parts, true≢false}
 use Rattle.std.proofs.lemmas.List.Elements.{All-cons, All-contains, All-nil, recursion_from_All}
-use Rattle.forest.specs.Forest.{Forest, Empty, Tree}
-use Rattle.forest.specs.Keys.{Keyed}
-use Rattle.plain_types.specs.declared.box_id.BoxId.{BoxId}
 use Rattle.plain_types.specs.declared.counter_style.CounterStyle.{CounterStyle}
-use Rattle.plain_types.specs.declared.node.Node.{Node}
-use Rattle.plain_types.specs.declared.node.Node.TheVariants as node
-use Rattle.plain_types.specs.declared.style.ElementStyle.{ElementStyle}
-use Rattle.plain_types.specs.declared.style.Style.{Style}
 use Rattle.content_eval.specs.declared.generated.Piece.{Piece}
 use Rattle.content_eval.specs.Targets.{Known, reference}
 use Rattle.content_eval.specs.TargetLaws.{AgreeBelow, AgreeOn, OfEachReference}
@@ -23,7 +15,6 @@ use Rattle.generated_texts.specs.declared.entry.BoxText.{BoxText}
 use Rattle.generated_texts.specs.declared.entry.NodeEntry.{NodeEntry}
 use Rattle.generated_texts.specs.Entries.{box_text, node_entry}
 use Rattle.surroundings.specs.declared.told.Told.{Told}
-use Rattle.dirty_walk.specs.declared.kept.Kept.{Kept}
 use Rattle.dirty_walk.specs.Evaluations.{kept_of}
 use Rattle.dirty_walk.specs.Plain.{are_plain, refers, refers_in, rests_on_others, some_refers}
 

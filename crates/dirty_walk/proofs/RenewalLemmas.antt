@@ -1,6 +1,6 @@
 -- What comes to a map of which all that is to be kept is known.
-use Rattle.std.proofs.Common.{◌≡◌, ◌==◌, ◌<◌, ◌≤◌, ℕ, nat_eq, Bool, true, false, cond, not, ◌&&◌, ◌||◌, List, [], ◌∷◌, ◌++◌, length, Option, Some, None, refl, sym, ap, subst, ◌∙◌, arith, ◌⊎◌, inl, inr, eqb-true, eq-eqb}
-use Rattle.std.specs.Prelude.{All, Contains, is_some}
+use Rattle.std.proofs.Common.{◌≡◌, ◌==◌, ◌<◌, ◌≤◌, ℕ, nat_eq, Bool, true, false, cond, not, ◌&&◌, ◌||◌, List, [], ◌∷◌, length, Option, Some, None, refl, sym, ap, subst, ◌∙◌, arith, ◌⊎◌, inl, inr, eqb-true, eq-eqb}
+use Rattle.std.specs.Prelude.{Contains, is_some}
 use Rattle.std.specs.Cmp.{nat_eq_equiv}
 use Rattle.std.specs.FinMap.{FinMap, get}
 use Rattle.std.specs.List.{AllByRecursion, list_any}
@@ -11,11 +11,11 @@ use Rattle.std.proofs.lemmas.List.Elements.{All-cons, All-contains, All-from_rec
 use Rattle.std.proofs.lemmas.Option.{none-some, same_Some}
 use Rattle.generated_texts.specs.References.{kept_at}
 use Rattle.snapshot_board.specs.Records.{put_all, take_all}
-use Rattle.merged_walk.specs.Entries.{AgreeByKeys, AreAmong, Covers, first_at, last_at, put_over}
+use Rattle.merged_walk.specs.Entries.{AgreeByKeys, first_at, last_at, put_over}
 use Rattle.merged_walk.proofs.EntryLaws.{contains-first}
 use Rattle.merged_walk.proofs.LawLemmas.{changes_are_enough}
 use Rattle.dirty_walk.specs.declared.kept.Kept.{Kept}
-use Rattle.dirty_walk.specs.Changes.{AreBelow, AreChanges, AreOthers, Renews}
+use Rattle.dirty_walk.specs.Changes.{AreBelow, AreChanges, Renews}
 use Rattle.dirty_walk.proofs.ChangeLemmas.{HasKeysOnce, get-put_all, get-take_all, has_key}
 
 module _ {A : Type 0} where

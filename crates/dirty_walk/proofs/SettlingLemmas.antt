@@ -1,5 +1,5 @@
 -- A plan settles its book.
-use Rattle.std.proofs.Common.{◌≡◌, ◌<◌, ◌≤◌, ◌+◌, ◌∙◌, ℕ, nat_eq, true, List, [], ◌∷◌, length, ap, sym, arith}
+use Rattle.std.proofs.Common.{◌≡◌, ◌<◌, ◌≤◌, ◌+◌, ◌∙◌, ℕ, nat_eq, List, [], ◌∷◌, length, ap, arith}
 use Rattle.std.specs.Prelude.{is_some}
 use Rattle.std.specs.FinMap.{FinMap, get}
 use Rattle.std.specs.List.{list_any}
@@ -18,7 +18,8 @@ use Rattle.snapshot_board.specs.Records.{put_all, take_all}
 use Rattle.dirty_walk.specs.Books.{HasRoomFor}
 use Rattle.dirty_walk.specs.Changes.{AreBelow, Renews}
 use Rattle.dirty_walk.specs.Evaluations.{document_kept}
-use Rattle.dirty_walk.specs.Exchanges.{IsDone, elements_in, leaving, taken_keys}
+use Rattle.edit_merge.specs.Laws.{IsDone}
+use Rattle.dirty_walk.specs.Exchanges.{elements_in, leaving, taken_keys}
 use Rattle.dirty_walk.specs.Plans.{AreOfElements}
 use Rattle.dirty_walk.proofs.ChangeLemmas.{HasKeysOnce}
 use Rattle.dirty_walk.proofs.ExchangeLaws.{taken_count, takes_are}

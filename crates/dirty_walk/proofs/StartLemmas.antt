@@ -1,24 +1,19 @@
 -- Where no box asks for a start, what is told of elements is the same with all starts.
-use Rattle.std.proofs.Common.{◌≡◌, ◌++◌, ◌∷◌, ◌&&◌, ◌||◌, ℕ, ℤ, List, [], Bool, true, false, cond, Option, Some, None, refl, sym, ap, ◌∙◌, map, filter}
-use Rattle.std.proofs.lemmas.Bool.{or_parts, true≢false}
-use Rattle.std.specs.Prelude.{is_some, not}
+use Rattle.std.proofs.Common.{◌≡◌, ◌++◌, ◌||◌, ℕ, ℤ, List, Bool, true, false, cond, Option, Some, None, refl, sym, ap, ◌∙◌}
+use Rattle.std.proofs.lemmas.Bool.{or_parts}
 use Rattle.forest.specs.Forest.{Forest, Empty, Tree}
 use Rattle.forest.specs.Keys.{Keyed}
 use Rattle.plain_types.specs.declared.box_id.BoxId.{BoxId}
-use Rattle.plain_types.specs.declared.box_kind.BoxKind.TheVariants as kind
 use Rattle.plain_types.specs.declared.counter_style.CounterStyle.{CounterStyle}
 use Rattle.plain_types.specs.declared.node.Node.{Node}
 use Rattle.plain_types.specs.declared.node.Node.TheVariants as node
 use Rattle.plain_types.specs.declared.style.ElementStyle.{ElementStyle}
-use Rattle.plain_types.specs.declared.style.ResetOp.{ResetOp}
 use Rattle.plain_types.specs.declared.style.Style.{Style}
-use Rattle.box_eval.specs.declared.inputs.Start.{Start}
-use Rattle.box_eval.specs.Boxes.{box_of, generates_box, has_pseudo_box}
+use Rattle.box_eval.specs.Boxes.{generates_box}
 use Rattle.box_eval.specs.Elements.{Styled, by_parent}
-use Rattle.box_eval.specs.Evaluation.{Element, StyledNode, Text, box_starts, element_starts, styled, styled_trees, within}
-use Rattle.box_eval.specs.Properties.{last_resets}
+use Rattle.box_eval.specs.Evaluation.{Element, StyledNode, Text, element_starts, styled, styled_trees, within}
 use Rattle.box_eval.specs.Starts.{any_asks_for_start, document_starts, has_starts, no_starts, node_asks_for_start}
-use Rattle.box_eval.proofs.DocumentLemmas.{join_two}
+use Rattle.box_eval.proofs.AskingLemmas.{same_starts}
 use Rattle.merged_walk.specs.Evaluators.{Evaluator, past_all, told, told_all}
 use Rattle.surroundings.specs.declared.surroundings.Surroundings.{Surroundings}
 use Rattle.surroundings.specs.declared.told.Told.{Told}
@@ -26,53 +21,11 @@ use Rattle.surroundings.specs.Surroundings.{handed_by, surroundings_of}
 use Rattle.surroundings.specs.StyledEvaluators.{root_surroundings, styled_evaluator}
 use Rattle.dirty_walk.specs.Evaluations.{told_of}
 
--- An element that asks for no start has none, whatever the starts are.
-
-none_mapped : {A : Type 0} (f g : A → Start) (items : List A) → has_starts (map g items) ≡ false → map f items ≡ map g items
-none_mapped f g [] none = refl
-none_mapped f g (item ∷ items) none = absurd (true≢false none)
-
-starts_parts : (starts others : List Start) → has_starts (starts ++ others) ≡ false → (has_starts starts ≡ false) × (has_starts others ≡ false)
-starts_parts [] others none = (refl, none)
-starts_parts (start ∷ starts) others none = absurd (true≢false none)
-
-same_if : (b : Bool) (starts others : List Start) → (has_starts others ≡ false → starts ≡ others) → has_starts (cond b others []) ≡ false → cond b starts [] ≡ cond b others []
-same_if true starts others same none = same none
-same_if false starts others same none = refl
-
-module _ (start : BoxId → List ℕ → ℤ) where
-  same_box : (creator : BoxId) (style : Style) → has_starts (box_starts no_starts creator style) ≡ false → box_starts start creator style ≡ box_starts no_starts creator style
-  same_box creator style none =
-      none_mapped (λ (reset : ResetOp). record { creator = creator; name = reset.name; value = start creator reset.name })
-      (λ (reset : ResetOp). record { creator = creator; name = reset.name; value = no_starts creator reset.name })
-      (filter (λ (reset : ResetOp). reset.reversed && not (is_some reset.value)) (last_resets style.resets)) none
-
-  module _ (key : ℕ) (style : ElementStyle) where
-    abbrev pseudo_starts : (BoxId → List ℕ → ℤ) → List Start
-    pseudo_starts start =
-        cond (has_pseudo_box style.before) (box_starts start (box_of key kind.Before) style.before) []
-        ++ cond (has_pseudo_box style.after) (box_starts start (box_of key kind.After) style.after) []
-
-    same_pseudo : has_starts (pseudo_starts no_starts) ≡ false → pseudo_starts start ≡ pseudo_starts no_starts
-    same_pseudo none =
-        let before = box_starts no_starts (box_of key kind.Before) style.before in
-        let after = box_starts no_starts (box_of key kind.After) style.after in
-        let each = starts_parts (cond (has_pseudo_box style.before) before []) (cond (has_pseudo_box style.after) after []) none in
-        join_two _ _ _ _ (same_if (has_pseudo_box style.before) _ before (same_box (box_of key kind.Before) style.before) each.0)
-        (same_if (has_pseudo_box style.after) _ after (same_box (box_of key kind.After) style.after) each.1)
-
-    same_starts : has_starts (element_starts no_starts key style) ≡ false → element_starts start key style ≡ element_starts no_starts key style
-    same_starts none =
-        same_if (generates_box style) (box_starts start (box_of key kind.Element) style.own ++ pseudo_starts start) (box_starts no_starts (box_of key kind.Element) style.own ++ pseudo_starts no_starts)
-        (λ none.
-        let each = starts_parts (box_starts no_starts (box_of key kind.Element) style.own) (pseudo_starts no_starts) none in
-        join_two _ _ _ _ (same_box (box_of key kind.Element) style.own each.0) (same_pseudo each.1)) none
-
-    -- one without a box has none
-    unasked : (element : Styled) → element.starts ≡ element_starts no_starts key style → (b : Bool) → generates_box style ≡ b → node_asks_for_start b (Element element) ≡ false
-        → element_starts start key style ≡ element_starts no_starts key style
-    unasked element are true is none = same_starts (ap has_starts (sym are) ∙ none)
-    unasked element are false is none = rw is refl
+-- An element that asks for no start has none, whatever the starts are; and one without a box has none.
+unasked : (start : BoxId → List ℕ → ℤ) (key : ℕ) (style : ElementStyle) (element : Styled) → element.starts ≡ element_starts no_starts key style → (b : Bool) → generates_box style ≡ b → node_asks_for_start b (Element element) ≡ false
+    → element_starts start key style ≡ element_starts no_starts key style
+unasked start key style element are true is none = same_starts start key style (ap has_starts (sym are) ∙ none)
+unasked start key style element are false is none = rw is refl
 
 -- Walks over two forests.
 

@@ -6,7 +6,6 @@ use Rattle.std.proofs.lemmas.List.{length-map}
 use Rattle.forest.specs.Forest.{Forest, Empty, Tree}
 use Rattle.forest.specs.Keys.{Keyed, HasDistinctKeys, times, without_keys}
 use Rattle.plain_types.specs.declared.box_id.BoxId.{BoxId}
-use Rattle.plain_types.specs.declared.counter_style.CounterStyle.{CounterStyle}
 use Rattle.plain_types.specs.declared.node.Node.{Node}
 use Rattle.plain_types.specs.declared.sheet.Sheet.{Sheet}
 use Rattle.plain_types.specs.declared.style.ElementStyle.{ElementStyle}
@@ -27,7 +26,7 @@ use Rattle.surroundings.proofs.Said.{said-document}
 use Rattle.dirty_walk.specs.declared.kept.Kept.{Kept}
 use Rattle.dirty_walk.specs.Books.{Keeps, KeepsAll, StyledDocument}
 use Rattle.dirty_walk.specs.Evaluations.{document_kept, document_told, kept_of, said_of}
-use Rattle.dirty_walk.proofs.ChangeLemmas.{HasKeysOnce, has_key}
+use Rattle.dirty_walk.proofs.ChangeLemmas.{HasKeysOnce}
 use Rattle.dirty_walk.proofs.KnownLemmas.{kept_mapped}
 use Rattle.dirty_walk.proofs.RecordLemmas.{has_key-mapped, length-document_records, records_once}
 

@@ -62,7 +62,7 @@ fresh_kept styled key = kept_at (document_kept (author_sheet styled.sheet styled
 abbrev pub KeepsAll : StyledDocument → Type 0
 KeepsAll styled = (key : ℕ) → get styled.kept key ≡ fresh_kept styled key
 
--- exactly the keys of the document's nodes are used, and, while an edit is planned, of those that it had before
+-- the keys in use are those of the document's nodes and, while an edit is planned, those that it had before
 abbrev pub UsesItsKeys : Document → Option Reversal → Type 0
 UsesItsKeys arena None = IsSettled arena
 UsesItsKeys arena (Some reversal) = IsCommitted arena reversal
@@ -73,7 +73,8 @@ HasRoomFor room document = (key : ℕ) → IsSome (name_of document key) → key
 
 -- A book stands for its arena's tree, its sheet's text, what its board holds, and whether no edit is planned. It has the
 -- user agent's sheet, that document's styles and the index of its ids, room for what is kept of its elements, and knows
--- whether they rest on more than what they are handed. A settled one keeps what a fresh evaluation does, and uses no key that no node has; an edit that is planned can be taken back.
+-- whether they rest on more than what they are handed. A settled one keeps what a fresh evaluation does, and uses the keys of
+-- its nodes alone; an edit that is planned can be taken back.
 pub record IsBook (arena : Document) (agent : Sheet) (styles : DocumentStyles) (board : Records Kept) (index : Index) (plain : Bool) (planned : Option Reversal) (styled : StyledDocument) : Type 0 where
   pub agent_is : agent ≡ agent_sheet
   pub styles_are : styles ≡ document_styles styled.sheet styled.tree

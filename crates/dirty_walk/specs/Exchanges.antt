@@ -1,19 +1,17 @@
 -- What an edit takes out of a document and what it brings into it (our own).
-use Rattle.std.specs.Prelude.{◌≡◌, ℕ, cond, codes, flat_map, map, List, [], ◌∷◌, ◌++◌, Option, None}
+use Rattle.std.specs.Prelude.{◌≡◌, ℕ, cond, codes, flat_map, map, List, [], ◌∷◌, ◌++◌, Option}
 use Rattle.std.specs.Option.{option_map_or}
 use Rattle.forest.specs.Forest.{Forest, Empty, Tree, labels}
-use Rattle.forest.specs.Keys.{Keyed, without_keys}
+use Rattle.forest.specs.Keys.{Keyed}
 use Rattle.forest.specs.Paths.{on_path}
 use Rattle.plain_types.specs.Attributes.{value_of}
-use Rattle.plain_types.specs.Tree.{IsOne}
 use Rattle.plain_types.specs.declared.edit.Edit.{Edit}
 use Rattle.plain_types.specs.declared.edit.Edit.TheVariants.{Insert, Remove, SetAttr, UnsetAttr}
 use Rattle.plain_types.specs.declared.node.Node.{Node}
 use Rattle.node_arena.specs.Changes.{alone}
 use Rattle.node_arena.specs.Copies.{is_element}
-use Rattle.node_arena.specs.Document.{IsKeyedDocument}
-use Rattle.node_arena.specs.Edits.{IsEdited, place_fault}
 use Rattle.node_arena.specs.Nodes.{node_attrs}
+use Rattle.edit_merge.specs.Laws.{IsDone}
 use Rattle.target_index.specs.declared.change.IndexChange.{IndexChange}
 use Rattle.target_index.specs.declared.change.IndexChange.TheVariants.{Hold, Unhold}
 use Rattle.target_index.specs.declared.index.Index.{Index}
@@ -67,21 +65,6 @@ exchanges gone come = flat_map unheld gone ++ flat_map held come
 abbrev pub taken_keys : Edit → List ElementId → List ℕ
 taken_keys (Remove path) gone = map (λ (element : ElementId). element.key) gone
 taken_keys edit gone = []
-
--- Documents before and after an edit.
-
--- what an edit inserts is one tree
-abbrev pub InsertsOneTree : Edit → Type 0
-InsertsOneTree (Insert parent index fragment) = IsOne fragment
-InsertsOneTree edit = Unit {0}
-
--- the first document allows the edit, and the second is what it makes of it
-pub record IsDone (edit : Edit) (old new : Forest (Keyed Node)) : Type 0 where
-  pub before : IsKeyedDocument old
-  pub after : IsKeyedDocument new
-  pub allowed : place_fault edit (without_keys old) ≡ None
-  pub fragment : InsertsOneTree edit
-  pub edited : IsEdited edit old new
 
 -- an index is that of the document before an edit, of which these elements go
 pub record IsIndexBefore (edit : Edit) (gone : List ElementId) (index : Index) (new : Forest (Keyed Node)) : Type 0 where

@@ -1,6 +1,7 @@
 pub mod Books
 pub mod Changes
 pub mod DocumentStyles
+pub mod EditedArenas
 pub mod Evaluations
 pub mod Exchanges
 pub mod Holding
@@ -10,3 +11,4 @@ pub mod PlaceStyles
 pub mod Places
 pub mod Plain
 pub mod Plans
+pub mod WorkBounds

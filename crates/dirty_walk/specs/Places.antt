@@ -1,5 +1,5 @@
 -- Where what comes to a board by an edit is told by a walk from the edit's place (our own).
-use Rattle.std.specs.Prelude.{◌≡◌, ℕ, true, List, [], Option, None, option_map}
+use Rattle.std.specs.Prelude.{◌≡◌, ◌≤◌, ◌+◌, ◌*◌, ℕ, true, List, [], Option, None, option_map}
 use Rattle.std.specs.FinMap.{FinMap, get}
 use Rattle.std.specs.Ordering.{nat_cmp}
 use Rattle.forest.specs.Forest.{Forest}
@@ -13,17 +13,19 @@ use Rattle.generated_texts.specs.Documents.{counter_styles}
 use Rattle.generated_texts.specs.References.{kept_at}
 use Rattle.generated_texts.specs.StyleElements.{author_sheet}
 use Rattle.merged_walk.specs.declared.stop.Stop.{Stop}
+use Rattle.merged_walk.specs.Counts.{budget}
 use Rattle.merged_walk.specs.Merges.{Merge}
 use Rattle.document_walk.specs.Catching.{Reading}
 use Rattle.edit_merge.specs.EditMerges.{edit_merge, edit_stops, inserted_key}
+use Rattle.edit_merge.specs.Laws.{IsDone}
 use Rattle.style_reach.specs.Reaches.{reach}
 use Rattle.style_reach.specs.declared.extent.Reach.TheVariants.{Own}
 use Rattle.styled_merge.specs.Laws.{looks_beside, style_beside}
 use Rattle.styled_merge.specs.StyledMerges.{styled_merge}
 use Rattle.surroundings.specs.declared.walked.Walked.{Walked}
+use Rattle.surroundings.specs.StyledEvaluators.{root_surroundings, styled_evaluator}
 use Rattle.dirty_walk.specs.declared.kept.Kept.{Kept}
 use Rattle.dirty_walk.specs.Evaluations.{document_kept}
-use Rattle.dirty_walk.specs.Exchanges.{IsDone}
 use Rattle.dirty_walk.specs.Plain.{is_plain}
 
 -- nothing is known of any element
@@ -48,6 +50,15 @@ pub record IsSomePlace (text : List ℕ) (held : FinMap nat_cmp Kept) (stops : L
   pub old : Forest (Keyed Node)
   pub at : IsAtPlace edit text held old new
   pub stops_are : stops ≡ edit_stops edit (inserted_key edit new) old
+
+-- the most steps of a walk over that merge, with one for each record that it finds
+abbrev pub place_budget : Edit → List ℕ → (old new : Forest (Keyed Node)) → ℕ
+place_budget edit text old new =
+    budget (styled_evaluator (counter_styles (author_sheet text new))) root_surroundings root_surroundings (place_merge edit text old new)
+
+-- from one number of steps to another are no more than such a walk takes, and one for each record that is read again
+abbrev pub IsWithinPlace : List ℕ → FinMap nat_cmp Kept → List Stop → Forest (Keyed Node) → (before now : ℕ) → Type 0
+IsWithinPlace text held stops new before now = (place : IsSomePlace text held stops new) → now ≤ before + 2 * place_budget place.edit text place.old new
 
 -- What a walk reads of a document under the sheet of this text, where all starts are 0.
 abbrev pub reading_of : List ℕ → Forest (Keyed Node) → Reading

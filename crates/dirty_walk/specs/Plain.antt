@@ -1,5 +1,5 @@
 -- Documents whose elements are told by what they are handed alone (our own): no box asks for the start of a reversed
--- counter, and none refers to another element.
+-- counter, and none holds a reference to an id.
 use Rattle.std.specs.Prelude.{ℕ, Bool, false, ◌||◌, List, Option, is_some, not}
 use Rattle.std.specs.List.{list_any}
 use Rattle.std.specs.Option.{option_map_or}
@@ -14,7 +14,7 @@ use Rattle.box_eval.specs.declared.made.Made.{Made}
 use Rattle.surroundings.specs.declared.told.Told.{Told}
 use Rattle.dirty_walk.specs.Evaluations.{document_told}
 
--- some piece refers to an element
+-- some piece refers to an id, whether an element has it or not
 abbrev pub some_refers : List Piece → Bool
 some_refers pieces = list_any (λ piece. is_some (reference piece)) pieces
 
@@ -35,6 +35,6 @@ some_rests_on_others told = list_any (λ (element : ℕ × Told). rests_on_other
 abbrev pub are_plain : List (ℕ × Told) → Bool
 are_plain told = not (some_rests_on_others told)
 
--- no element of a document under the author's sheet does
+-- no element of a document under the author's sheet rests on more than what it is handed
 abbrev pub is_plain : Sheet → Forest (Keyed Node) → Bool
 is_plain author document = are_plain (document_told author document)

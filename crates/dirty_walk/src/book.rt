@@ -13,9 +13,11 @@ ghost use Rattle.document_walk.specs.Elements.{element_count};
 ghost use Rattle.dirty_walk.specs.Books.{entry_at, fresh_entry, Keeps};
 ghost use Rattle.dirty_walk.specs.DocumentStyles.{document_styles};
 ghost use Rattle.dirty_walk.specs.Plans.{settled_after, IsPlannedBy, plan_size};
+ghost use Rattle.dirty_walk.specs.WorkBounds.{IsWithinWork, StopsWithinWork, keyed_source};
 
 use crate::board::{put_changes, take_entries};
 use crate::document_styles::DocumentStyles;
+use crate::edited_arena::EditedArena;
 use crate::exchange::{inserts_one_tree, leaving_elements, taken_keys};
 use crate::fresh::{agent_sheet, fresh_board};
 use crate::index::index_of;
@@ -54,7 +56,7 @@ pub struct Book {
     board: Board<Kept>,
     index: Index,
     /// Whether no element of the document rests on more than what it is handed: no box asks for the start of a reversed
-    /// counter, and none refers to another element.
+    /// counter, and none holds a reference to an id.
     is_plain: bool,
     /// The way back from an edit that is planned.
     planned: Option<Reversal>,
@@ -133,9 +135,11 @@ impl Book {
     ///
     /// Where the document is plain before the edit and after it, and the edit changes no styles but those of the trees
     /// that it puts in, takes out, moves or addresses, only what the edit touches is evaluated. Else the edited document
-    /// is evaluated whole, which costs what `begin` costs; where the texts of the sheet and of the style elements are as
-    /// before, none is read. Beside that come the arena's `prepare` and `commit`. What is as before stays where it is,
-    /// and with it what it has in memory.
+    /// is evaluated whole, which costs what `begin` costs, and may come on top of a walk that found it to be plain no more;
+    /// where the texts of the sheet and of the style elements are as before, none is read. Beside that come the arena's
+    /// `prepare` and `commit`. What is as before stays where it is, and with it what it has in memory. With those of
+    /// `commit` its steps are bounded by the work of the edit, where only what the edit touches is evaluated, and where the
+    /// edit can change all styles; so are its own where it answers `Memory`.
     pub fn plan<L: Ledger>(
         &mut self,
         alloc: Global,
@@ -149,6 +153,8 @@ impl Book {
         ensures document { IfOk result (λ plan. IsEdited edit.now self.old.tree (settled_after self.new plan).tree) }
         ensures sheet { IfOk result (λ plan. (settled_after self.new plan).sheet ≡ edited_sheet edit.now self.old.sheet) }
         ensures err { OnErr result (self.new ≡ self.old) }
+        ensures within_work { IfOk result (λ plan. IsWithinWork edit.now (keyed_source self.old) (keyed_source (settled_after self.new plan)) steps.old (steps.new + plan_size plan)) }
+        ensures stops_within_work { OnErr result (StopsWithinWork edit.now (keyed_source self.old) steps.old steps.new) }
         ensures steps { steps.new ≤ steps.old + 12 * element_count (edited edit.now (without_keys self.old.tree)) }
         ensures size { IfOk result (λ plan. plan_size plan ≤ element_count (edited edit.now (without_keys self.old.tree)) + element_count (without_keys self.old.tree)) }
     {
@@ -168,14 +174,17 @@ impl Book {
         let prepared = self.arena.prepare(alloc, edit)?;
         let reversal = self.arena.commit(prepared);
         arena_holds_document(&self.arena);
+        let document = EditedArena {
+            arena: &self.arena,
+            agent: &self.agent,
+            styles: &self.styles,
+            edit,
+        };
         match evaluated(
             alloc,
-            &self.arena,
-            &self.agent,
-            &self.styles,
+            &document,
             &mut self.index,
             &mut self.board,
-            edit,
             gone,
             stops,
             steps,

@@ -5,10 +5,8 @@ ghost use Rattle.forest.specs.Keys.{without_keys};
 ghost use Rattle.mini_cascade.specs.Styles.{element_style};
 ghost use Rattle.box_eval.specs.Evaluation.{all_changes, styled};
 ghost use Rattle.box_eval.specs.Starts.{no_starts};
-ghost use Rattle.merged_walk.specs.Evaluators.{told_all};
 ghost use Rattle.generated_texts.specs.References.{known_targets, known_to_flat_texts};
 ghost use Rattle.document_walk.specs.Elements.{element_count};
-ghost use Rattle.surroundings.specs.StyledEvaluators.{root_surroundings, styled_evaluator};
 ghost use Rattle.snapshot_board.specs.Records.{put_all};
 ghost use Rattle.dirty_walk.specs.Changes.{AreBelow, AreChanges};
 ghost use Rattle.dirty_walk.specs.Evaluations.{all_kept_of, said_of, told_of};
@@ -22,10 +20,9 @@ use crate::node_texts::{changed_entries, put_entries};
 use crate::targets::DocumentTargets;
 use box_eval::change::Change;
 use box_eval::changed_starts::ChangedStarts;
-use box_eval::starts::{NoStarts, Starts};
+use box_eval::starts::NoStarts;
 use content_eval::laws::no_reference_is_circular;
-use document_walk::catch_up::tell_all;
-use document_walk::evaluate::evaluate;
+use document_walk::evaluate::{Evaluated, evaluate, tell_all};
 use document_walk::sources::Sources;
 use node_arena::arena::Arena;
 use plain_types::list::List;
@@ -40,30 +37,51 @@ use steps::Steps;
 use surroundings::told::Told;
 use target_index::index::Index;
 
-/// What the evaluation tells of a document's elements, with these starts of reversed counters.
-fn told_with<L: Ledger, T: Starts>(
+/// What the evaluation tells of a document's elements. One walk, with every start at 0, tells it where no box asks for the
+/// start of a reversed counter. Else that walk tells the starts, and a second one goes with them.
+pub(crate) fn document_told<L: Ledger>(
     alloc: Global,
     arena: &Arena,
     agent: &Sheet,
     author: &Sheet,
     table: &Table,
-    starts: &T,
     steps: &mut Steps<L>,
 ) -> Result<List<(usize, Told)>, Memory>
-    ensures told { IfOk result (λ told. told ≡ told_all (styled_evaluator table.now) root_surroundings (styled (element_style arena.now.tree agent.now author.now) (T.starts starts.now) arena.now.tree)) }
-    ensures steps { steps.new ≤ steps.old + 3 * element_count (without_keys arena.now.tree) }
+    ensures told { IfOk result (λ told. told ≡ told_of table.now (element_style arena.now.tree agent.now author.now) arena.now.tree) }
+    ensures steps { steps.new ≤ steps.old + 6 * element_count (without_keys arena.now.tree) }
 {
     let sources = Sources {
         arena,
         agent,
         author,
         table,
-        starts,
+        starts: &NoStarts,
     };
-    tell_all(alloc, &sources, steps)
+    let first = evaluate(alloc, &sources, steps)?;
+    if first.asks {
+        // What it told is let go before the second walk tells it anew.
+        let changes = changes_alone(first);
+        return told_by(
+            alloc,
+            arena,
+            agent,
+            author,
+            table,
+            changes.as_slice(),
+            steps,
+        );
+    }
+    Ok(first.told)
 }
 
-/// What it tells of them where their boxes do this to counters, which tells the starts.
+/// What an evaluation says of counters, and no more.
+fn changes_alone(evaluated: Evaluated) -> List<Change>
+    ensures changes { result ≡ evaluated.changes }
+{
+    evaluated.changes
+}
+
+/// What the evaluation tells of a document's elements where their boxes do this to counters, which tells the starts.
 fn told_by<L: Ledger>(
     alloc: Global,
     arena: &Arena,
@@ -78,37 +96,14 @@ fn told_by<L: Ledger>(
     ensures steps { steps.new ≤ steps.old + 3 * element_count (without_keys arena.now.tree) }
 {
     let starts = ChangedStarts::of(alloc, changes)?;
-    let told = told_with(alloc, arena, agent, author, table, &starts, steps)?;
-    Ok(told)
-}
-
-/// What the evaluation tells of a document's elements. One walk, with every start at 0, tells the starts of the reversed
-/// counters. A second one goes with them, where a box asks for one.
-pub(crate) fn document_told<L: Ledger>(
-    alloc: Global,
-    arena: &Arena,
-    agent: &Sheet,
-    author: &Sheet,
-    table: &Table,
-    steps: &mut Steps<L>,
-) -> Result<List<(usize, Told)>, Memory>
-    ensures told { IfOk result (λ told. told ≡ told_of table.now (element_style arena.now.tree agent.now author.now) arena.now.tree) }
-    ensures steps { steps.new ≤ steps.old + 6 * element_count (without_keys arena.now.tree) }
-{
-    let first = evaluate(alloc, arena, agent, author, table, &NoStarts, steps)?;
-    if first.asks {
-        let changes = first.changes;
-        return told_by(
-            alloc,
-            arena,
-            agent,
-            author,
-            table,
-            changes.as_slice(),
-            steps,
-        );
-    }
-    let told = told_with(alloc, arena, agent, author, table, &NoStarts, steps)?;
+    let sources = Sources {
+        arena,
+        agent,
+        author,
+        table,
+        starts: &starts,
+    };
+    let told = tell_all(alloc, &sources, steps)?;
     Ok(told)
 }
 

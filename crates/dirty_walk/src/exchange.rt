@@ -6,9 +6,10 @@ ghost use Rattle.forest.specs.Paths.{key_at};
 ghost use Rattle.forest.specs.Spots.{IsLink, IsLive, keyed, label_of, on_link};
 ghost use Rattle.node_arena.specs.Changes.{alone};
 ghost use Rattle.node_arena.specs.Nodes.{attr_of};
+ghost use Rattle.edit_merge.specs.Laws.{InsertsOneTree};
 ghost use Rattle.target_index.specs.Changes.{AreReserved, holds_after_all};
 ghost use Rattle.target_index.specs.Holders.{is_holder};
-ghost use Rattle.dirty_walk.specs.Exchanges.{InsertsOneTree, coming, element_of, elements_in, exchanges, first_node, held, leaving, taken_keys, unheld};
+ghost use Rattle.dirty_walk.specs.Exchanges.{coming, element_of, elements_in, exchanges, first_node, held, leaving, taken_keys, unheld};
 
 use node_arena::arena::Arena;
 use node_arena::laws::arena_holds_document;

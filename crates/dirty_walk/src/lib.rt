@@ -15,19 +15,21 @@
 //! does all that can want memory, and leaves the board as it is. `commit` takes and puts, and cannot fail; between the
 //! two the book isn't settled, and can't be asked. What is as before stays, with its texts and counters.
 //!
-//! Where a document is plain, which is that no box asks for the start of a reversed counter and none refers to another
-//! element, what is kept of an element rests on what it is handed alone. Then `plan` walks from the place of the edit
+//! Where a document is plain, which is that no box asks for the start of a reversed counter and none holds a reference
+//! to an id, what is kept of an element rests on what it is handed alone. Then `plan` walks from the place of the edit
 //! (`document_walk::catch_up`), and evaluates only what the edit touches, if it changes no styles but those of the trees
 //! that it puts in, takes out, moves or addresses (`style_reach`). Else, or where the edited document turns out not to be
-//! plain, it evaluates the whole document: one walk for the starts, and one with them.
+//! plain, it evaluates the whole document: by one walk, and by a second one with the starts, where a box asks for one.
 //!
 //! Steps are counted. A whole evaluation takes at most 6 for each element, a walk from a place at most 4, and it is one
-//! for each record that is read, put or taken.
+//! for each record that is read, put or taken. Where an edit of a plain document leaves it plain and changes no other
+//! styles, or where it can change styles everywhere, its work (`edit_work`) bounds them.
 //!
 //! The layer above knows this crate by `StyledDocument`, `fresh_entry` and `Keeps` of `specs/Books.antt`: what a book
 //! stands for, what a fresh evaluation keeps of an element, and that the book keeps it; and by `settled_after`,
 //! `IsPlannedBy` and `plan_size` of `specs/Plans.antt`: what a planned edit makes of a book, which plans are a book's,
-//! and how much comes and goes. `specs/Places.antt` says where a walk from a place stands.
+//! and how much comes and goes. `specs/WorkBounds.antt` says of which edits the work bounds the steps, and
+//! `specs/Places.antt` where a walk from a place stands.
 //!
 //! ```text
 //! let mut book = Book::begin(alloc, &tree, "h1 { counter-increment: section }", steps)?;
@@ -44,6 +46,7 @@ pub mod book;
 mod by_key;
 mod characters;
 mod document_styles;
+mod edited_arena;
 mod evaluation;
 mod exchange;
 mod flat_texts;

@@ -1,12 +1,12 @@
 //! What comes to a board by an edit, told by a walk from the place of the edit.
 
-ghost use Rattle.std.specs.Prelude.{◌≡◌, ◌≤◌, ◌+◌, ◌*◌, ℕ, Option, true, None, length, IfOk, IfSome};
+ghost use Rattle.std.specs.Prelude.{◌≡◌, ◌≢◌, ◌≤◌, ◌+◌, ◌*◌, ◌⊎◌, ℕ, Option, true, false, None, length, IfNone, IfOk, IfSome};
 ghost use Rattle.forest.specs.Keys.{without_keys};
 ghost use Rattle.box_eval.specs.Evaluation.{StyledNode};
 ghost use Rattle.generated_texts.specs.StyleElements.{author_sheet};
 ghost use Rattle.merged_walk.specs.Merges.{Merge};
 ghost use Rattle.surroundings.specs.declared.told.Told.{Told};
-ghost use Rattle.document_walk.specs.CatchingUp.{AreAllAmong, CanCatchUp, CoversAll};
+ghost use Rattle.document_walk.specs.CatchingUp.{AreAllAmong, CanCatchUp, CoversAll, IsWithinBudget};
 ghost use Rattle.document_walk.specs.Elements.{element_count};
 ghost use Rattle.edit_merge.specs.EditMerges.{edit_stops};
 ghost use Rattle.node_arena.specs.Edits.{place_fault};
@@ -15,7 +15,7 @@ ghost use Rattle.style_reach.specs.declared.extent.Reach.TheVariants as reaches;
 ghost use Rattle.dirty_walk.specs.Changes.{AreBelow, Renews};
 ghost use Rattle.dirty_walk.specs.Evaluations.{document_kept};
 ghost use Rattle.dirty_walk.specs.PlaceReadings.{read_of};
-ghost use Rattle.dirty_walk.specs.Places.{IsSomePlace, walked_at};
+ghost use Rattle.dirty_walk.specs.Places.{IsSomePlace, IsWithinPlace, walked_at};
 ghost use Rattle.dirty_walk.specs.Plain.{is_plain};
 
 use crate::board::room_for;
@@ -79,6 +79,7 @@ pub(crate) fn stops_at_place(
     ensures plain { IfOk result (λ found. IfSome found (λ _. is_plain ≡ true)) }
     ensures own { IfOk result (λ found. IfSome found (λ _. reach (all_features agent.now author.now) arena.now.tree edit.now ≡ reaches.Own)) }
     ensures stops { IfOk result (λ found. IfSome found (λ stops. stops.items ≡ edit_stops edit.now 0 arena.now.tree)) }
+    ensures none { IfOk result (λ found. IfNone found ((is_plain ≡ false) ⊎ (reach (all_features agent.now author.now) arena.now.tree edit.now ≢ reaches.Own))) }
 {
     if !is_plain {
         return Ok(None);
@@ -101,6 +102,9 @@ fn caught_from<L: Ledger>(
     ensures covers { IfOk result (λ caught. CoversAll (read_of document.now) (walked_at board.now.held) stops.items caught.changes) }
     ensures among { IfOk result (λ caught. AreAllAmong (read_of document.now) (walked_at board.now.held) stops.items caught.changes) }
     ensures count { IfOk result (λ caught. length caught.changes ≤ element_count (without_keys document.now.arena.now.tree)) }
+    ensures few { IfOk result (λ caught. IsWithinBudget (read_of document.now) (walked_at board.now.held) stops.items steps.old (steps.new + length caught.changes)) }
+    ensures found { IfOk result (λ caught. IsWithinBudget (read_of document.now) (walked_at board.now.held) stops.items 0 (length caught.changes)) }
+    ensures most { IsWithinBudget (read_of document.now) (walked_at board.now.held) stops.items steps.old steps.new }
     ensures whole { steps.new ≤ steps.old + 4 * element_count (without_keys document.now.arena.now.tree) }
 {
     let sources = Sources {
@@ -127,9 +131,12 @@ pub(crate) fn changes_from_place<L: Ledger>(
     requires place { IsSomePlace document.now.styles.now.sheet board.old.held stops.items document.now.arena.now.tree }
     ensures changes { IfOk result (λ found. IfSome found (λ changes. Renews board.old.held (document_kept (author_sheet document.now.styles.now.sheet document.now.arena.now.tree) document.now.arena.now.tree) changes.items)) }
     ensures plain { IfOk result (λ found. IfSome found (λ _. is_plain (author_sheet document.now.styles.now.sheet document.now.arena.now.tree) document.now.arena.now.tree ≡ true)) }
+    ensures none { IfOk result (λ found. IfNone found (is_plain (author_sheet document.now.styles.now.sheet document.now.arena.now.tree) document.now.arena.now.tree ≡ false)) }
     ensures room { IfOk result (λ found. IfSome found (λ changes. AreBelow board.new.room changes.items)) }
     ensures held { board.new.held ≡ board.old.held }
     ensures grown { board.old.room ≤ board.new.room }
+    ensures few { IfOk result (λ found. IfSome found (λ changes. IsWithinPlace document.now.styles.now.sheet board.old.held stops.items document.now.arena.now.tree steps.old (steps.new + length changes.items))) }
+    ensures most { IsWithinPlace document.now.styles.now.sheet board.old.held stops.items document.now.arena.now.tree steps.old steps.new }
     ensures steps { steps.new ≤ steps.old + 5 * element_count (without_keys document.now.arena.now.tree) }
 {
     let caught = caught_from(alloc, document, board, stops, steps)?;

@@ -31,7 +31,7 @@ fn refers_in(made: &Option<Made>) -> bool
     }
 }
 
-/// Whether a box of an element refers to another.
+/// Whether a box of an element holds a reference to an id, whether an element has it or not.
 fn refers(element: &ElementRecord) -> bool
     ensures { result ≡ refers element.now }
 {
@@ -57,7 +57,7 @@ fn some_rests_on_others(told: &[(usize, Told)]) -> bool
 }
 
 /// Whether no element of which this is told rests on more than what it is handed: no box of it asks for the start of a
-/// reversed counter, and none refers to another element. It takes no memory, and time linear in the pieces.
+/// reversed counter, and none holds a reference. It takes no memory, and time linear in the pieces.
 pub(crate) fn are_plain(told: &[(usize, Told)]) -> bool
     ensures { result ≡ are_plain told.now }
 {

@@ -1,25 +1,22 @@
 //! What an edit makes of a book, once its document is the edited one.
 
-ghost use Rattle.std.specs.Prelude.{◌≡◌, ◌≤◌, ◌+◌, ◌*◌, ℕ, List, None, is_some, unwrap_or, IfOk, IfSome, OnErr, OnOk};
+ghost use Rattle.std.specs.Prelude.{◌≡◌, ◌≤◌, ◌+◌, ◌*◌, ℕ, List, false, is_some, length, unwrap_or, IfNone, IfOk, IfSome, OnErr, OnOk};
 ghost use Rattle.forest.specs.Forest.{Forest};
 ghost use Rattle.forest.specs.Keys.{Keyed, without_keys};
 ghost use Rattle.plain_types.specs.declared.node.Node.{Node};
 ghost use Rattle.node_arena.specs.Edits.{edited_sheet};
-ghost use Rattle.generated_texts.specs.Documents.{agent_sheet};
-ghost use Rattle.generated_texts.specs.StyleElements.{author_sheet};
 ghost use Rattle.document_walk.specs.Elements.{element_count};
 ghost use Rattle.edit_merge.specs.EditMerges.{edit_stops, inserted_key};
 ghost use Rattle.target_index.specs.Holders.{is_holder};
 ghost use Rattle.dirty_walk.specs.Changes.{AreBelow, Renews};
 ghost use Rattle.dirty_walk.specs.DocumentStyles.{document_styles, read_styles};
-ghost use Rattle.dirty_walk.specs.Evaluations.{document_kept};
+ghost use Rattle.dirty_walk.specs.EditedArenas.{is_plain_after, kept_after, styles_after};
 ghost use Rattle.dirty_walk.specs.Exchanges.{IsIndexBefore};
 ghost use Rattle.dirty_walk.specs.Holding.{IsIndexOf};
-ghost use Rattle.dirty_walk.specs.Places.{IsSomePlace};
-ghost use Rattle.dirty_walk.specs.PlaceStyles.{StandsAt, StandsBefore};
-ghost use Rattle.dirty_walk.specs.Plain.{is_plain};
+ghost use Rattle.dirty_walk.specs.PlaceStyles.{StandsAt, StandsBefore, TakesPlaceAt, TakesPlaceBefore};
 
 use crate::document_styles::DocumentStyles;
+use crate::edited_arena::EditedArena;
 use crate::exchange::{ElementId, exchange_ids};
 use crate::fresh::fresh_changes;
 use crate::kept::Kept;
@@ -32,7 +29,6 @@ use node_arena::arena::Arena;
 use plain_types::duplicate::Duplicate;
 use plain_types::edit::Edit;
 use plain_types::memory::Memory;
-use plain_types::sheet::Sheet;
 use plain_types::text::Text;
 use snapshot_board::board::Board;
 use std::alloc::Global;
@@ -77,34 +73,36 @@ pub(crate) struct Renewal {
     pub(crate) is_plain: bool,
 }
 
-/// What the edit makes of it, where these are the stops of its walk; none where an element rests on more than what it
-/// is handed. The styles stay.
+/// What an edit makes of a book by a walk from the stops of the edit: none where there are no such, or an element rests
+/// on more than what it is handed. The styles stay.
 fn from_place<L: Ledger>(
     alloc: Global,
-    arena: &Arena,
-    agent: &Sheet,
-    styles: &DocumentStyles,
+    document: &EditedArena,
     board: &mut Board<Kept>,
-    stops: Vec<Stop>,
+    stops: Option<Vec<Stop>>,
     steps: &mut Steps<L>,
 ) -> Result<Option<Renewal>, Memory>
-    requires agent { agent.now ≡ agent_sheet }
-    requires styles { styles.now ≡ document_styles styles.now.sheet arena.now.tree }
-    requires place { IsSomePlace styles.now.sheet board.old.held stops.items arena.now.tree }
-    ensures styles { IfOk result (λ found. IfSome found (λ made. made.styles ≡ None)) }
-    ensures changes { IfOk result (λ found. IfSome found (λ made. Renews board.old.held (document_kept (author_sheet styles.now.sheet arena.now.tree) arena.now.tree) made.changes.items)) }
-    ensures plain { IfOk result (λ found. IfSome found (λ made. made.is_plain ≡ is_plain (author_sheet styles.now.sheet arena.now.tree) arena.now.tree)) }
+    requires place { IfSome stops (λ stops. StandsAt document.now.edit.now document.now.styles.now board.old.held stops.items document.now.arena.now.tree) }
+    ensures styles { IfOk result (λ found. IfSome found (λ made. unwrap_or made.styles document.now.styles.now ≡ styles_after document.now)) }
+    ensures changes { IfOk result (λ found. IfSome found (λ made. Renews board.old.held (kept_after document.now) made.changes.items)) }
+    ensures plain { IfOk result (λ found. IfSome found (λ made. made.is_plain ≡ is_plain_after document.now)) }
+    ensures none { IfOk result (λ found. IfNone found (IfSome stops (λ _. is_plain_after document.now ≡ false))) }
     ensures room { IfOk result (λ found. IfSome found (λ made. AreBelow board.new.room made.changes.items)) }
     ensures held { board.new.held ≡ board.old.held }
     ensures grown { board.old.room ≤ board.new.room }
-    ensures steps { steps.new ≤ steps.old + 5 * element_count (without_keys arena.now.tree) }
+    ensures few { IfOk result (λ found. IfSome found (λ made. IfSome stops (λ stops. TakesPlaceAt document.now.edit.now document.now.styles.now board.old.held stops.items document.now.arena.now.tree steps.old (steps.new + length made.changes.items)))) }
+    ensures most { IfSome stops (λ stops. TakesPlaceAt document.now.edit.now document.now.styles.now board.old.held stops.items document.now.arena.now.tree steps.old steps.new) }
+    ensures steps { steps.new ≤ steps.old + 5 * element_count (without_keys document.now.arena.now.tree) }
 {
-    let document = StyledArena {
-        arena,
-        agent,
-        styles,
+    let Some(stops) = stops else {
+        return Ok(None);
     };
-    match changes_from_place(alloc, &document, board, stops, steps)? {
+    let styled = StyledArena {
+        arena: document.arena,
+        agent: document.agent,
+        styles: document.styles,
+    };
+    match changes_from_place(alloc, &styled, board, stops, steps)? {
         Some(changes) => Ok(Some(Renewal {
             styles: None,
             changes,
@@ -114,35 +112,30 @@ fn from_place<L: Ledger>(
     }
 }
 
-/// What the edit makes of it, where the whole document is evaluated.
+/// What an edit makes of a book where the whole document is evaluated.
 fn from_whole<L: Ledger>(
     alloc: Global,
-    arena: &Arena,
-    agent: &Sheet,
-    styles: &DocumentStyles,
+    document: &EditedArena,
     index: &Index,
     board: &mut Board<Kept>,
-    edit: &Edit,
     steps: &mut Steps<L>,
 ) -> Result<Renewal, Memory>
-    requires agent { agent.now ≡ agent_sheet }
-    requires read { styles.now ≡ read_styles styles.now.sheet styles.now.texts }
-    requires indexed { IsIndexOf index.now arena.now.tree }
-    ensures styles { IfOk result (λ made. unwrap_or made.styles styles.now ≡ document_styles (edited_sheet edit.now styles.now.sheet) arena.now.tree) }
-    ensures changes { IfOk result (λ made. Renews board.old.held (document_kept (author_sheet (edited_sheet edit.now styles.now.sheet) arena.now.tree) arena.now.tree) made.changes.items) }
-    ensures plain { IfOk result (λ made. made.is_plain ≡ is_plain (author_sheet (edited_sheet edit.now styles.now.sheet) arena.now.tree) arena.now.tree) }
+    requires indexed { IsIndexOf index.now document.now.arena.now.tree }
+    ensures styles { IfOk result (λ made. unwrap_or made.styles document.now.styles.now ≡ styles_after document.now) }
+    ensures changes { IfOk result (λ made. Renews board.old.held (kept_after document.now) made.changes.items) }
+    ensures plain { IfOk result (λ made. made.is_plain ≡ is_plain_after document.now) }
     ensures room { IfOk result (λ made. AreBelow board.new.room made.changes.items) }
     ensures held { board.new.held ≡ board.old.held }
     ensures grown { board.old.room ≤ board.new.room }
-    ensures steps { steps.new ≤ steps.old + 7 * element_count (without_keys arena.now.tree) }
+    ensures steps { steps.new ≤ steps.old + 7 * element_count (without_keys document.now.arena.now.tree) }
 {
-    let new = renewed_styles(alloc, arena, styles, edit)?;
-    let document = StyledArena {
-        arena,
-        agent,
-        styles: new.as_ref().unwrap_or(styles),
+    let new = renewed_styles(alloc, document.arena, document.styles, document.edit)?;
+    let styled = StyledArena {
+        arena: document.arena,
+        agent: document.agent,
+        styles: new.as_ref().unwrap_or(document.styles),
     };
-    let (changes, is_plain) = fresh_changes(alloc, &document, index, board, steps)?;
+    let (changes, is_plain) = fresh_changes(alloc, &styled, index, board, steps)?;
     Ok(Renewal {
         styles: new,
         changes,
@@ -150,36 +143,31 @@ fn from_whole<L: Ledger>(
     })
 }
 
-/// What the edit makes of it: by a walk from its stops, where there are such, and else by the whole document.
+/// What an edit makes of a book: by a walk from its stops, where that tells it, and else by the whole document.
 fn renewed<L: Ledger>(
     alloc: Global,
-    arena: &Arena,
-    agent: &Sheet,
-    styles: &DocumentStyles,
+    document: &EditedArena,
     index: &Index,
     board: &mut Board<Kept>,
-    edit: &Edit,
     stops: Option<Vec<Stop>>,
     steps: &mut Steps<L>,
 ) -> Result<Renewal, Memory>
-    requires agent { agent.now ≡ agent_sheet }
-    requires read { styles.now ≡ read_styles styles.now.sheet styles.now.texts }
-    requires indexed { IsIndexOf index.now arena.now.tree }
-    requires place { IfSome stops (λ stops. StandsAt edit.now styles.now board.old.held stops.items arena.now.tree) }
-    ensures styles { IfOk result (λ made. unwrap_or made.styles styles.now ≡ document_styles (edited_sheet edit.now styles.now.sheet) arena.now.tree) }
-    ensures changes { IfOk result (λ made. Renews board.old.held (document_kept (author_sheet (edited_sheet edit.now styles.now.sheet) arena.now.tree) arena.now.tree) made.changes.items) }
-    ensures plain { IfOk result (λ made. made.is_plain ≡ is_plain (author_sheet (edited_sheet edit.now styles.now.sheet) arena.now.tree) arena.now.tree) }
+    requires indexed { IsIndexOf index.now document.now.arena.now.tree }
+    requires place { IfSome stops (λ stops. StandsAt document.now.edit.now document.now.styles.now board.old.held stops.items document.now.arena.now.tree) }
+    ensures styles { IfOk result (λ made. unwrap_or made.styles document.now.styles.now ≡ styles_after document.now) }
+    ensures changes { IfOk result (λ made. Renews board.old.held (kept_after document.now) made.changes.items) }
+    ensures plain { IfOk result (λ made. made.is_plain ≡ is_plain_after document.now) }
     ensures room { IfOk result (λ made. AreBelow board.new.room made.changes.items) }
     ensures held { board.new.held ≡ board.old.held }
     ensures grown { board.old.room ≤ board.new.room }
-    ensures steps { steps.new ≤ steps.old + 12 * element_count (without_keys arena.now.tree) }
+    ensures few { IfOk result (λ made. IfSome stops (λ stops. TakesPlaceAt document.now.edit.now document.now.styles.now board.old.held stops.items document.now.arena.now.tree steps.old (steps.new + length made.changes.items))) }
+    ensures most { IfSome stops (λ stops. TakesPlaceAt document.now.edit.now document.now.styles.now board.old.held stops.items document.now.arena.now.tree steps.old steps.new) }
+    ensures steps { steps.new ≤ steps.old + 12 * element_count (without_keys document.now.arena.now.tree) }
 {
-    if let Some(stops) = stops {
-        if let Some(made) = from_place(alloc, arena, agent, styles, board, stops, steps)? {
-            return Ok(made);
-        }
+    match from_place(alloc, document, board, stops, steps)? {
+        Some(made) => Ok(made),
+        None => from_whole(alloc, document, index, board, steps),
     }
-    from_whole(alloc, arena, agent, styles, index, board, edit, steps)
 }
 
 /// The stops, with the key of what the edit put in.
@@ -196,39 +184,34 @@ fn named_stops(arena: &Arena, edit: &Edit, stops: Option<Vec<Stop>>) -> Option<V
     }
 }
 
-/// What an edit makes of a book whose document is the edited one already, where its elements that go are these. The index
-/// becomes that of the document; where memory is wanting it stays as it was.
+/// What an edit makes of a book where the elements of its document that go are these. The index becomes that of the edited
+/// document; where memory is wanting it stays as it was.
 pub(crate) fn evaluated<L: Ledger>(
     alloc: Global,
-    arena: &Arena,
-    agent: &Sheet,
-    styles: &DocumentStyles,
+    document: &EditedArena,
     index: &mut Index,
     board: &mut Board<Kept>,
-    edit: &Edit,
     gone: &[ElementId],
     stops: Option<Vec<Stop>>,
     steps: &mut Steps<L>,
 ) -> Result<Renewal, Memory>
-    requires agent { agent.now ≡ agent_sheet }
-    requires read { styles.now ≡ read_styles styles.now.sheet styles.now.texts }
-    requires before { IsIndexBefore edit.now gone.now index.old arena.now.tree }
-    requires place { IfSome stops (λ stops. StandsBefore edit.now styles.now board.old.held stops.items arena.now.tree) }
-    ensures styles { IfOk result (λ made. unwrap_or made.styles styles.now ≡ document_styles (edited_sheet edit.now styles.now.sheet) arena.now.tree) }
-    ensures changes { IfOk result (λ made. Renews board.old.held (document_kept (author_sheet (edited_sheet edit.now styles.now.sheet) arena.now.tree) arena.now.tree) made.changes.items) }
-    ensures plain { IfOk result (λ made. made.is_plain ≡ is_plain (author_sheet (edited_sheet edit.now styles.now.sheet) arena.now.tree) arena.now.tree) }
-    ensures indexed { OnOk result (IsIndexOf index.new arena.now.tree) }
+    requires before { IsIndexBefore document.now.edit.now gone.now index.old document.now.arena.now.tree }
+    requires place { IfSome stops (λ stops. StandsBefore document.now.edit.now document.now.styles.now board.old.held stops.items document.now.arena.now.tree) }
+    ensures styles { IfOk result (λ made. unwrap_or made.styles document.now.styles.now ≡ styles_after document.now) }
+    ensures changes { IfOk result (λ made. Renews board.old.held (kept_after document.now) made.changes.items) }
+    ensures plain { IfOk result (λ made. made.is_plain ≡ is_plain_after document.now) }
+    ensures indexed { OnOk result (IsIndexOf index.new document.now.arena.now.tree) }
     ensures err { OnErr result ((id : List ℕ) (key : ℕ) → is_holder index.new id key ≡ is_holder index.old id key) }
     ensures room { IfOk result (λ made. AreBelow board.new.room made.changes.items) }
     ensures held { board.new.held ≡ board.old.held }
     ensures grown { board.old.room ≤ board.new.room }
-    ensures steps { steps.new ≤ steps.old + 12 * element_count (without_keys arena.now.tree) }
+    ensures few { IfOk result (λ made. IfSome stops (λ stops. TakesPlaceBefore document.now.edit.now document.now.styles.now board.old.held stops.items document.now.arena.now.tree steps.old (steps.new + length made.changes.items))) }
+    ensures most { IfSome stops (λ stops. TakesPlaceBefore document.now.edit.now document.now.styles.now board.old.held stops.items document.now.arena.now.tree steps.old steps.new) }
+    ensures steps { steps.new ≤ steps.old + 12 * element_count (without_keys document.now.arena.now.tree) }
 {
-    let stops = named_stops(arena, edit, stops);
-    let back = exchange_ids(alloc, index, arena, edit, gone)?;
-    match renewed(
-        alloc, arena, agent, styles, index, board, edit, stops, steps,
-    ) {
+    let stops = named_stops(document.arena, document.edit, stops);
+    let back = exchange_ids(alloc, index, document.arena, document.edit, gone)?;
+    match renewed(alloc, document, index, board, stops, steps) {
         Ok(made) => Ok(made),
         Err(memory) => {
             index.commit(back);

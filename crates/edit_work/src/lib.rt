@@ -26,8 +26,8 @@
 //! | `Laws.antt` | that the work pays for the walk over the merge of an edit, and for a whole evaluation |
 //! | `ReachedLaws.antt` | that it pays for the walk over the merge in which what the edit reaches goes and comes |
 //!
-//! No crate stands on this one yet: `work edit before after` (`Work.antt`) is there to bound the steps of an edit, by
-//! the laws of [`laws`].
+//! The layer above knows this crate by `work edit before after` (`Work.antt`): it bounds the steps of an edit, by the laws
+//! of [`laws`].
 //! `docs/edit-work.md` works through six edits. The crate has no code.
 #![tactic(auto)]
 

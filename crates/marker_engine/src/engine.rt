@@ -3,6 +3,7 @@
 ghost use Rattle.std.specs.Prelude.{◌≡◌, ◌≤◌, ◌+◌, ◌*◌, Some, None, Ok, Err, IfOk, IfErr, OnOk, OnErr, length};
 ghost use Rattle.std.specs.Str.{chars};
 ghost use Rattle.dirty_walk.specs.Books.{Keeps};
+ghost use Rattle.dirty_walk.specs.WorkBounds.{IsWithinWork, StopsWithinWork, keyed_source};
 ghost use Rattle.generated_texts.specs.Lines.{document_lines, fresh_dump};
 ghost use Rattle.node_arena.specs.Document.{HasElementRoot};
 ghost use Rattle.node_arena.specs.Edits.{IsEdited};
@@ -86,8 +87,9 @@ impl Engine {
     /// counts no step.
     ///
     /// Where the edit changes no styles but those of the trees that it puts in, takes out, moves or addresses, and no
-    /// element asks for a start or refers to another, only what the edit touches is evaluated anew. Else the edited
-    /// document is evaluated whole, which costs what `start` costs. Beside that come the calls of the arena by which the
+    /// element asks for a start or holds a reference, only what the edit touches is evaluated anew. Else the edited
+    /// document is evaluated whole, which costs what `start` costs. In the first case, and where the edit can change
+    /// styles everywhere, its work bounds its steps, after `Memory` too. Beside that come the calls of the arena by which the
     /// edit is done. An entry that is another is put, and one whose element goes is taken.
     pub fn apply<L: Ledger>(
         &mut self,
@@ -101,6 +103,8 @@ impl Engine {
         ensures refused { IfErr (edited (source_of self.old) edit.now) (λ fault. result ≡ Err (edit_fault fault)) }
         ensures memory { IfOk (edited (source_of self.old) edit.now) (λ _. IfErr result (λ fault. fault ≡ faults.Memory)) }
         ensures failed { OnErr result (self.new ≡ self.old) }
+        ensures within_work { OnOk result (IsWithinWork edit.now (keyed_source self.old) (keyed_source self.new) steps.old steps.new) }
+        ensures stops_within_work { OnErr result (StopsWithinWork edit.now (keyed_source self.old) steps.old steps.new) }
         ensures steps { IfOk (edited (source_of self.old) edit.now) (λ source. steps.new ≤ steps.old + (13 * element_count source.tree + element_count (source_of self.old).tree)) }
         ensures no_steps { IfErr (edited (source_of self.old) edit.now) (λ _. steps.new ≡ steps.old) }
     {

@@ -9,3 +9,12 @@ returns-clause-count g c = let h = c.requires.stands in IfOk-weaker c.catch_up.r
 
 pub returns-clause-whole : goal.returns-clause-whole
 returns-clause-whole g c = let h = c.requires.stands in c.catch_up.ensures.whole h.0 h.1.0 h.1.1
+
+pub returns-clause-few : goal.returns-clause-few
+returns-clause-few g c = c.catch_up.ensures.few
+
+pub returns-clause-found : goal.returns-clause-found
+returns-clause-found g c = c.catch_up.ensures.found
+
+pub returns-clause-most : goal.returns-clause-most
+returns-clause-most g c = c.catch_up.ensures.most

@@ -1,4 +1,4 @@
-use Rattle.std.proofs.Common.{◌∙◌, ℕ, List, ap, arith, length, subst, sym}
+use Rattle.std.proofs.Common.{◌≡◌, ◌≤◌, ◌+◌, ◌∙◌, ℕ, List, ap, arith, length, subst, sym}
 use Rattle.surroundings.specs.declared.told.Told.{Told}
 use Rattle.dirty_walk.specs.declared.kept.Kept.{Kept}
 use Rattle.dirty_walk.specs.Changes.{AreBelow, AreChanges}
@@ -6,7 +6,9 @@ use Rattle.dirty_walk.specs.Evaluations.{all_kept_of}
 use Rattle.dirty_walk.specs.Places.{nothing_known}
 use Rattle.dirty_walk.specs.Plain.{are_plain}
 use Rattle.dirty_walk.proofs.ChangeLemmas.{below-more}
-use Rattle.dirty_walk.proofs.PlaceLemmas.{is_plain_now, renews_now, stands}
+use Rattle.std.proofs.lemmas.List.{length-map}
+use Rattle.dirty_walk.proofs.PlaceLemmas.{is_plain_now, read_within_place, renews_now, rests, stands, within_place}
+use Rattle.dirty_walk.proofs.RenewalLemmas.{renews}
 use Rattle.dirty_walk.proofs.places.changes_from_place.Goals as goal
 
 pub caught_from-requires : goal.caught_from-requires
@@ -39,3 +41,55 @@ pub returns-clause-room : goal.returns-clause-room
 returns-clause-room g c =
     below-more c.in_ok-room.room c.reserve.new.self.room c.in_ok-changes.changes.items c.in_ok-reserve.ensures.room
     (subst (λ (items : List (ℕ × Kept)). AreBelow c.in_ok-room.room items) c.as_slice.ensures.value c.in_ok-room.ensures.room)
+
+pub returns-in_err-caught-clause-most : goal.returns-in_err-caught-clause-most
+returns-in_err-caught-clause-most g c =
+    let document = c.args.document.now in
+    within_place document document.agent_is document.styles_are c.args.board.now.held c.args.stops.items c.args.steps.now c.caught_from.new.steps c.caught_from.new.steps c.caught_from.ensures.most (omega arith)
+
+pub returns-then-not-are_plain-clause-none : goal.returns-then-not-are_plain-clause-none
+returns-then-not-are_plain-clause-none g c =
+    let document = c.args.document.now in
+    rests document document.agent_is document.styles_are c.args.board.now.held c.args.stops.items c.requires.place c.in_ok-caught.caught.changes c.in_ok-caught.ensures.among
+    (ap are_plain (sym c.as_slice-told.ensures.items) ∙ sym c.are_plain.ensures ∙ c.if-not-are_plain.true)
+
+pub returns-then-not-are_plain-clause-most : goal.returns-then-not-are_plain-clause-most
+returns-then-not-are_plain-clause-most g c =
+    let document = c.args.document.now in
+    within_place document document.agent_is document.styles_are c.args.board.now.held c.args.stops.items c.args.steps.now c.caught_from.new.steps c.caught_from.new.steps c.caught_from.ensures.most (omega arith)
+
+pub returns-in_err-changes-clause-most : goal.returns-in_err-changes-clause-most
+returns-in_err-changes-clause-most g c =
+    let document = c.args.document.now in
+    within_place document document.agent_is document.styles_are c.args.board.now.held c.args.stops.items c.args.steps.now (c.caught_from.new.steps + length c.in_ok-caught.caught.changes) c.changed_entries.new.steps
+    c.in_ok-caught.ensures.few (omega (arith, c.changed_entries.ensures.steps, ap length c.as_slice-told.ensures.items))
+
+pub returns-in_err-room-clause-most : goal.returns-in_err-room-clause-most
+returns-in_err-room-clause-most g c =
+    let document = c.args.document.now in
+    within_place document document.agent_is document.styles_are c.args.board.now.held c.args.stops.items c.args.steps.now (c.caught_from.new.steps + length c.in_ok-caught.caught.changes) c.changed_entries.new.steps
+    c.in_ok-caught.ensures.few (omega (arith, c.changed_entries.ensures.steps, ap length c.as_slice-told.ensures.items))
+
+pub returns-in_err-reserve-clause-most : goal.returns-in_err-reserve-clause-most
+returns-in_err-reserve-clause-most g c =
+    let document = c.args.document.now in
+    within_place document document.agent_is document.styles_are c.args.board.now.held c.args.stops.items c.args.steps.now (c.caught_from.new.steps + length c.in_ok-caught.caught.changes) c.changed_entries.new.steps
+    c.in_ok-caught.ensures.few (omega (arith, c.changed_entries.ensures.steps, ap length c.as_slice-told.ensures.items))
+
+pub returns-clause-few : goal.returns-clause-few
+returns-clause-few g c =
+    let document = c.args.document.now in
+    let told = c.as_slice-told.result.now in
+    let found : List (ℕ × Kept) = all_kept_of document.styles.now.table nothing_known told in
+    let fewer : length c.in_ok-changes.changes.items ≤ length found = (renews c.args.board.now.held found c.in_ok-changes.changes.items c.in_ok-changes.ensures.changes).few in
+    let same : length found ≡ length told = length-map told _ in
+    read_within_place document document.agent_is document.styles_are c.args.board.now.held c.args.stops.items c.args.steps.now c.caught_from.new.steps c.changed_entries.new.steps
+    (length c.in_ok-caught.caught.changes) (length c.in_ok-changes.changes.items) c.in_ok-caught.ensures.few c.in_ok-caught.ensures.found
+    (omega (arith, c.changed_entries.ensures.steps, ap length c.as_slice-told.ensures.items))
+    (omega (arith, fewer, same, ap length c.as_slice-told.ensures.items))
+
+pub returns-clause-most : goal.returns-clause-most
+returns-clause-most g c =
+    let document = c.args.document.now in
+    within_place document document.agent_is document.styles_are c.args.board.now.held c.args.stops.items c.args.steps.now (c.caught_from.new.steps + length c.in_ok-caught.caught.changes) c.changed_entries.new.steps
+    c.in_ok-caught.ensures.few (omega (arith, c.changed_entries.ensures.steps, ap length c.as_slice-told.ensures.items))

@@ -20,25 +20,25 @@ chosen : (new : Option DocumentStyles) (lent : Option (Bor DocumentStyles)) (bef
 chosen new lent before picked text tree is lends are =
     ap (λ (styles : Bor DocumentStyles). styles.now) is ∙ now-unwrap_or lent before ∙ ap (λ (new : Option DocumentStyles). unwrap_or new before.now) lends ∙ are
 
-pub invariant_of-document-clause-styles_are : goal.invariant_of-document-clause-styles_are
-invariant_of-document-clause-styles_are g c =
-    let text = edited_sheet c.args.edit.now c.args.styles.now.sheet in
-    let tree = c.args.arena.now.tree in
+pub invariant_of-styled-clause-styles_are : goal.invariant_of-styled-clause-styles_are
+invariant_of-styled-clause-styles_are g c =
+    let text = edited_sheet c.args.document.now.edit.now c.args.document.now.styles.now.sheet in
+    let tree = c.args.document.now.arena.now.tree in
     under_its_text c.unwrap_or.result.now text tree
-    (chosen c.in_ok-new.new c.as_ref.result c.args.styles c.unwrap_or.result text tree c.unwrap_or.ensures c.as_ref.ensures.value c.in_ok-new.ensures.styles)
+    (chosen c.in_ok-new.new c.as_ref.result c.args.document.now.styles c.unwrap_or.result text tree c.unwrap_or.ensures c.as_ref.ensures.value c.in_ok-new.ensures.styles)
 
 pub returns-clause-changes : goal.returns-clause-changes
 returns-clause-changes g c =
-    let text = edited_sheet c.args.edit.now c.args.styles.now.sheet in
-    let tree = c.args.arena.now.tree in
-    let are = chosen c.in_ok-new.new c.as_ref.result c.args.styles c.unwrap_or.result text tree c.unwrap_or.ensures c.as_ref.ensures.value c.in_ok-new.ensures.styles in
+    let text = edited_sheet c.args.document.now.edit.now c.args.document.now.styles.now.sheet in
+    let tree = c.args.document.now.arena.now.tree in
+    let are = chosen c.in_ok-new.new c.as_ref.result c.args.document.now.styles c.unwrap_or.result text tree c.unwrap_or.ensures c.as_ref.ensures.value c.in_ok-new.ensures.styles in
     subst (λ (text : List ℕ). Renews c.args.board.now.held (document_kept (author_sheet text tree) tree) c.in_ok-changes.changes.items)
     (its_text c.unwrap_or.result.now text (style_texts tree) are)
     c.in_ok-changes.ensures.changes
 
 pub returns-clause-plain : goal.returns-clause-plain
 returns-clause-plain g c =
-    let text = edited_sheet c.args.edit.now c.args.styles.now.sheet in
-    let tree = c.args.arena.now.tree in
-    let are = chosen c.in_ok-new.new c.as_ref.result c.args.styles c.unwrap_or.result text tree c.unwrap_or.ensures c.as_ref.ensures.value c.in_ok-new.ensures.styles in
+    let text = edited_sheet c.args.document.now.edit.now c.args.document.now.styles.now.sheet in
+    let tree = c.args.document.now.arena.now.tree in
+    let are = chosen c.in_ok-new.new c.as_ref.result c.args.document.now.styles c.unwrap_or.result text tree c.unwrap_or.ensures c.as_ref.ensures.value c.in_ok-new.ensures.styles in
     c.in_ok-changes.ensures.plain ∙ ap (λ (text : List ℕ). is_plain (author_sheet text tree) tree) (its_text c.unwrap_or.result.now text (style_texts tree) are)

@@ -1,4 +1,4 @@
-use Rattle.std.proofs.Common.{◌≡◌, IfSome, List, Option, Global, ap, subst, sym}
+use Rattle.std.proofs.Common.{◌≡◌, IfSome, Option, Global, ap, subst, sym}
 use Rattle.std.specs.Prelude.{Vec, is_some}
 use Rattle.merged_walk.specs.declared.stop.Stop.{Stop}
 use Rattle.edit_merge.specs.EditMerges.{edit_stops}

@@ -1,57 +1,35 @@
-use Rattle.std.proofs.Common.{◌≡◌, ◌∙◌, IfSome, Option, Some, Global, List, ℕ, ap, subst, sym}
+use Rattle.std.proofs.Common.{◌≡◌, ◌∙◌, IfNone, IfSome, Option, Some, None, Global, false, ℕ, sym, subst}
 use Rattle.std.specs.Prelude.{Vec}
-use Rattle.forest.specs.Forest.{Forest}
-use Rattle.forest.specs.Keys.{Keyed}
-use Rattle.plain_types.specs.declared.edit.Edit.{Edit}
-use Rattle.plain_types.specs.declared.node.Node.{Node}
 use Rattle.std.specs.FinMap.{FinMap}
 use Rattle.std.specs.Ordering.{nat_cmp}
-use Rattle.generated_texts.specs.StyleElements.{author_sheet}
+use Rattle.std.proofs.lemmas.Bool.{true≢false}
+use Rattle.std.proofs.lemmas.Result.{IfOk-weaker}
 use Rattle.merged_walk.specs.declared.stop.Stop.{Stop}
-use Rattle.dirty_walk.specs.declared.document_styles.DocumentStyles.{DocumentStyles}
+use Rattle.dirty_walk.specs.declared.edited_arena.EditedArena.{EditedArena}
 use Rattle.dirty_walk.specs.declared.kept.Kept.{Kept}
 use Rattle.dirty_walk.specs.declared.planning.Renewal.{Renewal}
-use Rattle.dirty_walk.specs.Changes.{Renews}
-use Rattle.dirty_walk.specs.Evaluations.{document_kept}
-use Rattle.dirty_walk.specs.PlaceStyles.{StandsAt}
-use Rattle.dirty_walk.specs.Plain.{is_plain}
-use Rattle.dirty_walk.proofs.PlaceLemmas.{sheet_now, some_place, styles_after, styles_now}
+use Rattle.dirty_walk.specs.EditedArenas.{is_plain_after}
+use Rattle.dirty_walk.specs.PlaceStyles.{TakesPlaceAt}
 use Rattle.dirty_walk.proofs.planning.renewed.Goals as goal
 
-there : (edit : Edit) (styles : DocumentStyles) (held : FinMap nat_cmp Kept) (new : Forest (Keyed Node)) (o : Option (Vec Stop Global)) (stops : Vec Stop Global) → o ≡ Some stops
-    → IfSome o (λ stops. StandsAt edit styles held stops.items new) → StandsAt edit styles held stops.items new
-there edit styles held new o stops is place = subst (λ (o : Option (Vec Stop Global)). IfSome o (λ stops. StandsAt edit styles held stops.items new)) is place
+-- where the walk tells nothing, the document is not plain
+not_at_place : (document : EditedArena) (held : FinMap nat_cmp Kept) (before now : ℕ) (stops : Option (Vec Stop Global)) → IfSome stops (λ _. is_plain_after document ≡ false)
+    → IfSome stops (λ stops. TakesPlaceAt document.edit.now document.styles.now held stops.items document.arena.now.tree before now)
+not_at_place document held before now None rests = tt
+not_at_place document held before now (Some stops) rests = λ plain there. absurd (true≢false (sym plain ∙ rests))
 
-made_of : (P : Renewal → Type 0) (o : Option Renewal) (made : Renewal) → o ≡ Some made → IfSome o P → P made
-made_of P o made is holds = subst (λ (o : Option Renewal). IfSome o P) is holds
+rests_there : (document : EditedArena) (stops : Option (Vec Stop Global)) (found : Option Renewal) → found ≡ None → IfNone found (IfSome stops (λ _. is_plain_after document ≡ false)) → IfSome stops (λ _. is_plain_after document ≡ false)
+rests_there document stops found none rests = subst (λ (o : Option Renewal). IfNone o (IfSome stops (λ _. is_plain_after document ≡ false))) none rests
 
-pub from_place-requires-clause-styles : goal.from_place-requires-clause-styles
-from_place-requires-clause-styles g c =
-    styles_now c.args.edit.now c.args.styles.now c.args.board.now.held c.in-Some.stops.items c.args.arena.now.tree
-    (there c.args.edit.now c.args.styles.now c.args.board.now.held c.args.arena.now.tree c.args.stops c.in-Some.stops c.in-Some.is c.requires.place)
+pub returns-in-None-clause-few : goal.returns-in-None-clause-few
+returns-in-None-clause-few g c =
+    IfOk-weaker c.from_whole.result _ _
+    (λ made below.
+    not_at_place c.args.document.now c.args.board.now.held c.args.steps.now _ c.args.stops
+    (rests_there c.args.document.now c.args.stops c.in_ok-made.field-0 c.in-None.is c.in_ok-made.ensures.none))
+    c.from_whole.ensures.room
 
-pub from_place-requires-clause-place : goal.from_place-requires-clause-place
-from_place-requires-clause-place g c =
-    some_place c.args.edit.now c.args.styles.now c.args.board.now.held c.in-Some.stops.items c.args.arena.now.tree
-    (there c.args.edit.now c.args.styles.now c.args.board.now.held c.args.arena.now.tree c.args.stops c.in-Some.stops c.in-Some.is c.requires.place)
-
-pub returns-in-Some-2-clause-styles : goal.returns-in-Some-2-clause-styles
-returns-in-Some-2-clause-styles g c =
-    let place = there c.args.edit.now c.args.styles.now c.args.board.now.held c.args.arena.now.tree c.args.stops c.in-Some.stops c.in-Some.is c.requires.place in
-    styles_after c.args.edit.now c.args.styles.now c.args.board.now.held c.in-Some.stops.items c.args.arena.now.tree place c.in-Some-2.made.styles
-    (made_of _ c.in_ok-made.field-0 c.in-Some-2.made c.in-Some-2.is c.in_ok-made.ensures.styles)
-
-pub returns-in-Some-2-clause-changes : goal.returns-in-Some-2-clause-changes
-returns-in-Some-2-clause-changes g c =
-    let tree = c.args.arena.now.tree in
-    let place = there c.args.edit.now c.args.styles.now c.args.board.now.held tree c.args.stops c.in-Some.stops c.in-Some.is c.requires.place in
-    subst (λ (text : List ℕ). Renews c.args.board.now.held (document_kept (author_sheet text tree) tree) c.in-Some-2.made.changes.items)
-    (sym (sheet_now c.args.edit.now c.args.styles.now c.args.board.now.held c.in-Some.stops.items tree place))
-    (made_of _ c.in_ok-made.field-0 c.in-Some-2.made c.in-Some-2.is c.in_ok-made.ensures.changes)
-
-pub returns-in-Some-2-clause-plain : goal.returns-in-Some-2-clause-plain
-returns-in-Some-2-clause-plain g c =
-    let tree = c.args.arena.now.tree in
-    let place = there c.args.edit.now c.args.styles.now c.args.board.now.held tree c.args.stops c.in-Some.stops c.in-Some.is c.requires.place in
-    made_of _ c.in_ok-made.field-0 c.in-Some-2.made c.in-Some-2.is c.in_ok-made.ensures.plain
-    ∙ ap (λ (text : List ℕ). is_plain (author_sheet text tree) tree) (sym (sheet_now c.args.edit.now c.args.styles.now c.args.board.now.held c.in-Some.stops.items tree place))
+pub returns-in-None-clause-most : goal.returns-in-None-clause-most
+returns-in-None-clause-most g c =
+    not_at_place c.args.document.now c.args.board.now.held c.args.steps.now c.from_whole.new.steps c.args.stops
+    (rests_there c.args.document.now c.args.stops c.in_ok-made.field-0 c.in-None.is c.in_ok-made.ensures.none)

@@ -1,4 +1,4 @@
-use Rattle.std.proofs.Common.{◌≡◌, ◌∙◌, ◌≤◌, ◌+◌, true, None, refl, ap, sym, subst, arith, length, List, ℕ}
+use Rattle.std.proofs.Common.{◌≡◌, ◌∙◌, ◌≤◌, ◌+◌, true, None, refl, ap, sym, subst, arith, inr, length, List, ℕ}
 use Rattle.std.specs.FinMap.{FinMap, get}
 use Rattle.std.specs.Option.{is_none}
 use Rattle.std.specs.Ordering.{nat_cmp}
@@ -17,12 +17,15 @@ use Rattle.dirty_walk.specs.declared.kept.Kept.{Kept}
 use Rattle.dirty_walk.specs.Books.{StyledDocument}
 use Rattle.dirty_walk.specs.Changes.{AreOthers}
 use Rattle.dirty_walk.specs.Evaluations.{document_kept}
-use Rattle.dirty_walk.specs.Exchanges.{InsertsOneTree, IsDone, taken_keys}
+use Rattle.edit_merge.specs.Laws.{InsertsOneTree, IsDone}
+use Rattle.dirty_walk.specs.Exchanges.{taken_keys}
 use Rattle.dirty_walk.specs.Plain.{is_plain}
 use Rattle.dirty_walk.specs.Plans.{settled_after, IsPlannedBy}
+use Rattle.dirty_walk.specs.WorkBounds.{IsWithinWork, StopsWithinWork, keyed_source}
 use Rattle.dirty_walk.proofs.PlaceLemmas.{stands_before}
 use Rattle.dirty_walk.proofs.PlanLemmas.{as_read, its_keys, its_text, same_document, under_its_text}
 use Rattle.dirty_walk.proofs.SettlingLemmas.{few, has_room, keeps_all, of_elements}
+use Rattle.dirty_walk.proofs.WorkLemmas.{leads, taken_gone, within_work}
 use Rattle.dirty_walk.proofs.book.Book.plan.Goals as goal
 
 -- the edit that is allowed, prepared and committed is done
@@ -36,8 +39,8 @@ done_by edit old after new styled before document same allowed fragment edits is
   edited = subst (λ (tree : Forest (Keyed Node)). IsEdited edit old tree) (sym is) edits;
 }
 
-pub evaluated-requires-clause-read : goal.evaluated-requires-clause-read
-evaluated-requires-clause-read g c = as_read c.self.inside.styles c.self.inside.styles.sheet c.self.inside.arena.tree c.self.invariant.styles_are
+pub invariant_of-document-clause-read : goal.invariant_of-document-clause-read
+invariant_of-document-clause-read g c = as_read c.self.inside.styles c.self.inside.styles.sheet c.self.inside.arena.tree c.self.invariant.styles_are
 
 pub evaluated-requires-clause-before : goal.evaluated-requires-clause-before
 evaluated-requires-clause-before g c = record {
@@ -176,3 +179,54 @@ returns-clause-steps g c =
     ∙ ap element_count c.in_ok-prepared.ensures.edits.tree
     ∙ ap (λ (styled : StyledDocument). element_count (edited c.args.edit.now (without_keys styled.tree))) c.self.view_is in
     omega (arith, same, c.evaluated.ensures.steps)
+
+pub returns-in-Ok-clause-within_work : goal.returns-in-Ok-clause-within_work
+unfolding settled_after
+returns-in-Ok-clause-within_work g c =
+    let none : is_none c.self.inside.planned ≡ true = ap (λ (styled : StyledDocument). styled.settled) c.self.view_is ∙ c.requires.settled in
+    let old = c.self.inside.arena.tree in
+    let tree = c.commit-reversal.new.self.tree in
+    let text = edited_sheet c.args.edit.now c.self.inside.styles.sheet in
+    let puts = c.in-Ok.made.changes.items in
+    let takes = c.in_ok-takes.takes in
+    let done =
+    done_by c.args.edit.now old _ tree c.args.self.now c.arena_holds_document.ensures.document c.arena_holds_document-2.ensures.document
+    (ap (λ (styled : StyledDocument). styled.tree) c.self.view_is) c.requires.allowed c.inserts_one_tree.ensures c.in_ok-prepared.ensures.edits c.commit-reversal.ensures.tree in
+    let taken = c.in_ok-takes.ensures.keys ∙ ap (taken_keys c.args.edit.now) (c.as_slice-gone.ensures.items ∙ c.in_ok-leaving.ensures.elements) in
+    let count : length puts + length takes ≤ element_count (without_keys tree) + element_count (without_keys old) =
+    few c.args.edit.now old tree done c.self.inside.styles.sheet text c.self.inside.board.held puts takes (c.self.invariant.kept none) c.in-Ok.ensures.changes taken in
+    subst
+    (λ (styled : StyledDocument).
+    IsWithinWork c.args.edit.now (keyed_source styled) (record { tree = tree; sheet = c.replace_styles.new.styles.sheet }) c.args.steps.now (c.evaluated.new.steps + (length puts + length takes)))
+    c.self.view_is
+    (within_work c.args.edit.now c.self.inside.agent c.self.inside.styles c.self.inside.board.held c.self.inside.is_plain old tree c.in_ok-stops.stops
+    c.self.invariant.agent_is c.self.invariant.styles_are done (c.self.invariant.kept none) c.self.invariant.plain_is
+    c.replace_styles.new.styles.sheet (its_text c.replace_styles.new.styles text (style_texts tree) (c.replace_styles.ensures ∙ c.in-Ok.ensures.styles))
+    c.args.steps.now (c.evaluated.new.steps + length puts) (length takes) (c.evaluated.new.steps + (length puts + length takes))
+    c.in_ok-stops.ensures.plain c.in_ok-stops.ensures.own c.in_ok-stops.ensures.stops c.in_ok-stops.ensures.none
+    c.in-Ok.ensures.few
+    (omega (arith, ap length taken, taken_gone c.args.edit.now old tree))
+    (omega arith)
+    (omega (arith, count, c.evaluated.ensures.steps)))
+
+pub returns-clause-stops_within_work : goal.returns-clause-stops_within_work
+returns-clause-stops_within_work g c =
+    let none : is_none c.self.inside.planned ≡ true = ap (λ (styled : StyledDocument). styled.settled) c.self.view_is ∙ c.requires.settled in
+    let old = c.self.inside.arena.tree in
+    let tree = c.commit-reversal.new.self.tree in
+    let before = c.self.inside.styles.sheet in
+    let text = edited_sheet c.args.edit.now before in
+    let done =
+    done_by c.args.edit.now old _ tree c.args.self.now c.arena_holds_document.ensures.document c.arena_holds_document-2.ensures.document
+    (ap (λ (styled : StyledDocument). styled.tree) c.self.view_is) c.requires.allowed c.inserts_one_tree.ensures c.in_ok-prepared.ensures.edits c.commit-reversal.ensures.tree in
+    subst (λ (styled : StyledDocument). StopsWithinWork c.args.edit.now (keyed_source styled) c.args.steps.now c.evaluated.new.steps) c.self.view_is
+    (inr (
+      record { tree = tree; sheet = text },
+      leads c.args.edit.now before text old tree done refl,
+      within_work c.args.edit.now c.self.inside.agent c.self.inside.styles c.self.inside.board.held c.self.inside.is_plain old tree c.in_ok-stops.stops
+          c.self.invariant.agent_is c.self.invariant.styles_are done (c.self.invariant.kept none) c.self.invariant.plain_is text refl
+          c.args.steps.now c.evaluated.new.steps 0 c.evaluated.new.steps
+          c.in_ok-stops.ensures.plain c.in_ok-stops.ensures.own c.in_ok-stops.ensures.stops c.in_ok-stops.ensures.none
+          c.evaluated.ensures.most
+          (omega arith) (omega arith) (omega (arith, c.evaluated.ensures.steps)),
+    ))

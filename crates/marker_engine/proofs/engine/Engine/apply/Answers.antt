@@ -1,6 +1,7 @@
-use Rattle.std.proofs.Common.{◌≡◌, ◌∙◌, ◌≤◌, ◌+◌, ◌*◌, ℕ, Option, None, IfOk, ap, arith, sym, subst}
+use Rattle.std.proofs.Common.{◌≡◌, ◌∙◌, ◌≤◌, ◌+◌, ◌*◌, ℕ, Option, None, IfOk, ap, arith, inl, refl, sym, subst}
 use Rattle.dirty_walk.specs.Books.{StyledDocument}
 use Rattle.dirty_walk.specs.Plans.{settled_after}
+use Rattle.dirty_walk.specs.WorkBounds.{IsWithinWork, StopsWithinWork, keyed_source}
 use Rattle.forest.specs.Forest.{Forest}
 use Rattle.forest.specs.Keys.{Keyed, without_keys}
 use Rattle.node_arena.specs.Edits as edits
@@ -8,6 +9,7 @@ use Rattle.node_arena.specs.declared.place_fault.PlaceFault.{PlaceFault}
 use Rattle.plain_types.specs.declared.edit.Edit.{Edit}
 use Rattle.plain_types.specs.declared.node.Node.{Node}
 use Rattle.document_walk.specs.Elements.{element_count}
+use Rattle.ports.proofs.GrownLemmas.{on_err}
 use Rattle.marker_engine.specs.Edited.{edited}
 use Rattle.marker_engine.specs.Engines.{IsEvaluated, source_of}
 use Rattle.marker_engine.proofs.engine.Engine.apply.Goals as goal
@@ -54,3 +56,18 @@ returns-clause-steps g c =
 pub invariant_of-self-2 : goal.invariant_of-self-2
 unfolding settled_after
 invariant_of-self-2 g c = (ap (λ (styled : StyledDocument). styled.settled) c.commit.ensures.settled, c.commit.ensures.keeps)
+
+pub returns-in-Some-clause-stops_within_work : goal.returns-in-Some-clause-stops_within_work
+returns-in-Some-clause-stops_within_work g c = inl refl
+
+pub returns-in_err-plan-clause-stops_within_work : goal.returns-in_err-plan-clause-stops_within_work
+returns-in_err-plan-clause-stops_within_work g c =
+    on_err _
+    (subst (λ (old : StyledDocument). StopsWithinWork c.args.edit.now (keyed_source old) c.args.steps.now c.plan.new.steps) c.self.view_is c.in_err-plan.ensures.stops_within_work)
+
+pub returns-clause-within_work : goal.returns-clause-within_work
+returns-clause-within_work g c =
+    subst (λ (old : StyledDocument). IsWithinWork c.args.edit.now (keyed_source old) (keyed_source c.commit.new.self) c.args.steps.now c.commit.new.steps) c.self.view_is
+    (subst (λ (new : StyledDocument). IsWithinWork c.args.edit.now (keyed_source c.self.inside.book) (keyed_source new) c.args.steps.now c.commit.new.steps) (sym c.commit.ensures.settled)
+    (subst (λ (now : ℕ). IsWithinWork c.args.edit.now (keyed_source c.self.inside.book) (keyed_source (settled_after c.plan.new.self c.in_ok-plan.plan)) c.args.steps.now now) (sym c.commit.ensures.steps)
+    c.in_ok-plan.ensures.within_work))

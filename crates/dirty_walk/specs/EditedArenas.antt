@@ -1,0 +1,30 @@
+-- What an edit has made of a document and its sheet (our own).
+use Rattle.std.specs.Prelude.{ℕ, Bool, List}
+use Rattle.plain_types.specs.declared.sheet.Sheet.{Sheet}
+use Rattle.node_arena.specs.Edits.{edited_sheet}
+use Rattle.generated_texts.specs.StyleElements.{author_sheet}
+use Rattle.dirty_walk.specs.declared.document_styles.DocumentStyles.{DocumentStyles}
+use Rattle.dirty_walk.specs.declared.edited_arena.EditedArena.{EditedArena}
+use Rattle.dirty_walk.specs.declared.kept.Kept.{Kept}
+use Rattle.dirty_walk.specs.DocumentStyles.{document_styles}
+use Rattle.dirty_walk.specs.Evaluations.{document_kept}
+use Rattle.dirty_walk.specs.Plain.{is_plain}
+
+module _ (document : EditedArena) where
+  -- the text of the sheet
+  abbrev pub sheet_after : List ℕ
+  sheet_after = edited_sheet document.edit.now document.styles.now.sheet
+
+  abbrev pub author_after : Sheet
+  author_after = author_sheet sheet_after document.arena.now.tree
+
+  abbrev pub styles_after : DocumentStyles
+  styles_after = document_styles sheet_after document.arena.now.tree
+
+  -- what a fresh evaluation keeps of the elements
+  abbrev pub kept_after : List (ℕ × Kept)
+  kept_after = document_kept author_after document.arena.now.tree
+
+  -- none of them rests on more than what it is handed
+  abbrev pub is_plain_after : Bool
+  is_plain_after = is_plain author_after document.arena.now.tree
