@@ -1,0 +1,3 @@
+pub mod TouchedTargets
+pub mod MergedNodes
+pub mod Laws

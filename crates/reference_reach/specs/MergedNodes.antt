@@ -1,0 +1,32 @@
+-- What the merge of a document before and after an edit says of its nodes (our own).
+use Rattle.std.specs.Prelude.{◌≡◌, ℕ, Bool, false, List, [], ◌∷◌, ◌++◌, if◌then◌else◌}
+use Rattle.std.specs.List.{list_any}
+use Rattle.forest.specs.Forest.{Forest, Empty, Tree, labels}
+use Rattle.forest.specs.Keys.{Keyed}
+use Rattle.plain_types.specs.declared.node.Node.{Node}
+use Rattle.generated_texts.specs.References.{has_id}
+use Rattle.merged_walk.specs.Merges.{Merge, End, Kept, Turned, Gone, Come, has_place}
+use Rattle.edit_work.specs.KeyedSources.{elements_in}
+
+-- the elements of the new document that come, are turned or have a place under them: only elements have children
+abbrev pub entered_elements : Merge Node → List ℕ
+entered_elements End = []
+entered_elements (Kept node children after) =
+    (if has_place children then node.key ∷ [] else []) ++ (entered_elements children ++ entered_elements after)
+entered_elements (Turned was node children after) = node.key ∷ (entered_elements children ++ entered_elements after)
+entered_elements (Gone node children after) = entered_elements after
+entered_elements (Come node children after) = elements_in (Tree node children Empty) ++ entered_elements after
+
+module _ (id : List ℕ) where
+  -- a node in trees has the id
+  abbrev pub is_held_in : Forest (Keyed Node) → Bool
+  is_held_in trees = list_any (λ (node : Keyed Node). has_id id node.label) (labels trees)
+
+  -- No node that goes or comes has the id. What is turned keeps its key, and has the id where it had it before.
+  abbrev pub IsLeftAlone : Merge Node → Type 0
+  IsLeftAlone End = Unit {0}
+  IsLeftAlone (Kept node children after) = IsLeftAlone children × IsLeftAlone after
+  IsLeftAlone (Turned was node children after) =
+      (was.key ≡ node.key) × (has_id id was.label ≡ has_id id node.label) × IsLeftAlone children × IsLeftAlone after
+  IsLeftAlone (Gone node children after) = (is_held_in (Tree node children Empty) ≡ false) × IsLeftAlone after
+  IsLeftAlone (Come node children after) = (is_held_in (Tree node children Empty) ≡ false) × IsLeftAlone after
