@@ -1,0 +1,4 @@
+pub mod AlikeLaws
+pub mod SameAttrs
+pub mod SameEdits
+pub mod PermutedAttrs
