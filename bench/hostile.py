@@ -11,11 +11,14 @@ import subprocess
 import sys
 from concurrent.futures import ThreadPoolExecutor
 
-from hostile_kinds import KINDS
+from hostile_kinds import KINDS, LARGEST, largest_size
 from seconds import ratio
 
 STACK = 256 * 1024
 MOST_SECONDS = 60
+# For files as long as they may be: the processor time of a run, and its memory.
+LARGEST_SECONDS = 600
+LARGEST_MEMORY = 14 << 30
 EDIT = ("edit", "article.xhtml", "house.css", "script.txt")
 HERE = os.path.dirname(os.path.abspath(__file__))
 
@@ -49,20 +52,20 @@ def put(name, parts):
             file.write(part if isinstance(part, bytes) else part.encode())
 
 
-def bound_time():
-    """A run has so much processor time; the system ends one that takes more by SIGXCPU."""
-    resource.setrlimit(resource.RLIMIT_CPU, (MOST_SECONDS, MOST_SECONDS))
-
-
-def run(words, environment=None, memory=None):
-    """Runs the program; memory is the most bytes that it may have, where that is bounded."""
+def bounds(seconds=MOST_SECONDS, memory=None):
+    """Bounds a run: the system ends one that takes more processor time by SIGXCPU, and refuses it more memory."""
     def bound():
-        bound_time()
+        resource.setrlimit(resource.RLIMIT_CPU, (seconds, seconds))
         if memory is not None:
             resource.setrlimit(resource.RLIMIT_AS, (memory, memory))
+    return bound
 
+
+def run(words, environment=None, memory=None, program="./program"):
+    """Runs the program; memory is the most bytes that it may have, where that is bounded."""
     ended = subprocess.run(
-        ("./program", *words), capture_output=True, preexec_fn=bound, env={**os.environ, **(environment or {})}, check=False,
+        (program, *words), capture_output=True, preexec_fn=bounds(memory=memory), env={**os.environ, **(environment or {})},
+        check=False,
     )
     return Ended(ended.returncode, ended.stdout, ended.stderr)
 
@@ -80,15 +83,20 @@ def tell(name, ended, fits):
     print(f"WRONG: {name}: status {status}, {ended.err[:200]!r}, {len(ended.out)} bytes of output", flush=True)
 
 
+def beside(one, items):
+    """What each item gives, in their order; on half of the processors some are done at a time."""
+    with ThreadPoolExecutor(max(1, (os.cpu_count() or 2) // 2)) as pool:
+        yield from pool.map(one, items)
+
+
 def in_turn(jobs):
     """Does the jobs, some beside each other: each is a name, the words of a run, and what to ask of its end."""
     def one(job):
         name, ask, words, environment = job
         return name, ask, run(words, environment)
 
-    with ThreadPoolExecutor(max(1, (os.cpu_count() or 2) // 2)) as pool:
-        for name, ask, ended in pool.map(one, jobs):
-            tell(name, ended, ask(ended))
+    for name, ask, ended in beside(one, jobs):
+        tell(name, ended, ask(ended))
 
 
 def utf8_fault(front):
@@ -209,10 +217,50 @@ def requests(number):
     print(f"  {count} requests of the article's edits")
     words = long_run()
     count, _, _ = calls_of(words)
-    number = min(number or 100, count)
-    numbers = sorted({1 + place * (count - 1) // max(1, number - 1) for place in range(number)})
+    numbers = spread(number or 100, count)
     in_turn(failed_jobs("request of the long script", words, "FAIL_REQUEST", numbers, 1, run(words).out))
     print(f"  {len(numbers)} of {count} requests of the long script")
+
+
+def spread(number, count):
+    """So many of the numbers from 1 to the count, with the first and the last, as far from each other as can be."""
+    number = min(number, count)
+    return sorted({1 + place * (count - 1) // max(1, number - 1) for place in range(number)})
+
+
+def tests_of(crate):
+    """The tests of a crate. They are proved and built where they aren't there yet."""
+    folder = os.path.join(os.path.dirname(HERE), "crates", crate)
+    path = os.path.join(folder, "out", f"{crate}_tests")
+    if not os.path.exists(path):
+        subprocess.run(("rt", "test"), cwd=folder, stdout=subprocess.DEVNULL, check=True)
+    return path
+
+
+def again(number):
+    """A test does edits, and one that is refused memory once more; in the end all is as without the refusal. It gives
+    up where memory is refused before the edits or behind them."""
+    global tried, wrong
+    tests = tests_of("hostile_rows")
+    test = ("refused::edits_refused_memory_are_done_again",)
+    calls = {"LD_PRELOAD": failing_library(), "CALLS": os.path.abspath("calls")}
+    assert run(test, calls, program=tests).status == 0, "the test fails by itself"
+    count = int(read("calls").split()[0])
+    ends = collections.Counter()
+    numbers = spread(number or 100, count)
+
+    def one(request):
+        return request, run(test, {"LD_PRELOAD": failing_library(), "FAIL_REQUEST": str(request)}, program=tests)
+
+    for request, ended in beside(one, numbers):
+        tried += 1
+        is_same = ended.status == 0 and ended.out.endswith(b"test result: ok\n")
+        gives_up = ended.status == 101 and re.match(rb"error: (Memory|AllocError)\n", ended.err)
+        ends["in an edit, which was then done" if is_same else "elsewhere"] += 1
+        if not is_same and not gives_up:
+            wrong += 1
+            print(f"WRONG: request {request} of the test: status {ended.status}, {ended.err[:200]!r}", flush=True)
+    print(f"  {len(numbers)} of {count} requests refused: " + ", ".join(f"{ends[name]} {name}" for name in sorted(ends)))
 
 
 def devices(_number):
@@ -315,41 +363,57 @@ def write_files(kind, size):
         put(name, parts)
 
 
-def measured(words):
+def measured(words, bound):
     """A run with its output, its seconds of processor time, and the most memory that it held, in MiB."""
     with open("out", "wb") as out, open("err", "wb") as err:
-        process = subprocess.Popen(("./program", *words), stdout=out, stderr=err, preexec_fn=bound_time)
+        process = subprocess.Popen(("./program", *words), stdout=out, stderr=err, preexec_fn=bound)
         _, status, usage = os.wait4(process.pid, 0)
     process.returncode = os.waitstatus_to_exitcode(status)
     taken = usage.ru_utime + usage.ru_stime
     return Ended(process.returncode, read("out"), read("err")), taken, usage.ru_maxrss / 1024
 
 
+def grow(kind, sizes, bound):
+    """A kind of input at a size and at twice that: what comes of it, and how much more time and memory it takes."""
+    global wrong
+    figures = []
+    for size in sizes:
+        write_files(kind, size)
+        ended, taken, peak = measured(kind.words, bound)
+        fits = ended.status == kind.status and (kind.check is None or kind.check(size, ended.out))
+        tell(f"{kind.name}, {size}", ended, fits)
+        if taken < 1:
+            taken = min(taken, measured(kind.words, bound)[1])
+        longest = max(os.path.getsize(name) for name in kind.files(0)) / (1 << 20)
+        figures.append((f"{size} ({longest:.2f} MiB): {taken:.3f} s, {peak:.0f} MiB", taken, peak))
+    (once, taken, peak), (twice, taken_twice, peak_twice) = figures
+    times = ratio(taken_twice, taken)
+    line = f"  {kind.name}: {once}; {twice}; {times:.1f} times as long"
+    if kind.grows != "linear":
+        line += f" ({kind.grows})"
+    elif (times > 3.3 and taken_twice > 0.1) or peak_twice > 2.5 * peak + 8:
+        line += "  WRONG: more than linear"
+        wrong += 1
+    print(line, flush=True)
+
+
 def growth(_number):
     """Each kind of input at its size and at twice that."""
-    global wrong
     for kind in KINDS:
-        figures = []
-        for size in (kind.size, 2 * kind.size):
-            write_files(kind, size)
-            ended, taken, peak = measured(kind.words)
-            fits = ended.status == kind.status and (kind.check is None or kind.check(size, ended.out))
-            tell(f"{kind.name}, {size}", ended, fits)
-            if taken < 1:
-                taken = min(taken, measured(kind.words)[1])
-            figures.append((taken, peak))
-        (taken, peak), (twice, peak_twice) = figures
-        times = ratio(twice, taken)
-        line = f"  {kind.name}: {kind.size}: {taken:.3f} s, {peak:.0f} MiB; twice that: {twice:.3f} s, {peak_twice:.0f} MiB, {times:.1f} times as long"
-        if kind.grows != "linear":
-            line += f" ({kind.grows})"
-        elif (times > 3.3 and twice > 0.1) or peak_twice > 2.5 * peak + 8:
-            line += "  WRONG: more than linear"
-            wrong += 1
-        print(line, flush=True)
+        grow(kind, (kind.size, 2 * kind.size), bounds())
 
 
-PARTS = {"fronts": fronts, "requests": requests, "devices": devices, "limits": limits, "broken": broken, "growth": growth}
+def largest(number):
+    """Kinds whose cost is linear, with a file of half as many MiB and one of as many."""
+    for kind in LARGEST:
+        size = largest_size(kind, (number or 16) << 20)
+        grow(kind, (size // 2, size), bounds(LARGEST_SECONDS, LARGEST_MEMORY))
+
+
+PARTS = {
+    "fronts": fronts, "requests": requests, "again": again, "devices": devices, "limits": limits, "broken": broken,
+    "growth": growth, "largest": largest,
+}
 
 
 def main():

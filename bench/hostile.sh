@@ -6,11 +6,16 @@
 # The parts:
 #   fronts     every front of a document, of its sheet and of a script
 #   requests   each request for memory of a script's run refused, one at a time; NUMBER of those of a long script (100)
+#   again      a request for memory refused in a test that does 50 edits of 1,000 elements, NUMBER times (100), each
+#              another request: an edit that was refused is done again, and then all is as without the refusal
 #   devices    each read and each write of a script's run failed, one at a time; and files and output byte by byte
 #   limits     large runs with little memory
 #   broken     NUMBER runs (2000) over random bytes, files that are cut and joined, and bytes of good files turned over
 #   growth     kinds of large input at a size and at twice that: time, memory, and how both grow
-# requests and devices need a C compiler, CC or else cc: calls of the C library are failed by a library put before it.
+#   largest    those that cost time and memory linear in their length, with a file of half of NUMBER MiB and one of
+#              NUMBER (16, the most that a file may have): the same; it takes up to 14 GiB of memory
+# again proves and builds the tests of the crate hostile_rows first, where they aren't there. requests, again and
+# devices need a C compiler, CC or else cc: calls of the C library are failed by a library put before it.
 set -eu
 here=$(cd "$(dirname "$0")/.." && pwd)
 if [ $# -gt 0 ] && [ -x "$1" ]; then

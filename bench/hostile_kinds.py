@@ -48,7 +48,7 @@ def many(part, count):
 
 
 def wrapped(front, part, back):
-    return lambda size: [front, *many(part, size), back] if callable(part) else chained(front, many(part, size), back)
+    return lambda size: chained(front, many(part, size), back)
 
 
 def chained(front, parts, back):
@@ -220,3 +220,30 @@ KINDS = [
     Kind("elements that come, one after the other", 500, of_script(wrapped("", "insert / 0 <p/>\n", "")), EDIT,
          grows="the square of the edits, each over a larger document", check=is_empty),
 ]
+
+# Linear too, and yet not for a run at the most that a file may have: it would take tens of GiB, or an hour.
+TOO_LARGE = {
+    "100,000 rules over 100 elements", "items beside each other", "style elements without rules", "style attributes",
+    "next siblings", "children", ":empty and :root", "counters of siblings", "reversed lists beside each other",
+    "references to one element", "references to nothing", "a ring of references",
+    "references to one text of 1,000 characters", "a script of moves", "a script of sheets", "a script of shows",
+    "an attribute set again and again",
+}
+LARGEST = [kind for kind in KINDS if kind.grows == "linear" and kind.name not in TOO_LARGE]
+
+
+def longest_file(kind, size):
+    """How many bytes the longest of its files has."""
+    lengths = []
+    for parts in kind.files(size).values():
+        lengths.append(sum(len(part if isinstance(part, bytes) else part.encode()) for part in parts))
+    return max(lengths)
+
+
+def largest_size(kind, most):
+    """A size at which no file of this kind has more than so many bytes, and the longest few less."""
+    length = longest_file(kind, 1_000)
+    size = 1_000 * most // (length - longest_file(kind, 0))
+    while (length := longest_file(kind, size)) > most:
+        size = min(size * most // length, size - 1)
+    return size

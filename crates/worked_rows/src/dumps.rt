@@ -1,16 +1,14 @@
 //! Dumps of documents under their sheets, worked out by hand.
 
-use crate::rows::{Lines, code_of, dumped, text_of};
+use crate::rows::{code_of, dumped};
 use crate::tests::comes_out;
+use evaluation_rows::lines::{Dump, Lines, text_of};
 use plain_types::memory::Memory;
 use ports::fixed_sink::FixedSink;
 use std::alloc::Global;
 use std::marker::Brand;
 use std::sync::ledger::Blank;
 use std::test::Fail;
-
-/// A document, its sheet, and its dump.
-pub type Dump = (&'static str, &'static str, Lines);
 
 static LIST_ITEMS: [Dump; 14] = [
     (

@@ -14,9 +14,6 @@ use std::alloc::Global;
 use std::sync::ledger::{Blank, Ledger};
 use steps::Steps;
 
-/// The lines of a text, without their line feeds.
-pub type Lines = &'static [&'static str];
-
 /// A run: its words and files, and what must come out.
 #[derive(Clone, Copy)]
 pub struct Row<'a> {
@@ -99,16 +96,6 @@ pub fn ended<'a>(words: &'a [&'a str], err: &'a str, code: u8) -> Row<'a> {
         err,
         code,
     }
-}
-
-/// The text of these lines.
-pub fn text_of(alloc: Global, lines: &[&str]) -> Result<String, Memory> {
-    let mut text = String::new(alloc);
-    for line in lines {
-        text.push_str(line)?;
-        text.push('\n')?;
-    }
-    Ok(text)
 }
 
 fn named(alloc: Global, name: &str, bytes: &[u8]) -> Result<NamedFile, Memory> {

@@ -1,8 +1,8 @@
 //! Runs of scripts, and runs that are made up.
 
-use crate::dumps::Dump;
-use crate::rows::{Lines, Row, edited, ended, text_of};
+use crate::rows::{Row, edited, ended};
 use crate::tests::comes_out;
+use evaluation_rows::lines::{Dump, Lines, text_of};
 use plain_types::memory::Memory;
 use std::alloc::Global;
 use std::test::Fail;

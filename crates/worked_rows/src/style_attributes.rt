@@ -1,9 +1,10 @@
 //! `style` attributes, worked out by hand: how they are read, and what holds against them.
 
-use crate::dumps::{Dump, first_wrong as first_wrong_dump};
+use crate::dumps::first_wrong as first_wrong_dump;
 use crate::rows::dumped;
 use crate::scripts::{Script, first_wrong as first_wrong_script};
 use crate::tests::comes_out;
+use evaluation_rows::lines::Dump;
 use plain_types::memory::Memory;
 use std::test::Fail;
 

@@ -1,9 +1,10 @@
 //! Style elements of documents, worked out by hand: which count, what their text is, and in which order they stand.
 
-use crate::dumps::{Dump, first_wrong as first_wrong_dump};
+use crate::dumps::first_wrong as first_wrong_dump;
 use crate::rows::{dumped, edited};
 use crate::scripts::{Script, first_wrong as first_wrong_script};
 use crate::tests::comes_out;
+use evaluation_rows::lines::Dump;
 use plain_types::memory::Memory;
 use std::test::Fail;
 

@@ -1,7 +1,8 @@
 //! Tables of values in counter styles, worked out by hand.
 
-use crate::rows::{Lines, tabled, text_of};
+use crate::rows::tabled;
 use crate::tests::comes_out;
+use evaluation_rows::lines::{Lines, text_of};
 use itoa::Buffer;
 use plain_types::memory::Memory;
 use std::alloc::Global;

@@ -1,5 +1,0 @@
-use Rattle.forest.specs.Spots.{IsLive}
-use Rattle.worked_rows.proofs.cascade.innermost_style.Given as goal
-
-abbrev pub invariant-down : goal.invariant-down
-invariant-down g l = IsLive l.arena.tree l.at

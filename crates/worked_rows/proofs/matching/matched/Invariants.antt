@@ -1,5 +1,0 @@
-use Rattle.forest.specs.Spots.{IsLive}
-use Rattle.worked_rows.proofs.matching.matched.Given as goal
-
-abbrev pub invariant-walk : goal.invariant-walk
-invariant-walk l = IsLive l.arena.tree l.at
