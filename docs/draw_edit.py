@@ -1,6 +1,6 @@
 #!/usr/bin/env python3
 """Draws edit.svg: what an edit does at each element of a document, of which the second item of the second list goes.
-It calls nothing: which element is which was told by hand, from what the elements are handed before and after.
+It calls nothing: which element is which was worked out by hand, from what the elements are handed before and after.
 
     docs/draw_edit.py > docs/edit.svg
 """
@@ -27,7 +27,7 @@ ELEMENTS = (
     (2, "h2", "same", "", "", "handed the same: on to the list"),
     (2, "ol", "anew", "", "", "the place is under it"),
     (3, "li", "same", "1", "1", "handed the same: on to the place"),
-    (3, "li", "gone", "2", "", "the place: its record tells what is handed here"),
+    (3, "li", "gone", "2", "", "the place: its record has what is handed here"),
     (3, "li", "anew", "3", "2", "compared: it follows item 1, and followed item 2"),
     (1, "section #three", "anew", "", "", "compared: the box before it has 2, and had 3"),
     (2, "h2", "same", "", "", "handed the same: on to the end of the section"),
