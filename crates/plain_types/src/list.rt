@@ -56,14 +56,6 @@ impl<T> List<T> {
         self.items.is_empty()
     }
 
-    /// The items as a `Vec`, in constant time and with no memory.
-    pub fn into_items(self) -> Vec<T>
-        ensures items { result.items ≡ self }
-    {
-        let List { items } = self;
-        items
-    }
-
     /// Appends the item, in amortized constant time. After `Memory` the item is dropped.
     pub fn push(&mut self, item: T) -> Result<(), Memory>
     where
