@@ -28,8 +28,6 @@ mod open_tree;
 mod place;
 mod prepare;
 mod read;
-#[cfg(test)]
-mod tests;
 
 ghost use Rattle.std.specs.Prelude.{IfErr, IfOk};
 ghost use Rattle.std.specs.Str.{chars};

@@ -1,12 +1,12 @@
 //! Texts, and what is answered: the nodes in tree order, each behind its depth, or the line and the
 //! column of the fault. The answers are worked out by hand from the grammar.
 
-use crate::fault::DocFault;
-use crate::{is_name, read_document, read_fragment};
 use plain_types::node::NodeView;
 use plain_types::tree::Tree;
 use std::fmt::Write;
 use std::test::Fail;
+use xhtml_reader::fault::DocFault;
+use xhtml_reader::{is_name, read_document, read_fragment};
 
 fn push_attr(told: &mut String, name: &str, value: &str) -> Result<(), Fail> {
     for part in [" ", name, "=", value] {
