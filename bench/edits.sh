@@ -1,9 +1,10 @@
 #!/usr/bin/env bash
 # The mean time of an edit by `marker edit`, over documents of sections with a heading, a list and a link each, of 10,
 # 1,000, 10,000 and 100,000 elements: the time of a script of edits and one `show`, less that of the `show` alone, by
-# the number of edits; and how many times as long an edit takes as at the size before. Under the plain sheet no link is
-# a reference, so that an edit is evaluated from its place. With two programs, also how many times as long the second
-# takes as the first, so that a change can be compared with what was before.
+# the number of edits; and how many times as long an edit takes as at the size before. Under a plain sheet no link is a
+# reference, so that an edit is evaluated from its place; in another plain one selectors look at siblings, so that an
+# edit reaches the list that it changes and what is beside that. With two programs, also how many times as long the
+# second takes as the first, so that a change can be compared with what was before.
 #   bench/edits.sh [--plain] [PROGRAM [OTHER]] [ELEMENTS..]      the repository's program where none is named
 set -eu
 here=$(cd "$(dirname "$0")/.." && pwd)
@@ -34,7 +35,8 @@ PLAIN = (
     'body{counter-reset:s}section{counter-increment:s;counter-reset:i}li{counter-increment:i list-item}'
     'h2::before{content:counter(s)". "}li::before{content:counters(i,".")}'
 )
-SHEETS = {"plain": PLAIN}
+SIBLINGS = 'li+li::after{content:"."}li:nth-child(2n)::after{content:"!"}ol:empty::after{content:"none"}'
+SHEETS = {"plain": PLAIN, "plain, with siblings": PLAIN + SIBLINGS}
 if "--plain" not in sys.argv:
     SHEETS["with references"] = PLAIN + 'a::after{content:"("target-counter(attr(href),s)")"}'
 
@@ -78,7 +80,7 @@ def an_edit(program, count):
 def measure(kind, size, before):
     """Says what an edit takes at this size, and gives it; `before` is what it took at the size before."""
     # An edit that evaluates the whole document takes the longer the larger that is, and the other program may do so.
-    is_from_place = kind == "plain" and len(programs) == 1
+    is_from_place = kind.startswith("plain") and len(programs) == 1
     count = 10_000 if is_from_place else max(5, min(10_000, 500_000 // size))
     put("edits.txt", edits(size, count))
     taken, *others = [an_edit(program, count) for program in programs]

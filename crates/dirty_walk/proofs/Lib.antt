@@ -5,6 +5,7 @@ pub mod CharacterTurns
 pub mod CharactersLeft
 pub mod ExchangeLaws
 pub mod ExchangedLemmas
+pub mod GoneLemmas
 pub mod HolderLemmas
 pub mod IdLemmas
 pub mod IndexLemmas

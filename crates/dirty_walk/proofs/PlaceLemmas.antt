@@ -10,7 +10,6 @@ use Rattle.std.proofs.lemmas.List.Elements.{All-contains, All-contains_itself, A
 use Rattle.forest.specs.Forest.{Forest}
 use Rattle.forest.specs.Keys.{Keyed, without_keys}
 use Rattle.plain_types.specs.declared.edit.Edit.{Edit}
-use Rattle.plain_types.specs.declared.edit.Edit.TheVariants.{Insert, Remove, Move, SetAttr, UnsetAttr, ReplaceSheet}
 use Rattle.plain_types.specs.declared.counter_style.CounterStyle.{CounterStyle}
 use Rattle.plain_types.specs.declared.node.Node.{Node}
 use Rattle.plain_types.specs.declared.sheet.Sheet.{Sheet}
@@ -33,31 +32,36 @@ use Rattle.merged_walk.specs.Merges.{Merge}
 use Rattle.merged_walk.proofs.EntryLaws.{contains-first}
 use Rattle.surroundings.specs.declared.told.Told.{Told}
 use Rattle.surroundings.specs.declared.walked.Walked.{Walked}
-use Rattle.surroundings.specs.StyledEvaluators.{root_surroundings, styled_evaluator}
+use Rattle.surroundings.specs.StyledEvaluators.{is_element, root_surroundings, styled_evaluator}
 use Rattle.document_walk.specs.Catching.{Reading}
 use Rattle.document_walk.specs.CatchingUp.{AreAllAmong, CanCatchUp, CoversAll, IsWithinBudget}
 use Rattle.document_walk.specs.Elements.{element_count}
-use Rattle.edit_merge.specs.EditMerges.{edit_merge, edit_stops, inserted_key}
-use Rattle.edit_merge.specs.Laws.{ChangesDocument, IsDone}
-use Rattle.edit_merge.proofs.EditLaws.{edits_have_leaves, edits_lead, edits_merge, edits_stop}
+use Rattle.edit_merge.specs.EditMerges.{inserted_key}
+use Rattle.edit_merge.specs.Laws.{IsDone}
+use Rattle.edit_merge.proofs.EditLaws.{edits_merge}
 use Rattle.style_reach.specs.Laws.{Edits}
 use Rattle.style_reach.specs.Reaches.{all_features, reach}
 use Rattle.style_reach.specs.TouchedSheets.{touches_sheet}
 use Rattle.style_reach.specs.declared.extent.Reach.{Reach}
-use Rattle.style_reach.specs.declared.extent.Reach.TheVariants.{Own, All as Everywhere}
+use Rattle.style_reach.specs.declared.extent.Reach.TheVariants.{All as Everywhere}
 use Rattle.style_reach.proofs.AuthorLaws.{sheet-stays, texts-stay, touches-not}
-use Rattle.styled_merge.specs.Laws.{HasShape, looks_beside, style_beside}
+use Rattle.styled_merge.specs.Laws.{looks_beside, style_beside}
+use Rattle.styled_merge.specs.Reached.{reached_merge}
+use Rattle.styled_merge.specs.ReachStops.{reach_stops}
+use Rattle.styled_merge.specs.StopLaws.{IsWalkable, stops_where}
 use Rattle.styled_merge.specs.StyledMerges.{styled_merge}
-use Rattle.styled_merge.proofs.LawLemmas.{own_styles_documents, starts_are_their_own, styled_merges_keep_shape}
+use Rattle.styled_merge.proofs.LawLemmas.{documents_style_merges, starts_are_their_own}
+use Rattle.styled_merge.proofs.StopLemmas.{styled_reaches_are_walkable}
 use Rattle.dirty_walk.specs.declared.document_styles.DocumentStyles.{DocumentStyles}
 use Rattle.dirty_walk.specs.declared.kept.Kept.{Kept}
+use Rattle.dirty_walk.specs.declared.local_stops.LocalStops.{LocalStops}
 use Rattle.dirty_walk.specs.declared.styled_arena.StyledArena.{StyledArena}
 use Rattle.dirty_walk.specs.Changes.{AreChanges, Renews}
 use Rattle.dirty_walk.specs.DocumentStyles.{document_styles, read_styles}
 use Rattle.dirty_walk.specs.Evaluations.{all_kept_of, document_kept, document_told, kept_of, said_of}
 use Rattle.dirty_walk.specs.PlaceReadings.{read_of}
-use Rattle.dirty_walk.specs.PlaceStyles.{StandsAt, StandsBefore}
-use Rattle.dirty_walk.specs.Places.{IsAtPlace, IsSomePlace, IsWithinPlace, nothing_known, place_budget, place_merge, reading_of, walked_at}
+use Rattle.dirty_walk.specs.PlaceStyles.{StandsBefore}
+use Rattle.dirty_walk.specs.Places.{IsLocalEdit, IsSomePlace, IsWithinPlace, nothing_known, place_budget, place_merge, reading_of, walked_at}
 use Rattle.dirty_walk.specs.Plain.{are_plain, is_plain, rests_on_others}
 use Rattle.dirty_walk.proofs.AskLemmas.{plain_without_starts, without_starts_plain}
 use Rattle.dirty_walk.proofs.KnownLemmas.{kept_mapped}
@@ -66,9 +70,6 @@ use Rattle.dirty_walk.proofs.PlanLemmas.{its_author}
 use Rattle.dirty_walk.proofs.RenewalLemmas.{at_first, kept_there, later, once_there, renews, the_one}
 use Rattle.dirty_walk.proofs.ToldLemmas.{kept_count, told_once}
 
-pub not_everywhere : (reached : Reach) → reached ≡ Own → reached ≢ Everywhere
-not_everywhere reached own everywhere = absurd (cc)
-
 contains_mapped : {A B : Type 0} (f : A → B) (xs : List A) (x : A) → Contains xs x → Contains (map f xs) (f x)
 contains_mapped f [] x there = absurd (omega (arith, there.1))
 contains_mapped f (y ∷ xs) x there = elim (Contains-append_cases (y ∷ []) xs x there) [
@@ -76,27 +77,19 @@ contains_mapped f (y ∷ xs) x there = elim (Contains-append_cases (y ∷ []) xs
   | inr rest ↦ later (f y) (f x) (map f xs) (contains_mapped f xs x rest)
 ]
 
-changes_document : (edit : Edit) (tree : Forest (Keyed Node)) → touches_sheet tree edit ≡ false → ChangesDocument edit
-changes_document (Insert parent index fragment) tree free = tt
-changes_document (Remove path) tree free = tt
-changes_document (Move from parent index) tree free = tt
-changes_document (SetAttr path name value) tree free = tt
-changes_document (UnsetAttr path name) tree free = tt
-changes_document (ReplaceSheet text) tree free = absurd (cc)
-
 walked_of : (f : Told → Kept) → ((told : Told) → (f told).walked ≡ told.walked) → (o : Option Told) → option_map (λ (kept : Kept). kept.walked) (option_map f o) ≡ option_map (λ (told : Told). told.walked) o
 walked_of f same None = refl
 walked_of f same (Some told) = ap (λ (walked : Walked). Some walked) (same told)
 
-module _ (edit : Edit) (text : List ℕ) (held : FinMap nat_cmp Kept) (stops : List Stop) (old new : Forest (Keyed Node)) (at : IsAtPlace edit text held old new)
-    (stops_are : stops ≡ edit_stops edit (inserted_key edit new) old) where
+module _ (edit : Edit) (text : List ℕ) (held : FinMap nat_cmp Kept) (stops : List Stop) (old new : Forest (Keyed Node)) (at : IsLocalEdit edit text held old new)
+    (stops_are : stops ≡ stops_where (looks_beside text old) edit old new) where
   edits : Edits edit old new
   edits = record { document = at.done.before; allowed = at.done.allowed; edited = at.done.edited }
 
   -- The sheets stay.
 
   free : touches_sheet old edit ≡ false
-  free = touches-not (looks_beside text old) edit old (not_everywhere _ at.own)
+  free = touches-not (looks_beside text old) edit old at.local
 
   pub sheet_is : edited_sheet edit text ≡ text
   sheet_is = sheet-stays edit old text free
@@ -146,17 +139,17 @@ module _ (edit : Edit) (text : List ℕ) (held : FinMap nat_cmp Kept) (stops : L
 
   -- The walk may begin.
 
-  abbrev m : Merge Node
-  m = edit_merge edit old new
+  abbrev whole : Merge Node
+  whole = reached_merge (looks_beside text old) edit old new
 
-  shape : HasShape (place_merge edit text old new) m
-  shape = styled_merges_keep_shape (style_beside text old) (style_beside text new) no_starts no_starts None m
+  walkable : IsWalkable is_element (stops_where (looks_beside text old) edit old new) (place_merge edit text old new)
+  walkable = styled_reaches_are_walkable edit old new at.done (looks_beside text old) (style_beside text old) (style_beside text new) no_starts no_starts None
 
   forests : Merges (place_merge edit text old new) (styled (style_beside text old) no_starts old) (styled (style_beside text new) no_starts new)
   forests =
-      subst (λ (t : List ℕ). Merges (styled_merge (style_beside text old) (style_beside t new) no_starts no_starts None m) (styled (style_beside text old) no_starts old) (styled (style_beside t new) no_starts new))
+      subst (λ (t : List ℕ). Merges (styled_merge (style_beside text old) (style_beside t new) no_starts no_starts None whole) (styled (style_beside text old) no_starts old) (styled (style_beside t new) no_starts new))
       sheet_is
-      (own_styles_documents edit old new edits (edits_merge edit old new at.done) text at.own no_starts no_starts (starts_are_their_own (style_beside (edited_sheet edit text) new) no_starts m))
+      (documents_style_merges edit old new edits (edits_merge edit old new at.done) text no_starts no_starts (starts_are_their_own (style_beside (edited_sheet edit text) new) no_starts whole))
 
   -- what a walk reads under an author's sheet
   abbrev under : Sheet → Reading
@@ -168,9 +161,9 @@ module _ (edit : Edit) (text : List ℕ) (held : FinMap nat_cmp Kept) (stops : L
     holds = subst (λ (trees : Forest (Keyed StyledNode)). Holds told_at (told_all (styled_evaluator table) root_surroundings trees)) (sym forests.old)
         (subst (λ (told : List (ℕ × Told)). Holds told_at told) (sym (plain_without_starts table (document_style author old) old at.plain)) holds);
     read = read;
-    stops = stops_are ∙ sym (edits_stop edit old new at.done) ∙ sym (shape.stops 0);
-    leaves = shape.leaves (edits_have_leaves edit old new at.done);
-    led = shape.all_led (edits_lead edit old new at.done (changes_document edit old free));
+    stops = stops_are ∙ walkable.stops;
+    leaves = walkable.leaves;
+    led = walkable.led;
   })
 
   -- What it finds. Where the document is plain, so is that.
@@ -365,50 +358,51 @@ module _ (document : StyledArena) (is_agent : document.agent.now ≡ agent_sheet
 
 -- A book before its edit is evaluated.
 
-module _ (edit : Edit) (styles : DocumentStyles) (held : FinMap nat_cmp Kept) (stops : List Stop) (new : Forest (Keyed Node)) (there : StandsAt edit styles held stops new) where
+-- where what the edit inserts has this key, the stops that are named so are those that were told before
+abbrev pub AreNamed : Edit → LocalStops → Forest (Keyed Node) → List Stop → Type 0
+AreNamed edit local new named =
+    (old : Forest (Keyed Node)) → local.stops.items ≡ reach_stops local.extent edit 0 old → named ≡ reach_stops local.extent edit (inserted_key edit new) old
+
+module _ (edit : Edit) (styles : DocumentStyles) (held : FinMap nat_cmp Kept) (local : LocalStops) (new : Forest (Keyed Node)) (there : StandsBefore edit styles held local new) (named : List Stop)
+    (names : AreNamed edit local new named) where
+  pub its_stops : named ≡ stops_where (looks_beside styles.sheet there.old) edit there.old new
+  its_stops = names there.old there.stops_are ∙ ap (λ (extent : Reach). reach_stops extent edit (inserted_key edit new) there.old) there.extent_is
+
   -- the styles are those of the edited document
   pub styles_now : styles ≡ document_styles styles.sheet new
-  styles_now = there.styles_are ∙ sym (styles_stay edit styles.sheet held stops there.old new there.at there.stops_are)
+  styles_now = there.styles_are ∙ sym (styles_stay edit styles.sheet held named there.old new there.at its_stops)
 
   pub sheet_now : edited_sheet edit styles.sheet ≡ styles.sheet
-  sheet_now = sheet_is edit styles.sheet held stops there.old new there.at there.stops_are
+  sheet_now = sheet_is edit styles.sheet held named there.old new there.at its_stops
 
   pub styles_after : (made : Option DocumentStyles) → made ≡ None → unwrap_or made styles ≡ document_styles (edited_sheet edit styles.sheet) new
   styles_after made none = ap (λ (o : Option DocumentStyles). unwrap_or o styles) none ∙ styles_now ∙ ap (λ (text : List ℕ). document_styles text new) (sym sheet_now)
 
-  abbrev pub some_place : IsSomePlace styles.sheet held stops new
-  some_place = record { edit = edit; old = there.old; at = there.at; stops_are = there.stops_are }
+  abbrev pub some_place : IsSomePlace styles.sheet held named new
+  some_place = record { edit = edit; old = there.old; at = there.at; stops_are = its_stops }
 
--- once the key of what comes is known
-abbrev pub stands_at : (edit : Edit) (styles : DocumentStyles) (held : FinMap nat_cmp Kept) (stops named : List Stop) (new : Forest (Keyed Node)) → StandsBefore edit styles held stops new
-    → ((old : Forest (Keyed Node)) → stops ≡ edit_stops edit 0 old → named ≡ edit_stops edit (inserted_key edit new) old) → StandsAt edit styles held named new
-stands_at edit styles held stops named new there names = record { old = there.old; styles_are = there.styles_are; at = there.at; stops_are = names there.old there.stops_are }
+-- its edit reaches as far as its document's sheets say
+pub its_reach : (edit : Edit) (agent : Sheet) (styles : DocumentStyles) (old : Forest (Keyed Node)) → agent ≡ agent_sheet → styles ≡ document_styles styles.sheet old
+    → reach (all_features agent styles.author) old edit ≡ reach (looks_beside styles.sheet old) old edit
+its_reach edit agent styles old is_agent styles_are =
+    ap (λ (a : Sheet). reach (all_features a styles.author) old edit) is_agent
+    ∙ ap (λ (author : Sheet). reach (all_features agent_sheet author) old edit) (its_author styles styles.sheet old styles_are)
 
--- where the edit's walk may begin, before the edit is done
-pub stands_there : (edit : Edit) (agent : Sheet) (styles : DocumentStyles) (held : FinMap nat_cmp Kept) (plain : Bool) (old new : Forest (Keyed Node))
-    → agent ≡ agent_sheet → styles ≡ document_styles styles.sheet old → IsDone edit old new
-    → ((key : ℕ) → get held key ≡ kept_at (document_kept (author_sheet styles.sheet old) old) key) → plain ≡ is_plain (author_sheet styles.sheet old) old
-    → plain ≡ true → reach (all_features agent styles.author) old edit ≡ Own
-    → IsAtPlace edit styles.sheet held old new
-stands_there edit agent styles held plain old new is_agent styles_are finished kept plain_is answer own = record {
-  done = finished;
-  own =
-      ap (λ (a : Sheet). reach (all_features a (author_sheet styles.sheet old)) old edit) (sym is_agent)
-      ∙ ap (λ (author : Sheet). reach (all_features agent author) old edit) (sym (its_author styles styles.sheet old styles_are))
-      ∙ own;
-  kept = kept;
-  plain = sym plain_is ∙ answer;
-}
+module _ (edit : Edit) (styles : DocumentStyles) (held : FinMap nat_cmp Kept) (old new : Forest (Keyed Node)) (styles_are : styles ≡ document_styles styles.sheet old) (finished : IsDone edit old new)
+    (kept : (key : ℕ) → get held key ≡ kept_at (document_kept (author_sheet styles.sheet old) old) key) where
+  -- where the edit's walk may begin, before the edit is done
+  abbrev pub stands_there : (local : LocalStops) → is_plain (author_sheet styles.sheet old) old ≡ true → local.extent ≡ reach (looks_beside styles.sheet old) old edit → local.extent ≢ Everywhere
+      → local.stops.items ≡ reach_stops local.extent edit 0 old → StandsBefore edit styles held local new
+  stands_there local plain extent other stops_are = record {
+    old = old;
+    styles_are = styles_are;
+    at = record { done = finished; local = λ all. other (extent ∙ all); kept = kept; plain = plain };
+    extent_is = extent;
+    stops_are = stops_are;
+  }
 
-pub stands_before : (edit : Edit) (agent : Sheet) (styles : DocumentStyles) (held : FinMap nat_cmp Kept) (plain : Bool) (old new : Forest (Keyed Node)) (stops : Option (Vec Stop Global))
-    → agent ≡ agent_sheet → styles ≡ document_styles styles.sheet old → IsDone edit old new
-    → ((key : ℕ) → get held key ≡ kept_at (document_kept (author_sheet styles.sheet old) old) key) → plain ≡ is_plain (author_sheet styles.sheet old) old
-    → IfSome stops (λ _. plain ≡ true) → IfSome stops (λ _. reach (all_features agent styles.author) old edit ≡ Own) → IfSome stops (λ stops. stops.items ≡ edit_stops edit 0 old)
-    → IfSome stops (λ stops. StandsBefore edit styles held stops.items new)
-stands_before edit agent styles held plain old new None is_agent styles_are finished kept plain_is answer own stops_are = tt
-stands_before edit agent styles held plain old new (Some stops) is_agent styles_are finished kept plain_is answer own stops_are = record {
-  old = old;
-  styles_are = styles_are;
-  at = stands_there edit agent styles held plain old new is_agent styles_are finished kept plain_is answer own;
-  stops_are = stops_are;
-}
+  pub stands_before : (stops : Option LocalStops) → IfSome stops (λ _. is_plain (author_sheet styles.sheet old) old ≡ true)
+      → IfSome stops (λ local. local.extent ≡ reach (looks_beside styles.sheet old) old edit) → IfSome stops (λ local. local.extent ≢ Everywhere)
+      → IfSome stops (λ local. local.stops.items ≡ reach_stops local.extent edit 0 old) → IfSome stops (λ local. StandsBefore edit styles held local new)
+  stands_before None plain extent other stops_are = tt
+  stands_before (Some local) plain extent other stops_are = stands_there local plain extent other stops_are

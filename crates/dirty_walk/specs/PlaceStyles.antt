@@ -1,5 +1,5 @@
 -- Where a book stands while an edit is evaluated, whose walk may begin at its place (our own).
-use Rattle.std.specs.Prelude.{◌≡◌, ◌≤◌, ◌+◌, ◌*◌, ℕ, true, List}
+use Rattle.std.specs.Prelude.{◌≡◌, ◌≤◌, ◌+◌, ◌*◌, ℕ, true}
 use Rattle.std.specs.FinMap.{FinMap}
 use Rattle.std.specs.Ordering.{nat_cmp}
 use Rattle.forest.specs.Forest.{Forest}
@@ -8,38 +8,28 @@ use Rattle.plain_types.specs.declared.edit.Edit.{Edit}
 use Rattle.plain_types.specs.declared.node.Node.{Node}
 use Rattle.node_arena.specs.Edits.{edited_sheet}
 use Rattle.generated_texts.specs.StyleElements.{author_sheet}
-use Rattle.merged_walk.specs.declared.stop.Stop.{Stop}
-use Rattle.edit_merge.specs.EditMerges.{edit_stops, inserted_key}
+use Rattle.style_reach.specs.Reaches.{reach}
+use Rattle.styled_merge.specs.Laws.{looks_beside}
+use Rattle.styled_merge.specs.ReachStops.{reach_stops}
 use Rattle.dirty_walk.specs.declared.document_styles.DocumentStyles.{DocumentStyles}
 use Rattle.dirty_walk.specs.declared.kept.Kept.{Kept}
+use Rattle.dirty_walk.specs.declared.local_stops.LocalStops.{LocalStops}
 use Rattle.dirty_walk.specs.DocumentStyles.{document_styles}
-use Rattle.dirty_walk.specs.Places.{IsAtPlace, place_budget}
+use Rattle.dirty_walk.specs.Places.{IsLocalEdit, place_budget}
 use Rattle.dirty_walk.specs.Plain.{is_plain}
 
--- The styles and what is held are those of the document before the edit, and the stops are the edit's, where what it
--- inserts has this key.
-pub record StandsWith (key : ℕ) (edit : Edit) (styles : DocumentStyles) (held : FinMap nat_cmp Kept) (stops : List Stop) (new : Forest (Keyed Node)) : Type 0 where
+-- The styles and what is held are those of the document before the edit, and the reach and the stops are the edit's, where
+-- the key of what it inserts is not known yet.
+pub record StandsBefore (edit : Edit) (styles : DocumentStyles) (held : FinMap nat_cmp Kept) (local : LocalStops) (new : Forest (Keyed Node)) : Type 0 where
   pub old : Forest (Keyed Node)
   pub styles_are : styles ≡ document_styles styles.sheet old
-  pub at : IsAtPlace edit styles.sheet held old new
-  pub stops_are : stops ≡ edit_stops edit key old
+  pub at : IsLocalEdit edit styles.sheet held old new
+  pub extent_is : local.extent ≡ reach (looks_beside styles.sheet old) old edit
+  pub stops_are : local.stops.items ≡ reach_stops local.extent edit 0 old
 
--- before that key is known, and once it is
-abbrev pub StandsBefore : Edit → DocumentStyles → FinMap nat_cmp Kept → List Stop → Forest (Keyed Node) → Type 0
-StandsBefore edit styles held stops new = StandsWith 0 edit styles held stops new
-
-abbrev pub StandsAt : Edit → DocumentStyles → FinMap nat_cmp Kept → List Stop → Forest (Keyed Node) → Type 0
-StandsAt edit styles held stops new = StandsWith (inserted_key edit new) edit styles held stops new
-
--- Where the edited document is plain, so many steps are no more than a walk from the place of the edit takes, and one for
--- each record that is read again.
-abbrev pub TakesPlaceWith : ℕ → Edit → DocumentStyles → FinMap nat_cmp Kept → List Stop → Forest (Keyed Node) → (before now : ℕ) → Type 0
-TakesPlaceWith key edit styles held stops new before now =
+-- Where the edited document is plain, between one number of steps and another are no more than a walk from the place of the
+-- edit takes, and one for each record that it finds, of which there are no more than its budget.
+abbrev pub IsWithinPlaceOf : Edit → DocumentStyles → FinMap nat_cmp Kept → LocalStops → Forest (Keyed Node) → (before now : ℕ) → Type 0
+IsWithinPlaceOf edit styles held local new before now =
     is_plain (author_sheet (edited_sheet edit styles.sheet) new) new ≡ true
-    → (there : StandsWith key edit styles held stops new) → now ≤ before + 2 * place_budget edit styles.sheet there.old new
-
-abbrev pub TakesPlaceBefore : Edit → DocumentStyles → FinMap nat_cmp Kept → List Stop → Forest (Keyed Node) → (before now : ℕ) → Type 0
-TakesPlaceBefore edit styles held stops new before now = TakesPlaceWith 0 edit styles held stops new before now
-
-abbrev pub TakesPlaceAt : Edit → DocumentStyles → FinMap nat_cmp Kept → List Stop → Forest (Keyed Node) → (before now : ℕ) → Type 0
-TakesPlaceAt edit styles held stops new before now = TakesPlaceWith (inserted_key edit new) edit styles held stops new before now
+    → (there : StandsBefore edit styles held local new) → now ≤ before + 2 * place_budget edit styles.sheet there.old new

@@ -1,5 +1,5 @@
 -- Where what comes to a board by an edit is told by a walk from the edit's place (our own).
-use Rattle.std.specs.Prelude.{◌≡◌, ◌≤◌, ◌+◌, ◌*◌, ℕ, true, List, [], Option, None, option_map}
+use Rattle.std.specs.Prelude.{◌≡◌, ◌≢◌, ◌≤◌, ◌+◌, ◌*◌, ℕ, true, List, [], Option, None, option_map}
 use Rattle.std.specs.FinMap.{FinMap, get}
 use Rattle.std.specs.Ordering.{nat_cmp}
 use Rattle.forest.specs.Forest.{Forest}
@@ -16,11 +16,12 @@ use Rattle.merged_walk.specs.declared.stop.Stop.{Stop}
 use Rattle.merged_walk.specs.Counts.{budget}
 use Rattle.merged_walk.specs.Merges.{Merge}
 use Rattle.document_walk.specs.Catching.{Reading}
-use Rattle.edit_merge.specs.EditMerges.{edit_merge, edit_stops, inserted_key}
 use Rattle.edit_merge.specs.Laws.{IsDone}
 use Rattle.style_reach.specs.Reaches.{reach}
-use Rattle.style_reach.specs.declared.extent.Reach.TheVariants.{Own}
+use Rattle.style_reach.specs.declared.extent.Reach.TheVariants.{All}
 use Rattle.styled_merge.specs.Laws.{looks_beside, style_beside}
+use Rattle.styled_merge.specs.Reached.{reached_merge}
+use Rattle.styled_merge.specs.StopLaws.{stops_where}
 use Rattle.styled_merge.specs.StyledMerges.{styled_merge}
 use Rattle.surroundings.specs.declared.walked.Walked.{Walked}
 use Rattle.surroundings.specs.StyledEvaluators.{root_surroundings, styled_evaluator}
@@ -32,31 +33,33 @@ use Rattle.dirty_walk.specs.Plain.{is_plain}
 abbrev pub nothing_known : Known
 nothing_known = record { counters = λ id. None; characters = λ id. []; flat = λ id part. None }
 
--- A document has become another by an edit that changes no styles but those of the trees that it puts in, takes out,
--- moves or addresses; the text of the sheet stays. The first was plain, and this is kept of it.
-pub record IsAtPlace (edit : Edit) (text : List ℕ) (held : FinMap nat_cmp Kept) (old new : Forest (Keyed Node)) : Type 0 where
+-- A document has become another by an edit that does not change styles everywhere, so the text of the sheet stays. The
+-- first was plain, and this is kept of it.
+pub record IsLocalEdit (edit : Edit) (text : List ℕ) (held : FinMap nat_cmp Kept) (old new : Forest (Keyed Node)) : Type 0 where
   pub done : IsDone edit old new
-  pub own : reach (looks_beside text old) old edit ≡ Own
+  pub local : reach (looks_beside text old) old edit ≢ All
   pub kept : (key : ℕ) → get held key ≡ kept_at (document_kept (author_sheet text old) old) key
   pub plain : is_plain (author_sheet text old) old ≡ true
 
--- the merge of an edit, with the styles of both documents
+-- the merge of an edit where what it reaches goes and comes, with the styles of both documents and all starts 0
 abbrev pub place_merge : Edit → List ℕ → (old new : Forest (Keyed Node)) → Merge StyledNode
-place_merge edit text old new = styled_merge (style_beside text old) (style_beside text new) no_starts no_starts None (edit_merge edit old new)
+place_merge edit text old new =
+    styled_merge (style_beside text old) (style_beside text new) no_starts no_starts None (reached_merge (looks_beside text old) edit old new)
 
--- a document has become this one so by some edit, of which these are the stops
+-- some edit by which a document has become this one so, and of which these are the stops
 pub record IsSomePlace (text : List ℕ) (held : FinMap nat_cmp Kept) (stops : List Stop) (new : Forest (Keyed Node)) : Type 0 where
   pub edit : Edit
   pub old : Forest (Keyed Node)
-  pub at : IsAtPlace edit text held old new
-  pub stops_are : stops ≡ edit_stops edit (inserted_key edit new) old
+  pub at : IsLocalEdit edit text held old new
+  pub stops_are : stops ≡ stops_where (looks_beside text old) edit old new
 
 -- the most steps of a walk over that merge, with one for each record that it finds
 abbrev pub place_budget : Edit → List ℕ → (old new : Forest (Keyed Node)) → ℕ
 place_budget edit text old new =
     budget (styled_evaluator (counter_styles (author_sheet text new))) root_surroundings root_surroundings (place_merge edit text old new)
 
--- from one number of steps to another are no more than such a walk takes, and one for each record that is read again
+-- between one number of steps and another are no more than such a walk takes, and one for each record that it finds, of
+-- which there are no more than its budget
 abbrev pub IsWithinPlace : List ℕ → FinMap nat_cmp Kept → List Stop → Forest (Keyed Node) → (before now : ℕ) → Type 0
 IsWithinPlace text held stops new before now = (place : IsSomePlace text held stops new) → now ≤ before + 2 * place_budget place.edit text place.old new
 
@@ -64,6 +67,6 @@ IsWithinPlace text held stops new before now = (place : IsSomePlace text held st
 abbrev pub reading_of : List ℕ → Forest (Keyed Node) → Reading
 reading_of text tree = record { table = counter_styles (author_sheet text tree); style = style_beside text tree; start = no_starts; tree = tree }
 
--- what is kept of walks
+-- what is kept of walks, as `kept_on` of `document_walk` tells it of a board
 abbrev pub walked_at : FinMap nat_cmp Kept → ℕ → Option Walked
 walked_at held key = option_map (λ (kept : Kept). kept.walked) (get held key)

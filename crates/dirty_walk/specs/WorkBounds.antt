@@ -1,7 +1,7 @@
 -- How the work of an edit bounds the steps that a book takes for it (our own).
 use Rattle.std.specs.Prelude.{◌≡◌, ◌≤◌, ◌+◌, ◌*◌, ◌⊎◌, ℕ, true}
 use Rattle.plain_types.specs.declared.edit.Edit.{Edit}
-use Rattle.style_reach.specs.declared.extent.Reach.TheVariants.{Own, All}
+use Rattle.style_reach.specs.declared.extent.Reach.TheVariants.{All}
 use Rattle.edit_work.specs.KeyedSources.{KeyedSource, author}
 use Rattle.edit_work.specs.Laws.{Leads}
 use Rattle.edit_work.specs.Work.{edit_reach, work}
@@ -17,24 +17,22 @@ abbrev pub IsPlain : KeyedSource → Type 0
 IsPlain source = is_plain (author source) source.tree ≡ true
 
 module _ (edit : Edit) (before after : KeyedSource) where
-  -- An edit of a plain document makes a plain document of it, and changes no styles but those of the trees that it puts
-  -- in, takes out, moves or addresses.
+  -- an edit of a plain document makes a plain document of it
   pub record StaysPlain : Type 0 where
     pub was : IsPlain before
     pub is : IsPlain after
-    pub own : edit_reach edit before after ≡ Own
 
   -- The edits whose work pays for their steps: such an edit, or one that can change styles everywhere.
   abbrev pub IsPaidByWork : Type 0
   IsPaidByWork = StaysPlain ⊎ (edit_reach edit before after ≡ All)
 
-  -- Where the edit is such a one: from one number of steps to another are at most 24 for each unit of its work, and 24 more.
+  -- Where the edit is such a one: between one number of steps and another are at most 24 for each unit of its work, and 24
+  -- more.
   -- Of other edits it says nothing.
   abbrev pub IsWithinWork : (old new : ℕ) → Type 0
   IsWithinWork old new = IsPaidByWork → new ≤ old + 24 * (work edit before after + 1)
 
 -- After an error: no step was taken; or, where the edit is such a one, no more than its work allows. The nodes that it put
--- in are given up with their keys, so some document to which the edit leads stands for the edited one; all such differ in
--- those keys alone.
+-- in are given up with their keys, so some document to which the edit leads stands for the edited one.
 abbrev pub StopsWithinWork : Edit → (before : KeyedSource) → (old new : ℕ) → Type 0
 StopsWithinWork edit before old new = (new ≡ old) ⊎ ((after : KeyedSource) × Leads edit before after × IsWithinWork edit before after old new)

@@ -1,6 +1,6 @@
 //! A document and its sheet, evaluated.
 
-ghost use Rattle.std.specs.Prelude.{◌≡◌, ◌≤◌, ◌+◌, ◌*◌, true, Some, None, IsSome, unwrap_or, IfOk, OnErr};
+ghost use Rattle.std.specs.Prelude.{◌≡◌, ◌≢◌, ◌≤◌, ◌+◌, ◌*◌, ◌⊎◌, true, false, Some, None, IfNone, IfSome, IsSome, unwrap_or, IfOk, OnErr};
 ghost use Rattle.std.specs.Str.{chars};
 ghost use Rattle.forest.specs.Keys.{without_keys};
 ghost use Rattle.node_arena.specs.Document.{HasElementRoot};
@@ -10,18 +10,25 @@ ghost use Rattle.node_arena.specs.Reversals.{IsSettled};
 ghost use Rattle.css_reader.specs.Features.{features};
 ghost use Rattle.generated_texts.specs.StyleElements.{author_sheet};
 ghost use Rattle.document_walk.specs.Elements.{element_count};
+ghost use Rattle.style_reach.specs.Reaches.{reach};
+ghost use Rattle.style_reach.specs.declared.extent.Reach.TheVariants as reaches;
+ghost use Rattle.styled_merge.specs.Laws.{looks_beside};
+ghost use Rattle.styled_merge.specs.ReachStops.{reach_stops};
 ghost use Rattle.dirty_walk.specs.Books.{entry_at, fresh_entry, Keeps};
 ghost use Rattle.dirty_walk.specs.DocumentStyles.{document_styles};
+ghost use Rattle.dirty_walk.specs.Exchanges.{elements_in, leaving, taken_keys};
+ghost use Rattle.dirty_walk.specs.Plain.{is_plain};
 ghost use Rattle.dirty_walk.specs.Plans.{settled_after, IsPlannedBy, plan_size};
 ghost use Rattle.dirty_walk.specs.WorkBounds.{IsWithinWork, StopsWithinWork, keyed_source};
 
 use crate::board::{put_changes, take_entries};
 use crate::document_styles::DocumentStyles;
 use crate::edited_arena::EditedArena;
-use crate::exchange::{inserts_one_tree, leaving_elements, taken_keys};
+use crate::exchange::{ElementId, inserts_one_tree, leaving_elements, taken_keys};
 use crate::fresh::{agent_sheet, fresh_board};
 use crate::index::index_of;
 use crate::kept::Kept;
+use crate::local_stops::LocalStops;
 use crate::places::stops_at_place;
 use crate::plan::Plan;
 use crate::planning::{Renewal, evaluated};
@@ -31,6 +38,7 @@ use node_arena::arena::Arena;
 use node_arena::laws::arena_holds_document;
 use node_arena::reversal::Reversal;
 use plain_types::edit::Edit;
+use plain_types::list::List;
 use plain_types::memory::Memory;
 use plain_types::sheet::{Features, Sheet};
 use plain_types::text::Text;
@@ -94,6 +102,17 @@ fn replace_styles(styles: &mut DocumentStyles, new: Option<DocumentStyles>)
     }
 }
 
+/// What is read of a document before an edit of it is done.
+#[derive(Drop)]
+struct Ahead {
+    /// The elements that the edit takes out, or the one whose attributes it changes.
+    gone: List<ElementId>,
+    /// The keys of the elements that the document has no longer then.
+    takes: List<usize>,
+    /// Where a walk for the edit goes, where a walk can tell what the edit changes.
+    stops: Option<LocalStops>,
+}
+
 impl Book {
     /// The book of a document and the text of its sheet. The root is an element.
     ///
@@ -130,16 +149,41 @@ impl Book {
         })
     }
 
+    /// What is read of the document before an edit that it allows.
+    fn ahead(&self, alloc: Global, edit: &Edit) -> Result<Ahead, Memory>
+        requires settled { self.now.settled ≡ true }
+        requires allowed { place_fault edit.now (without_keys self.now.tree) ≡ None }
+        ensures gone { IfOk result (λ ahead. ahead.gone ≡ elements_in (leaving edit.now self.now.tree)) }
+        ensures takes { IfOk result (λ ahead. ahead.takes ≡ taken_keys edit.now (elements_in (leaving edit.now self.now.tree))) }
+        ensures plain { IfOk result (λ ahead. IfSome ahead.stops (λ _. is_plain (author_sheet self.now.sheet self.now.tree) self.now.tree ≡ true)) }
+        ensures extent { IfOk result (λ ahead. IfSome ahead.stops (λ local. local.extent ≡ reach (looks_beside self.now.sheet self.now.tree) self.now.tree edit.now)) }
+        ensures local { IfOk result (λ ahead. IfSome ahead.stops (λ local. local.extent ≢ reaches.All)) }
+        ensures stops { IfOk result (λ ahead. IfSome ahead.stops (λ local. local.stops.items ≡ reach_stops local.extent edit.now 0 self.now.tree)) }
+        ensures none { IfOk result (λ ahead. IfNone ahead.stops ((is_plain (author_sheet self.now.sheet self.now.tree) self.now.tree ≡ false) ⊎ (reach (looks_beside self.now.sheet self.now.tree) self.now.tree edit.now ≡ reaches.All))) }
+    {
+        let gone = leaving_elements(alloc, &self.arena, edit)?;
+        let takes = taken_keys(alloc, edit, gone.as_slice())?;
+        let stops = stops_at_place(
+            alloc,
+            &self.arena,
+            &self.agent,
+            &self.styles.author,
+            self.is_plain,
+            edit,
+        )?;
+        Ok(Ahead { gone, takes, stops })
+    }
+
     /// Makes ready for an edit that the document allows. The document and its styles are then the edited ones, and all
     /// memory is taken that `commit` needs; `Memory` where that is wanting, and then the book is as before.
     ///
-    /// Where the document is plain before the edit and after it, and the edit changes no styles but those of the trees
-    /// that it puts in, takes out, moves or addresses, only what the edit touches is evaluated. Else the edited document
-    /// is evaluated whole, which costs what `begin` costs, and may come on top of a walk that found it to be plain no more;
-    /// where the texts of the sheet and of the style elements are as before, none is read. Beside that come the arena's
-    /// `prepare` and `commit`. What is as before stays where it is, and with it what it has in memory. With those of
-    /// `commit` its steps are bounded by the work of the edit, where only what the edit touches is evaluated, and where the
-    /// edit can change all styles; so are its own where it answers `Memory`.
+    /// Where the document is plain before the edit and after it, only what the edit touches is evaluated, and the elements
+    /// whose styles it can change. Else, and where it can change all styles, the edited document is evaluated whole, which
+    /// costs what `begin` costs, and may come on top of a walk that found it to be plain no more; where the texts of the
+    /// sheet and of the style elements are as before, none is read. Beside that come the arena's `prepare` and `commit`.
+    /// What is as before stays where it is, and with it what it has in memory. With those of `commit` its steps are bounded
+    /// by the work of the edit, where the document is plain before and after it, and where the edit can change all styles;
+    /// so are its own where it answers `Memory`.
     pub fn plan<L: Ledger>(
         &mut self,
         alloc: Global,
@@ -160,17 +204,7 @@ impl Book {
     {
         arena_holds_document(&self.arena);
         inserts_one_tree(edit);
-        let leaving = leaving_elements(alloc, &self.arena, edit)?;
-        let gone = leaving.as_slice();
-        let takes = taken_keys(alloc, edit, gone)?;
-        let stops = stops_at_place(
-            alloc,
-            &self.arena,
-            &self.agent,
-            &self.styles.author,
-            self.is_plain,
-            edit,
-        )?;
+        let Ahead { gone, takes, stops } = self.ahead(alloc, edit)?;
         let prepared = self.arena.prepare(alloc, edit)?;
         let reversal = self.arena.commit(prepared);
         arena_holds_document(&self.arena);
@@ -180,15 +214,10 @@ impl Book {
             styles: &self.styles,
             edit,
         };
-        match evaluated(
-            alloc,
-            &document,
-            &mut self.index,
-            &mut self.board,
-            gone,
-            stops,
-            steps,
-        ) {
+        let gone = gone.as_slice();
+        let index = &mut self.index;
+        let board = &mut self.board;
+        match evaluated(alloc, &document, index, board, gone, stops, steps) {
             Ok(made) => {
                 let Renewal {
                     styles,

@@ -16,14 +16,15 @@
 //! two the book isn't settled, and can't be asked. What is as before stays, with its texts and counters.
 //!
 //! Where a document is plain, which is that no box asks for the start of a reversed counter and none holds a reference
-//! to an id, what is kept of an element rests on what it is handed alone. Then `plan` walks from the place of the edit
-//! (`document_walk::catch_up`), and evaluates only what the edit touches, if it changes no styles but those of the trees
-//! that it puts in, takes out, moves or addresses (`style_reach`). Else, or where the edited document turns out not to be
-//! plain, it evaluates the whole document: by one walk, and by a second one with the starts, where a box asks for one.
+//! to an id, what is kept of an element rests on its styles and on what it is handed. Then `plan` walks from the place of
+//! the edit (`document_walk::catch_up`), and evaluates only what the edit touches and the nodes that it reaches, with all
+//! that is in them: in these alone it can change other styles (`style_reach`). Where it reaches everywhere, or where the
+//! edited document turns out not to be plain, it evaluates the whole document: by one walk, and by a second one with the
+//! starts, where a box asks for one.
 //!
 //! Steps are counted. A whole evaluation takes at most 6 for each element, a walk from a place at most 4, and it is one
-//! for each record that is read, put or taken. Where an edit of a plain document leaves it plain and changes no other
-//! styles, or where it can change styles everywhere, its work (`edit_work`) bounds them.
+//! for each record that is read, put or taken. Where an edit of a plain document leaves it plain, or where it can change
+//! styles everywhere, its work (`edit_work`) bounds them.
 //!
 //! The layer above knows this crate by `StyledDocument`, `fresh_entry` and `Keeps` of `specs/Books.antt`: what a book
 //! stands for, what a fresh evaluation keeps of an element, and that the book keeps it; and by `settled_after`,
@@ -53,6 +54,7 @@ mod flat_texts;
 mod fresh;
 mod index;
 pub mod kept;
+mod local_stops;
 mod node_texts;
 mod places;
 mod plain;

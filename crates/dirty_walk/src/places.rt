@@ -8,10 +8,10 @@ ghost use Rattle.merged_walk.specs.Merges.{Merge};
 ghost use Rattle.surroundings.specs.declared.told.Told.{Told};
 ghost use Rattle.document_walk.specs.CatchingUp.{AreAllAmong, CanCatchUp, CoversAll, IsWithinBudget};
 ghost use Rattle.document_walk.specs.Elements.{element_count};
-ghost use Rattle.edit_merge.specs.EditMerges.{edit_stops};
 ghost use Rattle.node_arena.specs.Edits.{place_fault};
 ghost use Rattle.style_reach.specs.Reaches.{all_features, reach};
 ghost use Rattle.style_reach.specs.declared.extent.Reach.TheVariants as reaches;
+ghost use Rattle.styled_merge.specs.ReachStops.{reach_stops};
 ghost use Rattle.dirty_walk.specs.Changes.{AreBelow, Renews};
 ghost use Rattle.dirty_walk.specs.Evaluations.{document_kept};
 ghost use Rattle.dirty_walk.specs.PlaceReadings.{read_of};
@@ -20,6 +20,7 @@ ghost use Rattle.dirty_walk.specs.Plain.{is_plain};
 
 use crate::board::room_for;
 use crate::kept::Kept;
+use crate::local_stops::LocalStops;
 use crate::node_texts::changed_entries;
 use crate::plain::are_plain;
 use crate::styled_arena::StyledArena;
@@ -28,7 +29,6 @@ use content_eval::targets::Targets;
 use counter_sets::counter_set::CounterSet;
 use document_walk::catch_up::{CaughtUp, catch_up};
 use document_walk::sources::Sources;
-use edit_merge::stops::stops_of_edit;
 use merged_walk::stop::Stop;
 use node_arena::arena::Arena;
 use plain_types::content::Part;
@@ -42,6 +42,7 @@ use std::sync::ledger::Ledger;
 use steps::Steps;
 use style_reach::extent::Reach;
 use style_reach::reach::{all_features, reach};
+use styled_merge::stops::stops_of_reach;
 
 /// Knows no element. The texts of an element that refers to none need no more.
 struct NoTargets;
@@ -65,8 +66,7 @@ impl Targets for NoTargets {
 }
 
 /// The stops of an edit that the document allows, before it is done, where what it changes can be told by a walk from
-/// its place: it changes no styles but those of the trees that it puts in, takes out, moves or addresses, and no
-/// element rests on more than what it is handed.
+/// its place: it does not change styles everywhere, and no element rests on more than what it is handed.
 pub(crate) fn stops_at_place(
     alloc: Global,
     arena: &Arena,
@@ -74,19 +74,24 @@ pub(crate) fn stops_at_place(
     author: &Sheet,
     is_plain: bool,
     edit: &Edit,
-) -> Result<Option<Vec<Stop>>, Memory>
+) -> Result<Option<LocalStops>, Memory>
     requires allowed { place_fault edit.now (without_keys arena.now.tree) ≡ None }
     ensures plain { IfOk result (λ found. IfSome found (λ _. is_plain ≡ true)) }
-    ensures own { IfOk result (λ found. IfSome found (λ _. reach (all_features agent.now author.now) arena.now.tree edit.now ≡ reaches.Own)) }
-    ensures stops { IfOk result (λ found. IfSome found (λ stops. stops.items ≡ edit_stops edit.now 0 arena.now.tree)) }
-    ensures none { IfOk result (λ found. IfNone found ((is_plain ≡ false) ⊎ (reach (all_features agent.now author.now) arena.now.tree edit.now ≢ reaches.Own))) }
+    ensures extent { IfOk result (λ found. IfSome found (λ local. local.extent ≡ reach (all_features agent.now author.now) arena.now.tree edit.now)) }
+    ensures local { IfOk result (λ found. IfSome found (λ local. local.extent ≢ reaches.All)) }
+    ensures stops { IfOk result (λ found. IfSome found (λ local. local.stops.items ≡ reach_stops local.extent edit.now 0 arena.now.tree)) }
+    ensures none { IfOk result (λ found. IfNone found ((is_plain ≡ false) ⊎ (reach (all_features agent.now author.now) arena.now.tree edit.now ≡ reaches.All))) }
 {
     if !is_plain {
         return Ok(None);
     }
-    match reach(arena, all_features(agent, author), edit) {
-        Reach::Own => Ok(Some(stops_of_edit(alloc, arena, edit)?)),
-        _ => Ok(None),
+    let extent = reach(arena, all_features(agent, author), edit);
+    match extent {
+        Reach::All => Ok(None),
+        Reach::Own | Reach::Under(_) | Reach::Both(_, _) => {
+            let stops = stops_of_reach(alloc, arena, edit, extent)?;
+            Ok(Some(LocalStops { extent, stops }))
+        }
     }
 }
 

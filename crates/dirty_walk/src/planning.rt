@@ -6,25 +6,23 @@ ghost use Rattle.forest.specs.Keys.{Keyed, without_keys};
 ghost use Rattle.plain_types.specs.declared.node.Node.{Node};
 ghost use Rattle.node_arena.specs.Edits.{edited_sheet};
 ghost use Rattle.document_walk.specs.Elements.{element_count};
-ghost use Rattle.edit_merge.specs.EditMerges.{edit_stops, inserted_key};
 ghost use Rattle.target_index.specs.Holders.{is_holder};
 ghost use Rattle.dirty_walk.specs.Changes.{AreBelow, Renews};
 ghost use Rattle.dirty_walk.specs.DocumentStyles.{document_styles, read_styles};
 ghost use Rattle.dirty_walk.specs.EditedArenas.{is_plain_after, kept_after, styles_after};
 ghost use Rattle.dirty_walk.specs.Exchanges.{IsIndexBefore};
 ghost use Rattle.dirty_walk.specs.Holding.{IsIndexOf};
-ghost use Rattle.dirty_walk.specs.PlaceStyles.{StandsAt, StandsBefore, TakesPlaceAt, TakesPlaceBefore};
+ghost use Rattle.dirty_walk.specs.PlaceStyles.{IsWithinPlaceOf, StandsBefore};
 
 use crate::document_styles::DocumentStyles;
 use crate::edited_arena::EditedArena;
 use crate::exchange::{ElementId, exchange_ids};
 use crate::fresh::fresh_changes;
 use crate::kept::Kept;
+use crate::local_stops::LocalStops;
 use crate::places::changes_from_place;
 use crate::style_elements::style_texts;
 use crate::styled_arena::StyledArena;
-use edit_merge::stops::name_inserted;
-use merged_walk::stop::Stop;
 use node_arena::arena::Arena;
 use plain_types::duplicate::Duplicate;
 use plain_types::edit::Edit;
@@ -34,6 +32,7 @@ use snapshot_board::board::Board;
 use std::alloc::Global;
 use std::sync::ledger::Ledger;
 use steps::Steps;
+use styled_merge::stops::name_inserted_root;
 use target_index::index::Index;
 
 /// The text to which an edit replaces the sheet.
@@ -73,16 +72,16 @@ pub(crate) struct Renewal {
     pub(crate) is_plain: bool,
 }
 
-/// What an edit makes of a book by a walk from the stops of the edit: none where there are no such, or an element rests
-/// on more than what it is handed. The styles stay.
+/// What an edit makes of a book by a walk from the stops of the edit, where the key of what it put in is known now: none
+/// where there are no such stops, or an element rests on more than what it is handed. What the sheets say stays.
 fn from_place<L: Ledger>(
     alloc: Global,
     document: &EditedArena,
     board: &mut Board<Kept>,
-    stops: Option<Vec<Stop>>,
+    stops: Option<LocalStops>,
     steps: &mut Steps<L>,
 ) -> Result<Option<Renewal>, Memory>
-    requires place { IfSome stops (λ stops. StandsAt document.now.edit.now document.now.styles.now board.old.held stops.items document.now.arena.now.tree) }
+    requires place { IfSome stops (λ local. StandsBefore document.now.edit.now document.now.styles.now board.old.held local document.now.arena.now.tree) }
     ensures styles { IfOk result (λ found. IfSome found (λ made. unwrap_or made.styles document.now.styles.now ≡ styles_after document.now)) }
     ensures changes { IfOk result (λ found. IfSome found (λ made. Renews board.old.held (kept_after document.now) made.changes.items)) }
     ensures plain { IfOk result (λ found. IfSome found (λ made. made.is_plain ≡ is_plain_after document.now)) }
@@ -90,13 +89,14 @@ fn from_place<L: Ledger>(
     ensures room { IfOk result (λ found. IfSome found (λ made. AreBelow board.new.room made.changes.items)) }
     ensures held { board.new.held ≡ board.old.held }
     ensures grown { board.old.room ≤ board.new.room }
-    ensures few { IfOk result (λ found. IfSome found (λ made. IfSome stops (λ stops. TakesPlaceAt document.now.edit.now document.now.styles.now board.old.held stops.items document.now.arena.now.tree steps.old (steps.new + length made.changes.items)))) }
-    ensures most { IfSome stops (λ stops. TakesPlaceAt document.now.edit.now document.now.styles.now board.old.held stops.items document.now.arena.now.tree steps.old steps.new) }
+    ensures few { IfOk result (λ found. IfSome found (λ made. IfSome stops (λ local. IsWithinPlaceOf document.now.edit.now document.now.styles.now board.old.held local document.now.arena.now.tree steps.old (steps.new + length made.changes.items)))) }
+    ensures most { IfSome stops (λ local. IsWithinPlaceOf document.now.edit.now document.now.styles.now board.old.held local document.now.arena.now.tree steps.old steps.new) }
     ensures steps { steps.new ≤ steps.old + 5 * element_count (without_keys document.now.arena.now.tree) }
 {
-    let Some(stops) = stops else {
+    let Some(LocalStops { extent, mut stops }) = stops else {
         return Ok(None);
     };
+    name_inserted_root(document.arena, document.edit, extent, &mut stops);
     let styled = StyledArena {
         arena: document.arena,
         agent: document.agent,
@@ -149,38 +149,24 @@ fn renewed<L: Ledger>(
     document: &EditedArena,
     index: &Index,
     board: &mut Board<Kept>,
-    stops: Option<Vec<Stop>>,
+    stops: Option<LocalStops>,
     steps: &mut Steps<L>,
 ) -> Result<Renewal, Memory>
     requires indexed { IsIndexOf index.now document.now.arena.now.tree }
-    requires place { IfSome stops (λ stops. StandsAt document.now.edit.now document.now.styles.now board.old.held stops.items document.now.arena.now.tree) }
+    requires place { IfSome stops (λ local. StandsBefore document.now.edit.now document.now.styles.now board.old.held local document.now.arena.now.tree) }
     ensures styles { IfOk result (λ made. unwrap_or made.styles document.now.styles.now ≡ styles_after document.now) }
     ensures changes { IfOk result (λ made. Renews board.old.held (kept_after document.now) made.changes.items) }
     ensures plain { IfOk result (λ made. made.is_plain ≡ is_plain_after document.now) }
     ensures room { IfOk result (λ made. AreBelow board.new.room made.changes.items) }
     ensures held { board.new.held ≡ board.old.held }
     ensures grown { board.old.room ≤ board.new.room }
-    ensures few { IfOk result (λ made. IfSome stops (λ stops. TakesPlaceAt document.now.edit.now document.now.styles.now board.old.held stops.items document.now.arena.now.tree steps.old (steps.new + length made.changes.items))) }
-    ensures most { IfSome stops (λ stops. TakesPlaceAt document.now.edit.now document.now.styles.now board.old.held stops.items document.now.arena.now.tree steps.old steps.new) }
+    ensures few { IfOk result (λ made. IfSome stops (λ local. IsWithinPlaceOf document.now.edit.now document.now.styles.now board.old.held local document.now.arena.now.tree steps.old (steps.new + length made.changes.items))) }
+    ensures most { IfSome stops (λ local. IsWithinPlaceOf document.now.edit.now document.now.styles.now board.old.held local document.now.arena.now.tree steps.old steps.new) }
     ensures steps { steps.new ≤ steps.old + 12 * element_count (without_keys document.now.arena.now.tree) }
 {
     match from_place(alloc, document, board, stops, steps)? {
         Some(made) => Ok(made),
         None => from_whole(alloc, document, index, board, steps),
-    }
-}
-
-/// The stops, with the key of what the edit put in.
-fn named_stops(arena: &Arena, edit: &Edit, stops: Option<Vec<Stop>>) -> Option<Vec<Stop>>
-    ensures stops { IfSome result (λ named. (old : Forest (Keyed Node)) → IfSome stops (λ stops. stops.items ≡ edit_stops edit.now 0 old) → named.items ≡ edit_stops edit.now (inserted_key edit.now arena.now.tree) old) }
-    ensures some { is_some result ≡ is_some stops }
-{
-    match stops {
-        Some(mut stops) => {
-            name_inserted(arena, edit, &mut stops);
-            Some(stops)
-        }
-        None => None,
     }
 }
 
@@ -192,11 +178,11 @@ pub(crate) fn evaluated<L: Ledger>(
     index: &mut Index,
     board: &mut Board<Kept>,
     gone: &[ElementId],
-    stops: Option<Vec<Stop>>,
+    stops: Option<LocalStops>,
     steps: &mut Steps<L>,
 ) -> Result<Renewal, Memory>
     requires before { IsIndexBefore document.now.edit.now gone.now index.old document.now.arena.now.tree }
-    requires place { IfSome stops (λ stops. StandsBefore document.now.edit.now document.now.styles.now board.old.held stops.items document.now.arena.now.tree) }
+    requires place { IfSome stops (λ local. StandsBefore document.now.edit.now document.now.styles.now board.old.held local document.now.arena.now.tree) }
     ensures styles { IfOk result (λ made. unwrap_or made.styles document.now.styles.now ≡ styles_after document.now) }
     ensures changes { IfOk result (λ made. Renews board.old.held (kept_after document.now) made.changes.items) }
     ensures plain { IfOk result (λ made. made.is_plain ≡ is_plain_after document.now) }
@@ -205,11 +191,10 @@ pub(crate) fn evaluated<L: Ledger>(
     ensures room { IfOk result (λ made. AreBelow board.new.room made.changes.items) }
     ensures held { board.new.held ≡ board.old.held }
     ensures grown { board.old.room ≤ board.new.room }
-    ensures few { IfOk result (λ made. IfSome stops (λ stops. TakesPlaceBefore document.now.edit.now document.now.styles.now board.old.held stops.items document.now.arena.now.tree steps.old (steps.new + length made.changes.items))) }
-    ensures most { IfSome stops (λ stops. TakesPlaceBefore document.now.edit.now document.now.styles.now board.old.held stops.items document.now.arena.now.tree steps.old steps.new) }
+    ensures few { IfOk result (λ made. IfSome stops (λ local. IsWithinPlaceOf document.now.edit.now document.now.styles.now board.old.held local document.now.arena.now.tree steps.old (steps.new + length made.changes.items))) }
+    ensures most { IfSome stops (λ local. IsWithinPlaceOf document.now.edit.now document.now.styles.now board.old.held local document.now.arena.now.tree steps.old steps.new) }
     ensures steps { steps.new ≤ steps.old + 12 * element_count (without_keys document.now.arena.now.tree) }
 {
-    let stops = named_stops(document.arena, document.edit, stops);
     let back = exchange_ids(alloc, index, document.arena, document.edit, gone)?;
     match renewed(alloc, document, index, board, stops, steps) {
         Ok(made) => Ok(made),

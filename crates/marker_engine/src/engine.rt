@@ -1,6 +1,6 @@
 //! Documents under their sheets.
 
-ghost use Rattle.std.specs.Prelude.{◌≡◌, ◌≤◌, ◌+◌, ◌*◌, Some, None, Ok, Err, IfOk, IfErr, OnOk, OnErr, length};
+ghost use Rattle.std.specs.Prelude.{◌≡◌, ◌≤◌, ◌+◌, ◌*◌, Some, None, Ok, Err, IfOk, IfErr, OnOk, OnErr, length, true};
 ghost use Rattle.std.specs.Str.{chars};
 ghost use Rattle.dirty_walk.specs.Books.{Keeps};
 ghost use Rattle.dirty_walk.specs.WorkBounds.{IsWithinWork, StopsWithinWork, keyed_source};
@@ -86,11 +86,12 @@ impl Engine {
     /// Does an edit. After a fault the document, its keys, the sheet and what is kept are as before, and a refused edit
     /// counts no step.
     ///
-    /// Where the edit changes no styles but those of the trees that it puts in, takes out, moves or addresses, and no
-    /// element asks for a start or holds a reference, only what the edit touches is evaluated anew. Else the edited
-    /// document is evaluated whole, which costs what `start` costs. In the first case, and where the edit can change
-    /// styles everywhere, its work bounds its steps, after `Memory` too. Beside that come the calls of the arena by which the
-    /// edit is done. An entry that is another is put, and one whose element goes is taken.
+    /// Where no element asks for a start or holds a reference, before the edit and after it, only what the edit touches is
+    /// evaluated anew, and the elements whose styles it can change. Else, and where it can change styles everywhere, the
+    /// edited document is evaluated whole, as `start` does it; where only the walk from the edit's place finds that an
+    /// element asks or refers, that walk comes on top. In the first case, and where the edit can change styles everywhere,
+    /// its work bounds its steps, after `Memory` too. Beside that come the calls of the arena by which the edit is done. An
+    /// entry that is another is put, and one whose element goes is taken.
     pub fn apply<L: Ledger>(
         &mut self,
         alloc: Global,
@@ -114,6 +115,14 @@ impl Engine {
         let plan = self.book.plan(alloc, edit, steps)?;
         self.book.commit(plan, steps);
         Ok(())
+    }
+
+    /// The book that the engine keeps, which is settled. It takes no memory and constant time.
+    pub fn book(&self) -> &Book
+        ensures book { result.now ≡ self.now }
+        ensures settled { result.now.settled ≡ true }
+    {
+        &self.book
     }
 
     /// The document, a copy of its own. It takes memory of the size of the document, and time linear in it; `Memory`

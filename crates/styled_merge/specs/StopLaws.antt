@@ -18,7 +18,7 @@ use Rattle.styled_merge.specs.StyledMerges.{Starting, Styling, styled_merge}
 use Rattle.styled_merge.specs.Reached.{reached_merge}
 use Rattle.styled_merge.specs.ReachStops.{reach_stops}
 
--- a walk may go over the merge: these are its stops, texts have no children in it, and its root isn't to be skipped
+-- a walk may go over the merge: these are its stops, texts have no children in its new forest, and its root isn't to be skipped
 pub record IsWalkable {L : Type 0} (is_element : L → Bool) (ahead : List Stop) (merge : Merge L) : Type 0 where
   pub stops : ahead ≡ stops_of is_element 0 merge
   pub leaves : HasLeaves is_element merge

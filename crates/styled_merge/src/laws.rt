@@ -27,7 +27,8 @@ pub fn reached_trees_go_and_come()
 {}
 
 /// A walk may go over the merge of an edit where what it reaches goes and comes, with styles or without: its stops are
-/// told by the document before, texts have no children in it, and its root isn't to be skipped.
+/// told by the document before and the key of an inserted root, texts have no children in the new forest, and the root
+/// isn't to be skipped.
 pub fn reached_merges_are_walkable()
     ensures plain { ReachesAreWalkable }
     ensures styled { StyledReachesAreWalkable }

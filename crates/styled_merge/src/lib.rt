@@ -21,8 +21,9 @@
 //!   goes and comes: so it has the same styles before and after. [`laws::kept_elements_keep_their_styles`]
 //! * Where an edit reaches no more than the edited trees, nothing else goes and comes.
 //!   [`laws::edits_without_reach_keep_styles`]
-//! * The places of an edit stand in the nodes that it reaches. So the stops are at these, told by the document before
-//!   alone: no key of an inserted tree is among them. [`laws::reached_merges_are_walkable`]
+//! * Where an edit reaches nodes, its places stand in these. So the stops are at these, told by the document before alone:
+//!   no key of an inserted tree is among them. Else they are at the edit's own places, and the key of an inserted root is
+//!   put in once it is known. [`laws::reached_merges_are_walkable`]
 //!
 //! # An example
 //!
@@ -66,7 +67,7 @@
 //! let mut stops = stops_of_reach(alloc, &arena, &edit, extent)?;      // the edit is allowed
 //! let prepared = arena.prepare(alloc, &edit)?;
 //! let reversal = arena.commit(prepared);
-//! name_coming(&arena, &edit, extent, &mut stops);                     // the key of an inserted root is known now
+//! name_inserted_root(&arena, &edit, extent, &mut stops);                     // the key of an inserted root is known now
 //! ```
 //!
 //! # What the layers above cite

@@ -22,7 +22,7 @@ use style_reach::extent::Reach;
 
 /// The stops of an edit that the document allows and that is not done yet, in tree order, where what it reaches goes and
 /// comes. Where it reaches no more than the edited trees and inserts one, 0 stands for the key of that tree's root until
-/// [`name_coming`].
+/// [`name_inserted_root`].
 ///
 /// It takes memory and time linear in the depths of the edit's places and of the nodes that it reaches, and time linear in
 /// the siblings behind these up to the first element; `Memory` where that is wanting.
@@ -47,7 +47,7 @@ pub fn stops_of_reach(
 
 /// Puts the key of an inserted root into the stops of the edit, which is done now, if one of them goes on there. Time
 /// linear in the edit's path.
-pub fn name_coming(arena: &Arena, edit: &Edit, extent: Reach, stops: &mut Vec<Stop>)
+pub fn name_inserted_root(arena: &Arena, edit: &Edit, extent: Reach, stops: &mut Vec<Stop>)
     ensures stops { (old : Forest (Keyed Node)) → stops.old.items ≡ reach_stops extent edit.now 0 old → stops.new.items ≡ reach_stops extent edit.now (inserted_key edit.now arena.now.tree) old }
 {
     match extent {

@@ -33,6 +33,14 @@ returns-clause-plain g c =
     is_plain_now document document.agent_is document.styles_are c.args.board.now.held c.args.stops.items c.requires.place c.in_ok-caught.caught.changes c.in_ok-caught.ensures.covers c.in_ok-caught.ensures.among
     (ap are_plain (sym c.as_slice-told.ensures.items) ∙ sym c.are_plain.ensures ∙ c.if-not-are_plain.false)
 
+pub returns-in_err-changes-clause-steps : goal.returns-in_err-changes-clause-steps
+returns-in_err-changes-clause-steps g c =
+    omega (arith, c.caught_from.ensures.whole, c.in_ok-caught.ensures.count, c.changed_entries.ensures.steps, ap length c.as_slice-told.ensures.items)
+
+pub returns-clause-steps : goal.returns-clause-steps
+returns-clause-steps g c =
+    omega (arith, c.caught_from.ensures.whole, c.in_ok-caught.ensures.count, c.changed_entries.ensures.steps, ap length c.as_slice-told.ensures.items)
+
 pub returns-in_err-reserve-clause-steps : goal.returns-in_err-reserve-clause-steps
 returns-in_err-reserve-clause-steps g c =
     omega (arith, c.caught_from.ensures.whole, c.in_ok-caught.ensures.count, c.changed_entries.ensures.steps, ap length c.as_slice-told.ensures.items)

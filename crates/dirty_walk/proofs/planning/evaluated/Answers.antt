@@ -1,8 +1,6 @@
-use Rattle.std.proofs.Common.{◌≡◌, ◌∙◌, arith, ℕ, ap, sym, List, Option, Some, None, IfSome, Global}
-use Rattle.std.specs.Prelude.{is_some}
+use Rattle.std.proofs.Common.{◌≡◌, ◌∙◌, arith, ℕ, ap, sym, List, Option, Some, None, IfSome}
 use Rattle.std.specs.FinMap.{FinMap}
 use Rattle.std.specs.Ordering.{nat_cmp}
-use Rattle.std.specs.Prelude.{Vec}
 use Rattle.forest.specs.Forest.{Forest}
 use Rattle.forest.specs.Keys.{Keyed}
 use Rattle.plain_types.specs.declared.edit.Edit.{Edit}
@@ -11,16 +9,14 @@ use Rattle.target_index.specs.declared.change.IndexChange.{IndexChange}
 use Rattle.target_index.specs.declared.index.Index.{Index}
 use Rattle.target_index.specs.Changes.{holds_after_all}
 use Rattle.target_index.specs.Holders.{is_holder}
-use Rattle.merged_walk.specs.declared.stop.Stop.{Stop}
-use Rattle.edit_merge.specs.EditMerges.{edit_stops, inserted_key}
 use Rattle.dirty_walk.specs.declared.document_styles.DocumentStyles.{DocumentStyles}
 use Rattle.dirty_walk.specs.declared.exchange.ElementId.{ElementId}
 use Rattle.dirty_walk.specs.declared.kept.Kept.{Kept}
+use Rattle.dirty_walk.specs.declared.local_stops.LocalStops.{LocalStops}
 use Rattle.dirty_walk.specs.Exchanges.{IsIndexBefore, coming, elements_in, exchanges}
 use Rattle.dirty_walk.specs.Holding.{IsIndexOf}
-use Rattle.dirty_walk.specs.PlaceStyles.{StandsAt, StandsBefore, TakesPlaceAt, TakesPlaceBefore}
+use Rattle.dirty_walk.specs.PlaceStyles.{IsWithinPlaceOf}
 use Rattle.dirty_walk.proofs.ExchangeLaws.{index_after, index_back}
-use Rattle.dirty_walk.proofs.PlaceLemmas.{stands_at}
 use Rattle.dirty_walk.proofs.planning.evaluated.Goals as goal
 
 module _ (edit : Edit) (gone : List ElementId) (before after : Index) (new : Forest (Keyed Node)) (was : IsIndexBefore edit gone before new)
@@ -46,33 +42,11 @@ pub renewed-requires-clause-indexed : goal.renewed-requires-clause-indexed
 renewed-requires-clause-indexed g c =
     its_index c.args.document.now.edit.now c.args.gone.now c.args.index.now c.exchange_ids.new.index c.args.document.now.arena.now.tree c.requires.before c.in_ok-back.ensures.holders
 
--- the stops are there, with the key of what comes
-named_there : (edit : Edit) (styles : DocumentStyles) (held : FinMap nat_cmp Kept) (new : Forest (Keyed Node)) (stops named : Option (Vec Stop Global)) → is_some named ≡ is_some stops
-    → IfSome named (λ named. (old : Forest (Keyed Node)) → IfSome stops (λ stops. stops.items ≡ edit_stops edit 0 old) → named.items ≡ edit_stops edit (inserted_key edit new) old)
-    → IfSome stops (λ stops. StandsBefore edit styles held stops.items new)
-    → IfSome named (λ named. StandsAt edit styles held named.items new)
-named_there edit styles held new stops None some names there = tt
-named_there edit styles held new None (Some named) some names there = absurd (cc some)
-named_there edit styles held new (Some stops) (Some named) some names there = stands_at edit styles held stops.items named.items new there names
-
--- the steps, too, are told with that key
-taken_there : (edit : Edit) (styles : DocumentStyles) (held : FinMap nat_cmp Kept) (new : Forest (Keyed Node)) (before now : ℕ) (stops named : Option (Vec Stop Global)) → is_some named ≡ is_some stops
-    → IfSome named (λ named. (old : Forest (Keyed Node)) → IfSome stops (λ stops. stops.items ≡ edit_stops edit 0 old) → named.items ≡ edit_stops edit (inserted_key edit new) old)
-    → IfSome named (λ named. TakesPlaceAt edit styles held named.items new before now)
-    → IfSome stops (λ stops. TakesPlaceBefore edit styles held stops.items new before now)
-taken_there edit styles held new before now None named some names takes = tt
-taken_there edit styles held new before now (Some stops) None some names takes = absurd (cc some)
-taken_there edit styles held new before now (Some stops) (Some named) some names takes = λ plain there. takes plain (stands_at edit styles held stops.items named.items new there names)
-
 -- before the walk no step is taken
-none_taken : (edit : Edit) (styles : DocumentStyles) (held : FinMap nat_cmp Kept) (new : Forest (Keyed Node)) (now : ℕ) (stops : Option (Vec Stop Global))
-    → IfSome stops (λ stops. TakesPlaceBefore edit styles held stops.items new now now)
+none_taken : (edit : Edit) (styles : DocumentStyles) (held : FinMap nat_cmp Kept) (new : Forest (Keyed Node)) (now : ℕ) (stops : Option LocalStops)
+    → IfSome stops (λ local. IsWithinPlaceOf edit styles held local new now now)
 none_taken edit styles held new now None = tt
-none_taken edit styles held new now (Some stops) = λ plain there. omega arith
-
-pub renewed-requires-clause-place : goal.renewed-requires-clause-place
-renewed-requires-clause-place g c =
-    named_there c.args.document.now.edit.now c.args.document.now.styles.now c.args.board.now.held c.args.document.now.arena.now.tree c.args.stops c.named_stops-stops.result c.named_stops-stops.ensures.some c.named_stops-stops.ensures.stops c.requires.place
+none_taken edit styles held new now (Some local) = λ plain there. omega arith
 
 pub returns-in-Ok-clause-indexed : goal.returns-in-Ok-clause-indexed
 returns-in-Ok-clause-indexed g c =
@@ -85,18 +59,3 @@ returns-in-Err-clause-err g c =
 
 pub returns-in_err-back-clause-most : goal.returns-in_err-back-clause-most
 returns-in_err-back-clause-most g c = none_taken c.args.document.now.edit.now c.args.document.now.styles.now c.args.board.now.held c.args.document.now.arena.now.tree c.args.steps.now c.args.stops
-
-pub returns-in-Ok-clause-few : goal.returns-in-Ok-clause-few
-returns-in-Ok-clause-few g c =
-    taken_there c.args.document.now.edit.now c.args.document.now.styles.now c.args.board.now.held c.args.document.now.arena.now.tree c.args.steps.now _ c.args.stops c.named_stops-stops.result
-    c.named_stops-stops.ensures.some c.named_stops-stops.ensures.stops c.in-Ok.ensures.few
-
-pub returns-in-Ok-clause-most : goal.returns-in-Ok-clause-most
-returns-in-Ok-clause-most g c =
-    taken_there c.args.document.now.edit.now c.args.document.now.styles.now c.args.board.now.held c.args.document.now.arena.now.tree c.args.steps.now _ c.args.stops c.named_stops-stops.result
-    c.named_stops-stops.ensures.some c.named_stops-stops.ensures.stops c.renewed.ensures.most
-
-pub returns-in-Err-clause-most : goal.returns-in-Err-clause-most
-returns-in-Err-clause-most g c =
-    taken_there c.args.document.now.edit.now c.args.document.now.styles.now c.args.board.now.held c.args.document.now.arena.now.tree c.args.steps.now _ c.args.stops c.named_stops-stops.result
-    c.named_stops-stops.ensures.some c.named_stops-stops.ensures.stops c.renewed.ensures.most

@@ -1,4 +1,5 @@
-use Rattle.std.proofs.Common.{◌≡◌, ◌∙◌, ◌≤◌, ◌+◌, true, None, refl, ap, sym, subst, arith, inr, length, List, ℕ}
+use Rattle.std.proofs.Common.{◌≡◌, ◌⊎◌, ◌∙◌, ◌≤◌, ◌+◌, true, false, None, IfSome, refl, ap, sym, subst, arith, inr, length, List, ℕ}
+use Rattle.std.specs.Prelude.{IfNone}
 use Rattle.std.specs.FinMap.{FinMap, get}
 use Rattle.std.specs.Option.{is_none}
 use Rattle.std.specs.Ordering.{nat_cmp}
@@ -18,14 +19,19 @@ use Rattle.dirty_walk.specs.Books.{StyledDocument}
 use Rattle.dirty_walk.specs.Changes.{AreOthers}
 use Rattle.dirty_walk.specs.Evaluations.{document_kept}
 use Rattle.edit_merge.specs.Laws.{InsertsOneTree, IsDone}
-use Rattle.dirty_walk.specs.Exchanges.{taken_keys}
+use Rattle.style_reach.specs.Reaches.{reach}
+use Rattle.style_reach.specs.declared.extent.Reach.TheVariants.{All}
+use Rattle.styled_merge.specs.Laws.{looks_beside}
+use Rattle.styled_merge.specs.ReachStops.{reach_stops}
+use Rattle.dirty_walk.specs.Exchanges.{elements_in, leaving, taken_keys}
 use Rattle.dirty_walk.specs.Plain.{is_plain}
 use Rattle.dirty_walk.specs.Plans.{settled_after, IsPlannedBy}
 use Rattle.dirty_walk.specs.WorkBounds.{IsWithinWork, StopsWithinWork, keyed_source}
+use Rattle.dirty_walk.proofs.GoneLemmas.{taken_gone}
 use Rattle.dirty_walk.proofs.PlaceLemmas.{stands_before}
 use Rattle.dirty_walk.proofs.PlanLemmas.{as_read, its_keys, its_text, same_document, under_its_text}
 use Rattle.dirty_walk.proofs.SettlingLemmas.{few, has_room, keeps_all, of_elements}
-use Rattle.dirty_walk.proofs.WorkLemmas.{leads, taken_gone, within_work}
+use Rattle.dirty_walk.proofs.WorkLemmas.{leads, within_work}
 use Rattle.dirty_walk.proofs.book.Book.plan.Goals as goal
 
 -- the edit that is allowed, prepared and committed is done
@@ -39,6 +45,10 @@ done_by edit old after new styled before document same allowed fragment edits is
   edited = subst (λ (tree : Forest (Keyed Node)). IsEdited edit old tree) (sym is) edits;
 }
 
+-- what was read ahead of the book was read of what it stands for
+ahead_of : (P : StyledDocument → Type 0) (inside seen : StyledDocument) → inside ≡ seen → P seen → P inside
+ahead_of P inside seen is holds = subst P (sym is) holds
+
 pub invariant_of-document-clause-read : goal.invariant_of-document-clause-read
 invariant_of-document-clause-read g c = as_read c.self.inside.styles c.self.inside.styles.sheet c.self.inside.arena.tree c.self.invariant.styles_are
 
@@ -47,18 +57,17 @@ evaluated-requires-clause-before g c = record {
   old = c.self.inside.arena.tree;
   done = done_by c.args.edit.now c.self.inside.arena.tree _ c.commit-reversal.new.self.tree c.args.self.now c.arena_holds_document.ensures.document c.arena_holds_document-2.ensures.document
       (ap (λ (styled : StyledDocument). styled.tree) c.self.view_is) c.requires.allowed c.inserts_one_tree.ensures c.in_ok-prepared.ensures.edits c.commit-reversal.ensures.tree;
-  gone_are = c.as_slice-gone.ensures.items ∙ c.in_ok-leaving.ensures.elements;
+  gone_are = c.as_slice-gone.ensures.items ∙ c.in_ok-gone.ensures.gone ∙ ap (λ (styled : StyledDocument). elements_in (leaving c.args.edit.now styled.tree)) (sym c.self.view_is);
   indexed = c.self.invariant.indexed;
 }
 
 pub evaluated-requires-clause-place : goal.evaluated-requires-clause-place
 evaluated-requires-clause-place g c =
     let none : is_none c.self.inside.planned ≡ true = ap (λ (styled : StyledDocument). styled.settled) c.self.view_is ∙ c.requires.settled in
-    stands_before c.args.edit.now c.self.inside.agent c.self.inside.styles c.self.inside.board.held c.self.inside.is_plain c.self.inside.arena.tree c.commit-reversal.new.self.tree c.in_ok-stops.stops
-    c.self.invariant.agent_is c.self.invariant.styles_are
+    stands_before c.args.edit.now c.self.inside.styles c.self.inside.board.held c.self.inside.arena.tree c.commit-reversal.new.self.tree c.self.invariant.styles_are
     (done_by c.args.edit.now c.self.inside.arena.tree _ c.commit-reversal.new.self.tree c.args.self.now c.arena_holds_document.ensures.document c.arena_holds_document-2.ensures.document
     (ap (λ (styled : StyledDocument). styled.tree) c.self.view_is) c.requires.allowed c.inserts_one_tree.ensures c.in_ok-prepared.ensures.edits c.commit-reversal.ensures.tree)
-    (c.self.invariant.kept none) c.self.invariant.plain_is c.in_ok-stops.ensures.plain c.in_ok-stops.ensures.own c.in_ok-stops.ensures.stops
+    (c.self.invariant.kept none) c.in_ok-gone.field-0.stops (ahead_of (λ styled. IfSome c.in_ok-gone.field-0.stops (λ _. is_plain (author_sheet styled.sheet styled.tree) styled.tree ≡ true)) _ _ c.self.view_is c.in_ok-gone.ensures.plain) (ahead_of (λ styled. IfSome c.in_ok-gone.field-0.stops (λ local. local.extent ≡ reach (looks_beside styled.sheet styled.tree) styled.tree c.args.edit.now)) _ _ c.self.view_is c.in_ok-gone.ensures.extent) c.in_ok-gone.ensures.local (ahead_of (λ styled. IfSome c.in_ok-gone.field-0.stops (λ local. local.stops.items ≡ reach_stops local.extent c.args.edit.now 0 styled.tree)) _ _ c.self.view_is c.in_ok-gone.ensures.stops)
 
 pub invariant_of-self : goal.invariant_of-self
 invariant_of-self g c =
@@ -74,12 +83,12 @@ invariant_of-self-in-Ok g c =
     let done =
     done_by c.args.edit.now old _ tree c.args.self.now c.arena_holds_document.ensures.document c.arena_holds_document-2.ensures.document
     (ap (λ (styled : StyledDocument). styled.tree) c.self.view_is) c.requires.allowed c.inserts_one_tree.ensures c.in_ok-prepared.ensures.edits c.commit-reversal.ensures.tree in
-    let taken = c.in_ok-takes.ensures.keys ∙ ap (taken_keys c.args.edit.now) (c.as_slice-gone.ensures.items ∙ c.in_ok-leaving.ensures.elements) in
+    let taken = (c.in_ok-gone.ensures.takes ∙ ap (λ (styled : StyledDocument). taken_keys c.args.edit.now (elements_in (leaving c.args.edit.now styled.tree))) (sym c.self.view_is)) in
     record {
       agent_is = c.self.invariant.agent_is;
       styles_are = under_its_text c.replace_styles.new.styles text tree (c.replace_styles.ensures ∙ c.in-Ok.ensures.styles);
       kept = λ settled. cc;
-      room = has_room c.args.edit.now old tree done c.self.inside.styles.sheet text c.self.inside.board.held c.in-Ok.made.changes.items c.in_ok-takes.takes (c.self.invariant.kept none) c.in-Ok.ensures.changes taken
+      room = has_room c.args.edit.now old tree done c.self.inside.styles.sheet text c.self.inside.board.held c.in-Ok.made.changes.items c.in_ok-gone.field-0.takes (c.self.invariant.kept none) c.in-Ok.ensures.changes taken
           c.self.inside.board.room c.evaluated.new.board.room c.self.invariant.room c.evaluated.ensures.grown c.in-Ok.ensures.room;
       indexed = c.in-Ok.ensures.indexed;
       plain_is = c.in-Ok.ensures.plain ∙ ap (λ (t : List ℕ). is_plain (author_sheet t tree) tree) (sym (its_text c.replace_styles.new.styles text (style_texts tree) (c.replace_styles.ensures ∙ c.in-Ok.ensures.styles)));
@@ -109,12 +118,12 @@ returns-in-Ok-clause-planned g c =
     let text = edited_sheet c.args.edit.now before in
     let held = c.self.inside.board.held in
     let puts = c.in-Ok.made.changes.items in
-    let takes = c.in_ok-takes.takes in
+    let takes = c.in_ok-gone.field-0.takes in
     let sheet = its_text c.replace_styles.new.styles text (style_texts tree) (c.replace_styles.ensures ∙ c.in-Ok.ensures.styles) in
     let done =
     done_by c.args.edit.now old _ tree c.args.self.now c.arena_holds_document.ensures.document c.arena_holds_document-2.ensures.document
     (ap (λ (styled : StyledDocument). styled.tree) c.self.view_is) c.requires.allowed c.inserts_one_tree.ensures c.in_ok-prepared.ensures.edits c.commit-reversal.ensures.tree in
-    let taken = c.in_ok-takes.ensures.keys ∙ ap (taken_keys c.args.edit.now) (c.as_slice-gone.ensures.items ∙ c.in_ok-leaving.ensures.elements) in
+    let taken = (c.in_ok-gone.ensures.takes ∙ ap (λ (styled : StyledDocument). taken_keys c.args.edit.now (elements_in (leaving c.args.edit.now styled.tree))) (sym c.self.view_is)) in
     let kept = c.self.invariant.kept none in (
       refl,
       λ key.
@@ -158,11 +167,11 @@ returns-in-Ok-clause-size g c =
     let before = c.self.inside.styles.sheet in
     let text = edited_sheet c.args.edit.now before in
     let puts = c.in-Ok.made.changes.items in
-    let takes = c.in_ok-takes.takes in
+    let takes = c.in_ok-gone.field-0.takes in
     let done =
     done_by c.args.edit.now old _ tree c.args.self.now c.arena_holds_document.ensures.document c.arena_holds_document-2.ensures.document
     (ap (λ (styled : StyledDocument). styled.tree) c.self.view_is) c.requires.allowed c.inserts_one_tree.ensures c.in_ok-prepared.ensures.edits c.commit-reversal.ensures.tree in
-    let taken = c.in_ok-takes.ensures.keys ∙ ap (taken_keys c.args.edit.now) (c.as_slice-gone.ensures.items ∙ c.in_ok-leaving.ensures.elements) in
+    let taken = (c.in_ok-gone.ensures.takes ∙ ap (λ (styled : StyledDocument). taken_keys c.args.edit.now (elements_in (leaving c.args.edit.now styled.tree))) (sym c.self.view_is)) in
     let same : element_count (without_keys tree) ≡ element_count (edited c.args.edit.now (without_keys c.args.self.now.tree)) =
     ap (λ (tree : Forest (Keyed Node)). element_count (without_keys tree)) c.commit-reversal.ensures.tree
     ∙ ap element_count c.in_ok-prepared.ensures.edits.tree
@@ -188,22 +197,22 @@ returns-in-Ok-clause-within_work g c =
     let tree = c.commit-reversal.new.self.tree in
     let text = edited_sheet c.args.edit.now c.self.inside.styles.sheet in
     let puts = c.in-Ok.made.changes.items in
-    let takes = c.in_ok-takes.takes in
+    let takes = c.in_ok-gone.field-0.takes in
     let done =
     done_by c.args.edit.now old _ tree c.args.self.now c.arena_holds_document.ensures.document c.arena_holds_document-2.ensures.document
     (ap (λ (styled : StyledDocument). styled.tree) c.self.view_is) c.requires.allowed c.inserts_one_tree.ensures c.in_ok-prepared.ensures.edits c.commit-reversal.ensures.tree in
-    let taken = c.in_ok-takes.ensures.keys ∙ ap (taken_keys c.args.edit.now) (c.as_slice-gone.ensures.items ∙ c.in_ok-leaving.ensures.elements) in
+    let taken = (c.in_ok-gone.ensures.takes ∙ ap (λ (styled : StyledDocument). taken_keys c.args.edit.now (elements_in (leaving c.args.edit.now styled.tree))) (sym c.self.view_is)) in
     let count : length puts + length takes ≤ element_count (without_keys tree) + element_count (without_keys old) =
     few c.args.edit.now old tree done c.self.inside.styles.sheet text c.self.inside.board.held puts takes (c.self.invariant.kept none) c.in-Ok.ensures.changes taken in
     subst
     (λ (styled : StyledDocument).
     IsWithinWork c.args.edit.now (keyed_source styled) (record { tree = tree; sheet = c.replace_styles.new.styles.sheet }) c.args.steps.now (c.evaluated.new.steps + (length puts + length takes)))
     c.self.view_is
-    (within_work c.args.edit.now c.self.inside.agent c.self.inside.styles c.self.inside.board.held c.self.inside.is_plain old tree c.in_ok-stops.stops
-    c.self.invariant.agent_is c.self.invariant.styles_are done (c.self.invariant.kept none) c.self.invariant.plain_is
+    (within_work c.args.edit.now c.self.inside.styles c.self.inside.board.held old tree c.in_ok-gone.field-0.stops
+    c.self.invariant.styles_are done (c.self.invariant.kept none)
     c.replace_styles.new.styles.sheet (its_text c.replace_styles.new.styles text (style_texts tree) (c.replace_styles.ensures ∙ c.in-Ok.ensures.styles))
     c.args.steps.now (c.evaluated.new.steps + length puts) (length takes) (c.evaluated.new.steps + (length puts + length takes))
-    c.in_ok-stops.ensures.plain c.in_ok-stops.ensures.own c.in_ok-stops.ensures.stops c.in_ok-stops.ensures.none
+    (ahead_of (λ styled. IfSome c.in_ok-gone.field-0.stops (λ _. is_plain (author_sheet styled.sheet styled.tree) styled.tree ≡ true)) _ _ c.self.view_is c.in_ok-gone.ensures.plain) (ahead_of (λ styled. IfSome c.in_ok-gone.field-0.stops (λ local. local.extent ≡ reach (looks_beside styled.sheet styled.tree) styled.tree c.args.edit.now)) _ _ c.self.view_is c.in_ok-gone.ensures.extent) c.in_ok-gone.ensures.local (ahead_of (λ styled. IfSome c.in_ok-gone.field-0.stops (λ local. local.stops.items ≡ reach_stops local.extent c.args.edit.now 0 styled.tree)) _ _ c.self.view_is c.in_ok-gone.ensures.stops) (ahead_of (λ styled. IfNone c.in_ok-gone.field-0.stops ((is_plain (author_sheet styled.sheet styled.tree) styled.tree ≡ false) ⊎ (reach (looks_beside styled.sheet styled.tree) styled.tree c.args.edit.now ≡ All))) _ _ c.self.view_is c.in_ok-gone.ensures.none)
     c.in-Ok.ensures.few
     (omega (arith, ap length taken, taken_gone c.args.edit.now old tree))
     (omega arith)
@@ -223,10 +232,10 @@ returns-clause-stops_within_work g c =
     (inr (
       record { tree = tree; sheet = text },
       leads c.args.edit.now before text old tree done refl,
-      within_work c.args.edit.now c.self.inside.agent c.self.inside.styles c.self.inside.board.held c.self.inside.is_plain old tree c.in_ok-stops.stops
-          c.self.invariant.agent_is c.self.invariant.styles_are done (c.self.invariant.kept none) c.self.invariant.plain_is text refl
+      within_work c.args.edit.now c.self.inside.styles c.self.inside.board.held old tree c.in_ok-gone.field-0.stops
+          c.self.invariant.styles_are done (c.self.invariant.kept none) text refl
           c.args.steps.now c.evaluated.new.steps 0 c.evaluated.new.steps
-          c.in_ok-stops.ensures.plain c.in_ok-stops.ensures.own c.in_ok-stops.ensures.stops c.in_ok-stops.ensures.none
+          (ahead_of (λ styled. IfSome c.in_ok-gone.field-0.stops (λ _. is_plain (author_sheet styled.sheet styled.tree) styled.tree ≡ true)) _ _ c.self.view_is c.in_ok-gone.ensures.plain) (ahead_of (λ styled. IfSome c.in_ok-gone.field-0.stops (λ local. local.extent ≡ reach (looks_beside styled.sheet styled.tree) styled.tree c.args.edit.now)) _ _ c.self.view_is c.in_ok-gone.ensures.extent) c.in_ok-gone.ensures.local (ahead_of (λ styled. IfSome c.in_ok-gone.field-0.stops (λ local. local.stops.items ≡ reach_stops local.extent c.args.edit.now 0 styled.tree)) _ _ c.self.view_is c.in_ok-gone.ensures.stops) (ahead_of (λ styled. IfNone c.in_ok-gone.field-0.stops ((is_plain (author_sheet styled.sheet styled.tree) styled.tree ≡ false) ⊎ (reach (looks_beside styled.sheet styled.tree) styled.tree c.args.edit.now ≡ All))) _ _ c.self.view_is c.in_ok-gone.ensures.none)
           c.evaluated.ensures.most
           (omega arith) (omega arith) (omega (arith, c.evaluated.ensures.steps)),
     ))
