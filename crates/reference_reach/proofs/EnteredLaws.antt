@@ -81,7 +81,7 @@ entered-relabelling change path g =
 
 -- A tree that comes into a merge in which trees only go.
 
-abbrev OnlyGoes : Merge Node → Type 0
+abbrev pub OnlyGoes : Merge Node → Type 0
 OnlyGoes End = Unit {0}
 OnlyGoes (Kept n c r) = OnlyGoes c × OnlyGoes r
 OnlyGoes (Turned was n c r) = ⊥

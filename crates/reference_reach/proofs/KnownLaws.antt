@@ -23,9 +23,9 @@ use Rattle.generated_texts.specs.Entries.{box_text, node_entry}
 use Rattle.generated_texts.specs.References.{asked_box, characters_in, first_holder, kept_at, known_characters, known_to_flat_texts, target_record}
 use Rattle.merged_walk.specs.Merges.{Merge}
 use Rattle.edit_work.specs.KeyedSources.{is_among, references_in, references_of}
-use Rattle.reference_reach.specs.Laws.{HasSameUnder, IsUntouched, LeadsBy, TreesUnderStay, is_renewed}
+use Rattle.reference_reach.specs.Laws.{HasSameUnder, KeepsTarget, LeadsBy, TreesUnderStay, is_renewed}
 use Rattle.reference_reach.specs.MergedNodes.{entered_elements}
-use Rattle.reference_reach.specs.TouchedTargets.{Evaluated, entries_in, has_other_target, has_target_among, is_touched, is_touched_through, known_in, refers, refers_through}
+use Rattle.reference_reach.specs.ChangedTargets.{Evaluated, entries_in, has_other_target, has_target_among, has_changed_target, has_referring_target, known_in, refers, refers_through}
 use Rattle.reference_reach.proofs.HolderLaws.{holder-element}
 use Rattle.reference_reach.proofs.UnderLaws.{apart}
 
@@ -58,7 +58,7 @@ none-refers picks element h =
     record { marker = first.0; before = rest.0; after = rest.1 }
 
 -- What is kept of what is kept, under the same keys.
-kept-mapped : {V W : Type 0} (f : V → W) (kept : List (ℕ × V)) (k : ℕ) → kept_at (map (λ (e : ℕ × V). (e.0, f e.1)) kept) k ≡ option_map f (kept_at kept k)
+pub kept-mapped : {V W : Type 0} (f : V → W) (kept : List (ℕ × V)) (k : ℕ) → kept_at (map (λ (e : ℕ × V). (e.0, f e.1)) kept) k ≡ option_map f (kept_at kept k)
 kept-mapped f [] k = refl
 kept-mapped {V} {W} f (entry ∷ kept) k = by (entry.0 == k) refl (kept-mapped f kept k)
   where
@@ -82,12 +82,12 @@ module _ (table : List CounterStyle) (merge : Merge Node) (visited : List ℕ) (
   changed = visited ++ entered_elements merge
 
   abbrev touched : List ℕ → Bool
-  touched = is_touched before after changed
+  touched = has_changed_target before after changed
 
   abbrev through : List ℕ → Bool
-  through = is_touched_through before after changed
+  through = has_referring_target before after changed
 
-  -- The target of an id that is not touched.
+  -- The target of an id that is not changed.
 
   module _ (id : List ℕ) (untouched : touched id ≡ false) where
     parts : (has_other_target before after id ≡ false) × (has_target_among after changed id ≡ false)
@@ -162,7 +162,7 @@ module _ (table : List CounterStyle) (merge : Merge Node) (visited : List ℕ) (
   flat-held None part h = refl
   flat-held (Some k) part h = flat-said (kept_at after.said k) part h
 
-  pub agree-on : (id : List ℕ) → IsUntouched before after changed id → AgreeOn (known_in table before) (known_in table after) id
+  pub agree-on : (id : List ℕ) → KeepsTarget before after changed id → AgreeOn (known_in table before) (known_in table after) id
   agree-on id its = record {
     below = agree-below id its.itself;
     flat = λ part.
@@ -184,29 +184,29 @@ module _ (table : List CounterStyle) (merge : Merge Node) (visited : List ℕ) (
       weaker [] h = tt
       weaker (p ∷ pieces) h = (of-one (reference p) h.0, weaker pieces h.1)
 
-  pub full-texts : (pieces : List Piece) → OfEachReference (IsUntouched before after changed) pieces
+  pub full-texts : (pieces : List Piece) → OfEachReference (KeepsTarget before after changed) pieces
       → full_text table (known_in table before) pieces ≡ full_text table (known_in table after) pieces
   full-texts pieces h = full_depends table pieces (known_in table before) (known_in table after) (weaker pieces h)
     where
-      of-one : (o : Option (List ℕ)) → IfSome o (IsUntouched before after changed) → IfSome o (AgreeOn (known_in table before) (known_in table after))
+      of-one : (o : Option (List ℕ)) → IfSome o (KeepsTarget before after changed) → IfSome o (AgreeOn (known_in table before) (known_in table after))
       of-one None h = tt
       of-one (Some id) h = agree-on id h
 
-      weaker : (pieces : List Piece) → OfEachReference (IsUntouched before after changed) pieces → OfEachReference (AgreeOn (known_in table before) (known_in table after)) pieces
+      weaker : (pieces : List Piece) → OfEachReference (KeepsTarget before after changed) pieces → OfEachReference (AgreeOn (known_in table before) (known_in table after)) pieces
       weaker [] h = tt
       weaker (p ∷ pieces) h = (of-one (reference p) h.0, weaker pieces h.1)
 
   -- Entries.
 
-  neither : (pieces : List Piece) → list_any touched (filter_map reference pieces) ≡ false → list_any through (filter_map reference pieces) ≡ false → OfEachReference (IsUntouched before after changed) pieces
+  neither : (pieces : List Piece) → list_any touched (filter_map reference pieces) ≡ false → list_any through (filter_map reference pieces) ≡ false → OfEachReference (KeepsTarget before after changed) pieces
   neither pieces one other =
       joined pieces (each-reference touched (λ id. touched id ≡ false) (λ id h. h) pieces one) (each-reference through (λ id. through id ≡ false) (λ id h. h) pieces other)
     where
-      of-one : (o : Option (List ℕ)) → IfSome o (λ id. touched id ≡ false) → IfSome o (λ id. through id ≡ false) → IfSome o (IsUntouched before after changed)
+      of-one : (o : Option (List ℕ)) → IfSome o (λ id. touched id ≡ false) → IfSome o (λ id. through id ≡ false) → IfSome o (KeepsTarget before after changed)
       of-one None one other = tt
       of-one (Some id) one other = record { itself = one; through = other }
 
-      joined : (pieces : List Piece) → OfEachReference (λ id. touched id ≡ false) pieces → OfEachReference (λ id. through id ≡ false) pieces → OfEachReference (IsUntouched before after changed) pieces
+      joined : (pieces : List Piece) → OfEachReference (λ id. touched id ≡ false) pieces → OfEachReference (λ id. through id ≡ false) pieces → OfEachReference (KeepsTarget before after changed) pieces
       joined [] one other = tt
       joined (p ∷ pieces) one other = (of-one (reference p) one.0 other.0, joined pieces one.1 other.1)
 

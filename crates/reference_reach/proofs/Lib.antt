@@ -7,4 +7,11 @@ mod EnteredLaws
 mod PlacedLaws
 mod ReachedEntered
 mod ReachedPlaced
+mod ExchangedNodes
+mod ListedElements
+mod OnceTold
+mod StopLaws
+mod PassedElements
+mod ToldChanges
+mod Examples
 pub mod LawLemmas

@@ -1,4 +1,4 @@
--- The elements that refer to what is touched weigh no more than the point of references. Throughout, w is a weight, n a
+-- The elements that refer to changed targets weigh no more than the point of references. Throughout, w is a weight, n a
 -- node, c what is under it, r what is after it, g trees, k a key, and xs, ys and bs keys.
 use Rattle.std.proofs.Common.{◌≡◌, ◌==◌, ◌≤◌, ◌+◌, ◌||◌, ℕ, Bool, true, false, not, cond, List, [], ◌∷◌, ◌++◌, Option, Some, None, IsSome, refl, sym, ap, subst, ◌∙◌, inl, inr, arith, eqb-true}
 use Rattle.std.specs.Prelude.{filter, sum_by}
@@ -19,8 +19,8 @@ use Rattle.edit_merge.specs.EditMerges.{is_element}
 use Rattle.edit_work.specs.KeyedSources.{KeyedSource, either, element_key, elements_in, is_among, references_held, weight}
 use Rattle.edit_work.specs.References.{elements_referring, is_touched_id, names_one, referring_first, referring_second}
 use Rattle.edit_work.specs.Work.{referring, referring_to_points}
-use Rattle.reference_reach.specs.Laws.{elements_that, evaluated, other_points}
-use Rattle.reference_reach.specs.TouchedTargets.{has_other_target, is_touched, is_touched_through, refers, refers_through}
+use Rattle.reference_reach.specs.Laws.{elements_where, evaluated, other_points}
+use Rattle.reference_reach.specs.ChangedTargets.{has_other_target, has_changed_target, has_referring_target, refers, refers_through}
 use Rattle.reference_reach.proofs.HolderLaws.{holder-element, holder-listed}
 
 -- Weights of elements.
@@ -182,7 +182,7 @@ module _ (test : ℕ → Bool) (k : ℕ) (passes : test k ≡ true) where
   first-among x xs kept false true is at rest h = second-true (x == k) (is_among kept k) (rest h)
   first-among x xs kept false false is at rest h = rest h
 
-  among-filter : (xs : List ℕ) → is_among xs k ≡ true → is_among (filter test xs) k ≡ true
+  pub among-filter : (xs : List ℕ) → is_among xs k ≡ true → is_among (filter test xs) k ≡ true
   among-filter [] h = h
   among-filter (x ∷ xs) h = first-among x xs (filter test xs) (x == k) (test x) refl refl (among-filter xs) h
 
@@ -203,8 +203,8 @@ module _ (edit : Edit) (before after : KeyedSource) (changed : List ℕ) (distin
   abbrev first : List ℕ
   first = referring_first before after others
 
-  -- an id that is touched is so for the work
-  touched-more : (id : List ℕ) → is_touched (evaluated before) (evaluated after) changed id ≡ true → is_touched_id before after others id ≡ true
+  -- an id with a changed target is touched for the work
+  touched-more : (id : List ℕ) → has_changed_target (evaluated before) (evaluated after) changed id ≡ true → is_touched_id before after others id ≡ true
   touched-more id h = by (has_other_target (evaluated before) (evaluated after) id) (first_holder after.tree id) refl h
     where
       by : (b : Bool) (o : Option ℕ) → first_holder after.tree id ≡ o → (b || option_map_or (is_among changed) o false) ≡ true
@@ -215,10 +215,10 @@ module _ (edit : Edit) (before after : KeyedSource) (changed : List ℕ) (distin
           second-true (option_map_or (is_among others) (first_holder before.tree id) false) (is_among others k) (points k (holder-element id after.tree k distinct at) h)
 
   refers-more : (k : ℕ) → refers (evaluated before) (evaluated after) changed k ≡ true → list_any (is_touched_id before after others) (references_held after k) ≡ true
-  refers-more k h = list-any-more (is_touched (evaluated before) (evaluated after) changed) (is_touched_id before after others) touched-more (references_held after k) h
+  refers-more k h = list-any-more (has_changed_target (evaluated before) (evaluated after) changed) (is_touched_id before after others) touched-more (references_held after k) h
 
-  -- and so is one whose target refers to a touched one
-  through-more : (id : List ℕ) → is_touched_through (evaluated before) (evaluated after) changed id ≡ true → names_one before after first id ≡ true
+  -- and one whose target refers to such an id names one of the elements that refer first
+  through-more : (id : List ℕ) → has_referring_target (evaluated before) (evaluated after) changed id ≡ true → names_one before after first id ≡ true
   through-more id h = by (first_holder after.tree id) refl h
     where
       by : (o : Option ℕ) → first_holder after.tree id ≡ o → option_map_or (refers (evaluated before) (evaluated after) changed) o false ≡ true
@@ -231,11 +231,11 @@ module _ (edit : Edit) (before after : KeyedSource) (changed : List ℕ) (distin
           (among-filter tests k (refers-more k h) (elements_in after.tree) (holder-listed id after.tree k at)))
 
   refers-through-more : (k : ℕ) → refers_through (evaluated before) (evaluated after) changed k ≡ true → list_any (names_one before after first) (references_held after k) ≡ true
-  refers-through-more k h = list-any-more (is_touched_through (evaluated before) (evaluated after) changed) (names_one before after first) through-more (references_held after k) h
+  refers-through-more k h = list-any-more (has_referring_target (evaluated before) (evaluated after) changed) (names_one before after first) through-more (references_held after k) h
 
   pub referring-pays : let w : ℕ → ℕ = weight before after in
-      (sum_by w (elements_that (refers (evaluated before) (evaluated after) changed) after)
-      + sum_by w (elements_that (refers_through (evaluated before) (evaluated after) changed) after))
+      (sum_by w (elements_where (refers (evaluated before) (evaluated after) changed) after)
+      + sum_by w (elements_where (refers_through (evaluated before) (evaluated after) changed) after))
       ≤ sum_by w (referring edit before after)
   unfolding referring
   referring-pays =

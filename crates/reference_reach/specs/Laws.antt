@@ -2,7 +2,7 @@
 use Rattle.std.specs.Prelude.{◌≡◌, ◌≢◌, ◌+◌, ◌≤◌, ◌||◌, ℕ, Bool, true, false, List, ◌++◌, IsSome, filter, sum_by}
 use Rattle.forest.specs.Forest.{Forest}
 use Rattle.forest.specs.Keys.{Keyed, HasDistinctKeys}
-use Rattle.forest.specs.Spots.{children_of}
+use Rattle.forest.specs.Spots.{IsLive, children_of}
 use Rattle.plain_types.specs.declared.counter_style.CounterStyle.{CounterStyle}
 use Rattle.plain_types.specs.declared.edit.Edit.{Edit}
 use Rattle.plain_types.specs.declared.node.Node.{Node}
@@ -14,14 +14,16 @@ use Rattle.generated_texts.specs.Documents.{agent_sheet}
 use Rattle.generated_texts.specs.References.{characters_in, first_holder, kept_at}
 use Rattle.merged_walk.specs.Laws.{Merges}
 use Rattle.merged_walk.specs.Merges.{Merge}
+use Rattle.merged_walk.specs.Stops.{stops_of}
+use Rattle.edit_merge.specs.EditMerges.{is_element}
 use Rattle.style_reach.specs.Reaches.{all_features}
 use Rattle.style_reach.specs.declared.extent.Reach.TheVariants.{All}
 use Rattle.styled_merge.specs.Reached.{reached_merge}
 use Rattle.edit_work.specs.KeyedSources.{KeyedSource, author, elements_in, is_among, records, weight}
 use Rattle.edit_work.specs.Laws.{OfEachEdit}
 use Rattle.edit_work.specs.Work.{around_places, differing, edit_reach, in_scopes, placed, referring}
-use Rattle.reference_reach.specs.MergedNodes.{IsLeftAlone, entered_elements}
-use Rattle.reference_reach.specs.TouchedTargets.{Evaluated, entries_in, is_touched, is_touched_through, known_in, refers, refers_through}
+use Rattle.reference_reach.specs.MergedNodes.{IsLeftAlone, elements_at_stops, entered_elements}
+use Rattle.reference_reach.specs.ChangedTargets.{Evaluated, entries_in, has_changed_target, has_referring_target, known_in, refers, refers_through}
 
 -- Trees.
 
@@ -43,6 +45,14 @@ TreesUnderStay =
     OfEachMerge (λ merge old new. HasDistinctKeys old → HasDistinctKeys new
     → (key : ℕ) → IsSome (name_of new key) → is_among (entered_elements merge) key ≡ false → HasSameUnder old new key)
 
+-- the stops of a merge tell which elements it enters
+abbrev pub StopsTellEntered : Type 0
+StopsTellEntered = OfEachMerge (λ merge old new. HasDistinctKeys new → entered_elements merge ≡ elements_at_stops new (stops_of is_element 0 merge))
+
+-- and these elements stand in the new forest
+abbrev pub EnteredAreLive : Type 0
+EnteredAreLive = OfEachMerge (λ merge old new. (key : ℕ) → is_among (entered_elements merge) key ≡ true → IsLive new key)
+
 -- Texts.
 
 -- The merge is that of two documents. What is said of an element of the second one is as before, unless the element is
@@ -60,36 +70,46 @@ OfEachPair law =
     (table : List CounterStyle) (merge : Merge Node) (visited : List ℕ) (before after : Evaluated) → LeadsBy merge visited before after
     → law table before after visited (visited ++ entered_elements merge)
 
--- the same is known of an id that is not touched, its flat texts left out
+-- the same is known of an id without a changed target, its flat texts left out
 abbrev pub TargetsAgreeBelow : Type 0
 TargetsAgreeBelow =
-    OfEachPair (λ table before after visited changed. (id : List ℕ) → is_touched before after changed id ≡ false
+    OfEachPair (λ table before after visited changed. (id : List ℕ) → has_changed_target before after changed id ≡ false
     → AgreeBelow (known_in table before) (known_in table after) id)
 
--- neither the id is touched nor one to which its target refers
-pub record IsUntouched (before after : Evaluated) (changed : List ℕ) (id : List ℕ) : Type 0 where
-  pub itself : is_touched before after changed id ≡ false
-  pub through : is_touched_through before after changed id ≡ false
+-- neither the id has a changed target, nor one to which its target refers
+pub record KeepsTarget (before after : Evaluated) (changed : List ℕ) (id : List ℕ) : Type 0 where
+  pub itself : has_changed_target before after changed id ≡ false
+  pub through : has_referring_target before after changed id ≡ false
 
 -- then its flat texts are the same too
 abbrev pub TargetsAgree : Type 0
 TargetsAgree =
-    OfEachPair (λ table before after visited changed. (id : List ℕ) → IsUntouched before after changed id
+    OfEachPair (λ table before after visited changed. (id : List ℕ) → KeepsTarget before after changed id
     → AgreeOn (known_in table before) (known_in table after) id)
 
--- the flat text of a box none of whose pieces refers to a touched id
+-- the flat text of a box none of whose pieces refers to an id with a changed target
 abbrev pub FlatTextsStay : Type 0
 FlatTextsStay =
     OfEachPair (λ table before after visited changed. (pieces : List Piece)
-    → OfEachReference (λ id. is_touched before after changed id ≡ false) pieces
+    → OfEachReference (λ id. has_changed_target before after changed id ≡ false) pieces
     → flat_text table (known_in table before) pieces ≡ flat_text table (known_in table after) pieces)
 
--- the full text of a box whose pieces refer to untouched ids alone
+-- the full text of a box whose pieces refer to ids alone that keep their targets so
 abbrev pub FullTextsStay : Type 0
 FullTextsStay =
     OfEachPair (λ table before after visited changed. (pieces : List Piece)
-    → OfEachReference (IsUntouched before after changed) pieces
+    → OfEachReference (KeepsTarget before after changed) pieces
     → full_text table (known_in table before) pieces ≡ full_text table (known_in table after) pieces)
+
+-- Which elements refer to ids with changed targets, and which through these, rests on which elements are changed, however
+-- these are listed.
+pub record RefersTheSame (before after : Evaluated) (changed listed : List ℕ) (key : ℕ) : Type 0 where
+  pub first : refers before after changed key ≡ refers before after listed key
+  pub second : refers_through before after changed key ≡ refers_through before after listed key
+
+abbrev pub ReferringRestsOnElements : Type 0
+ReferringRestsOnElements =
+    (before after : Evaluated) (changed listed : List ℕ) → ((key : ℕ) → is_among changed key ≡ is_among listed key) → (key : ℕ) → RefersTheSame before after changed listed key
 
 -- Entries.
 
@@ -112,23 +132,28 @@ abbrev pub evaluated : KeyedSource → Evaluated
 evaluated source = record { tree = source.tree; said = records source }
 
 -- the elements of a document of which this holds, in tree order
-abbrev pub elements_that : (ℕ → Bool) → KeyedSource → List ℕ
-elements_that are source = filter are (elements_in source.tree)
+abbrev pub elements_where : (ℕ → Bool) → KeyedSource → List ℕ
+elements_where are source = filter are (elements_in source.tree)
 
 -- the points of an edit's work but for the last, which is that of references
 abbrev pub other_points : Edit → (before after : KeyedSource) → List ℕ
 other_points edit before after = placed edit before after ++ (differing edit before after ++ (in_scopes edit before after ++ around_places edit before after))
 
--- Where each changed element falls under another point of an edit's work, the elements whose texts are made again since
--- they refer weigh no more than the point of references.
+-- The elements that refer to what these changed elements are the targets of, and those that refer to such elements, weigh no
+-- more than the point of references.
+abbrev pub IsPaidByReferring : Edit → (before after : KeyedSource) → (changed : List ℕ) → Type 0
+IsPaidByReferring edit before after changed =
+    let old : Evaluated = evaluated before in
+    let new : Evaluated = evaluated after in
+    let w : ℕ → ℕ = weight before after in
+    (sum_by w (elements_where (refers old new changed) after) + sum_by w (elements_where (refers_through old new changed) after)) ≤ sum_by w (referring edit before after)
+
+-- So it is where each changed element falls under another point of an edit's work.
 abbrev pub ReferringIsPaid : Type 0
 ReferringIsPaid =
     (edit : Edit) (before after : KeyedSource) (changed : List ℕ) → HasDistinctKeys after.tree
     → ((key : ℕ) → IsSome (name_of after.tree key) → is_among changed key ≡ true → is_among (other_points edit before after) key ≡ true)
-    → let old : Evaluated = evaluated before in
-    let new : Evaluated = evaluated after in
-    let w : ℕ → ℕ = weight before after in
-    (sum_by w (elements_that (refers old new changed) after) + sum_by w (elements_that (refers_through old new changed) after)) ≤ sum_by w (referring edit before after)
+    → IsPaidByReferring edit before after changed
 
 -- Where an edit does not reach everywhere, what its merge enters falls under "placed" or "around places", once what it
 -- reaches goes and comes.

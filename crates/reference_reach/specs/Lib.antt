@@ -1,3 +1,5 @@
-pub mod TouchedTargets
+pub mod ChangedTargets
 pub mod MergedNodes
+pub mod ExchangedNodes
 pub mod Laws
+pub mod ToldLaws

@@ -1,10 +1,16 @@
 -- What the merge of a document before and after an edit says of its nodes (our own).
-use Rattle.std.specs.Prelude.{◌≡◌, ℕ, Bool, false, List, [], ◌∷◌, ◌++◌, if◌then◌else◌}
+use Rattle.std.specs.Prelude.{◌≡◌, ℕ, Bool, false, List, [], ◌∷◌, ◌++◌, Option, if◌then◌else◌, flat_map}
 use Rattle.std.specs.List.{list_any}
+use Rattle.std.specs.Option.{option_to_list}
 use Rattle.forest.specs.Forest.{Forest, Empty, Tree, labels}
 use Rattle.forest.specs.Keys.{Keyed}
+use Rattle.forest.specs.Spots.{on_link}
 use Rattle.plain_types.specs.declared.node.Node.{Node}
+use Rattle.node_arena.specs.Changes.{alone}
 use Rattle.generated_texts.specs.References.{has_id}
+use Rattle.merged_walk.specs.declared.stop.Stop.{Stop}
+use Rattle.merged_walk.specs.declared.stop.Way.{Way}
+use Rattle.merged_walk.specs.declared.stop.Way.TheVariants.{Past, Inside, Anew}
 use Rattle.merged_walk.specs.Merges.{Merge, End, Kept, Turned, Gone, Come, has_place}
 use Rattle.edit_work.specs.KeyedSources.{elements_in}
 
@@ -16,6 +22,16 @@ entered_elements (Kept node children after) =
 entered_elements (Turned was node children after) = node.key ∷ (entered_elements children ++ entered_elements after)
 entered_elements (Gone node children after) = entered_elements after
 entered_elements (Come node children after) = elements_in (Tree node children Empty) ++ entered_elements after
+
+-- The same, told by the stops of a walk: the nodes that it goes into, and what it evaluates anew.
+
+abbrev pub elements_by : Forest (Keyed Node) → Way → (link : Option ℕ) → List ℕ
+elements_by new Past link = []
+elements_by new Inside link = option_to_list link
+elements_by new Anew link = elements_in (alone (on_link new link))
+
+abbrev pub elements_at_stops : Forest (Keyed Node) → List Stop → List ℕ
+elements_at_stops new stops = flat_map (λ (stop : Stop). elements_by new stop.way stop.link) stops
 
 module _ (id : List ℕ) where
   -- a node in trees has the id

@@ -11,9 +11,9 @@
 //!
 //! | Of the document after the edit | Word |
 //! |---|---|
-//! | an id has another target than before, or a changed one | `is_touched` |
+//! | an id has another target than before, or a changed one | `has_changed_target` |
 //! | an element refers to such an id: its flat texts can be other ones, and its full texts | `refers` |
-//! | the target of an id refers to a touched one | `is_touched_through` |
+//! | the target of an id refers to one with a changed target | `has_referring_target` |
 //! | an element refers to such an id: its full texts can be other ones | `refers_through` |
 //! | an element is visited, or one of these two hold of it | `is_renewed` |
 //!
@@ -22,12 +22,17 @@
 //!
 //! * An id has the same target as before where no node that goes or comes has it. [`laws::targets_stay`]
 //! * A node that stays has the same characters under it where no place is.
-//! * Of the target of an id that is not touched the same counters and characters are known, and the same flat texts where
-//!   the target refers to no touched id. [`laws::known_targets_agree`]
+//! * Of the target of an id that keeps it unchanged the same counters and characters are known, and the same flat texts where
+//!   the target refers to no id with a changed one. [`laws::known_targets_agree`]
 //! * So texts stay ([`laws::texts_stay`]), and so does what is kept of an element that is not renewed.
 //!   [`laws::entries_stay`]
 //! * The elements of which `refers` or `refers_through` holds weigh no more than the work of the edit says under
 //!   "referring", where each changed element falls under another point. [`laws::work_pays_for_references`]
+//! * A walk over the merge of an edit may pass an element that the merge does not enter, and that has the inputs which it
+//!   had: the same is told of it. [`laws::passed_elements_stay`]
+//! * So an element of which something else is told falls under a point of the edit's work. Changes that cover all that is
+//!   told of the document after the edit lead from one to the other, and where each is told anew, the work pays for the
+//!   elements that refer to what they change. [`laws::walks_lead`]
 //!
 //! # An example
 //!
@@ -57,10 +62,10 @@
 //!
 //! | Id | Its target | What is known of it |
 //! |---|---|---|
-//! | `one` | 4 is changed: the id is touched | the number 2, before it 1 |
-//! | `two` | 6 is changed: the id is touched | the number 1, before it 2. No element refers to it |
+//! | `one` | 4 is changed: so is the target of the id | the number 2, before it 1 |
+//! | `two` | 6 is changed: so is the target of the id | the number 1, before it 2. No element refers to it |
 //! | `three` | 7 is not changed | the number 3, as before |
-//! | `r` | 1 is not changed, but refers to a touched id | the same counters and characters, but another text of its after box |
+//! | `r` | 1 is not changed, but refers to an id with a changed target | the same counters and characters, but another text of its after box |
 //!
 //! | Element | Refers to | Its text |
 //! |---|---|---|
@@ -73,9 +78,10 @@
 //!
 //! # What the layers above cite
 //!
-//! In contracts: `Evaluated`, `known_in`, `entries_in`, `is_touched`, `refers`, `is_touched_through` and `refers_through`
-//! (`specs/TouchedTargets.antt`), `entered_elements` and `IsLeftAlone` (`MergedNodes.antt`), `LeadsBy`, `IsUntouched` and
-//! `is_renewed` (`Laws.antt`). In proofs: the laws, by the lemmas of `proofs/LawLemmas.antt`.
+//! In contracts: `Evaluated`, `known_in`, `entries_in`, `has_changed_target`, `refers`, `has_referring_target` and
+//! `refers_through` (`specs/ChangedTargets.antt`), `entered_elements` and `IsLeftAlone` (`MergedNodes.antt`), `LeadsBy`,
+//! `KeepsTarget` and `is_renewed` (`Laws.antt`), `IsPassed` and `AreNews` (`ToldLaws.antt`), `elements_at_stops` (`MergedNodes.antt`). In proofs: the laws, by the lemmas of
+//! `proofs/LawLemmas.antt`. The examples, with one more, are computed in `proofs/Examples.antt`.
 #![tactic(auto)]
 
 pub mod laws;

@@ -1,0 +1,4 @@
+pub mod Indexes
+pub mod Former
+pub mod Found
+pub mod References

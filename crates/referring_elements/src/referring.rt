@@ -1,0 +1,166 @@
+//! The elements whose texts an edit can change, beside those that it changes itself.
+
+ghost use Rattle.std.specs.Prelude.{◌≡◌, ◌||◌, ◌&&◌, ℕ, List, codes, IfOk, OnOk};
+ghost use Rattle.std.specs.List.{list_any};
+ghost use Rattle.std.specs.Str.{chars};
+ghost use Rattle.forest.specs.Spots.{IsLive};
+ghost use Rattle.box_eval.specs.declared.element_record.ElementRecord.{ElementRecord};
+ghost use Rattle.edit_work.specs.KeyedSources.{is_among};
+ghost use Rattle.target_index.specs.Holders.{is_reference};
+ghost use Rattle.reference_reach.specs.ChangedTargets.{Evaluated, refers, refers_through};
+ghost use Rattle.referring_elements.specs.Former.{AreFormerTargets, is_former};
+ghost use Rattle.referring_elements.specs.Found.{is_found, is_named, refers_anew, refers_by_id};
+ghost use Rattle.referring_elements.specs.Indexes.{AreLive, AreReferencesLive, IsIndexOf, TellsReferences};
+
+use crate::elements::Elements;
+use crate::former::FormerTarget;
+use crate::holders::first_holder;
+use node_arena::arena::Arena;
+use node_arena::laws::arena_holds_document;
+use plain_types::memory::Memory;
+use std::alloc::Global;
+use target_index::index::Index;
+
+/// Adds the elements that refer to an id.
+fn add_references(index: &Index, id: &str, found: &mut Elements) -> Result<(), Memory>
+    ensures ok { OnOk result ((key : ℕ) → is_among found.new key ≡ (is_among found.old key || is_reference index.now (chars id.now) key)) }
+{
+    found.add_all(index.references(id))
+}
+
+/// Whether an id names another element than before, or none any longer.
+fn is_former(arena: &Arena, index: &Index, target: &FormerTarget) -> bool
+    requires indexed { IsIndexOf index.now arena.now.tree }
+    ensures test { result ≡ is_former arena.now.tree target.now }
+{
+    target.element != first_holder(index, arena, target.id.as_str())
+}
+
+/// Adds the elements that refer to an id, where it names another element than before.
+fn add_anew(
+    arena: &Arena,
+    index: &Index,
+    target: &FormerTarget,
+    found: &mut Elements,
+) -> Result<(), Memory>
+    requires indexed { IsIndexOf index.now arena.now.tree }
+    ensures ok { OnOk result ((key : ℕ) → is_among found.new key ≡ (is_among found.old key || refers_anew arena.now.tree index.now key target.now)) }
+{
+    if is_former(arena, index, target) {
+        add_references(index, target.id.as_str(), found)?;
+    }
+    Ok(())
+}
+
+/// Whether an id names this element.
+fn is_named(arena: &Arena, index: &Index, target: usize, id: &str) -> bool
+    requires indexed { IsIndexOf index.now arena.now.tree }
+    ensures test { result ≡ is_named arena.now.tree target (chars id.now) }
+{
+    first_holder(index, arena, id) == Some(target)
+}
+
+/// Adds the elements that refer to an element by its id, where the id names it.
+fn add_by_id(
+    arena: &Arena,
+    index: &Index,
+    target: usize,
+    found: &mut Elements,
+) -> Result<(), Memory>
+    requires indexed { IsIndexOf index.now arena.now.tree }
+    requires live { IsLive arena.now.tree target }
+    ensures ok { OnOk result ((key : ℕ) → is_among found.new key ≡ (is_among found.old key || refers_by_id arena.now.tree index.now key target)) }
+{
+    if let Some(id) = arena.attr(target, "id") {
+        if is_named(arena, index, target, id) {
+            add_references(index, id, found)?;
+        }
+    }
+    Ok(())
+}
+
+/// Adds the elements that refer to one of these by its id.
+fn add_all_by_id(
+    arena: &Arena,
+    index: &Index,
+    targets: &[usize],
+    found: &mut Elements,
+) -> Result<(), Memory>
+    requires indexed { IsIndexOf index.now arena.now.tree }
+    requires live { AreLive arena.now.tree targets.now }
+    ensures ok { OnOk result ((key : ℕ) → is_among found.new key ≡ (is_among found.old key || list_any (refers_by_id arena.now.tree index.now key) targets.now)) }
+{
+    for target in targets {
+        add_by_id(arena, index, *target, found)?;
+    }
+    Ok(())
+}
+
+/// The elements that refer to ids which name other elements than before.
+fn elements_anew(
+    alloc: Global,
+    arena: &Arena,
+    index: &Index,
+    former: &[FormerTarget],
+) -> Result<Elements, Memory>
+    requires indexed { IsIndexOf index.now arena.now.tree }
+    ensures found { IfOk result (λ found. (key : ℕ) → is_among found key ≡ list_any (refers_anew arena.now.tree index.now key) former.now) }
+{
+    let mut found = Elements::new(alloc);
+    for target in former {
+        add_anew(arena, index, target, &mut found)?;
+    }
+    Ok(found)
+}
+
+/// The elements that refer to ids which name other elements than before, or to one of these elements.
+fn found_elements(
+    alloc: Global,
+    arena: &Arena,
+    index: &Index,
+    former: &[FormerTarget],
+    targets: &[usize],
+) -> Result<Elements, Memory>
+    requires indexed { IsIndexOf index.now arena.now.tree }
+    requires live { AreLive arena.now.tree targets.now }
+    ensures found { IfOk result (λ found. (key : ℕ) → is_among found key ≡ is_found arena.now.tree index.now former.now targets.now key) }
+{
+    let mut found = elements_anew(alloc, arena, index, former)?;
+    add_all_by_id(arena, index, targets, &mut found)?;
+    Ok(found)
+}
+
+/// The elements whose texts an edit can change, beside those that it changes.
+#[derive(Drop)]
+pub struct Referring {
+    /// Those that refer to an id with a changed target: their flat texts can be other ones, and their full texts.
+    pub first: Elements,
+    /// Those that refer to an id whose target is one of these: their full texts can be other ones.
+    pub second: Elements,
+}
+
+/// The elements whose texts an edit can change, beside those that it changes: the index is that of the edited document, which
+/// is this. Each element is there once, in the order in which it was found. An id counts where it names another element than
+/// before, or one that is changed: the elements that refer to it may be many where it does not.
+///
+/// It takes memory of these elements, and time in them and in the ids of the former targets, of the changed elements and of
+/// the first elements: it looks up each once, in time in the number of elements that hold the id, for each of them linear in
+/// how deep they are; and it walks nowhere.
+pub fn referring_elements(
+    alloc: Global,
+    arena: &Arena,
+    index: &Index,
+    former: &[FormerTarget],
+    changed: &[usize],
+) -> Result<Referring, Memory>
+    requires indexed { IsIndexOf index.now arena.now.tree }
+    requires references { AreReferencesLive index.now arena.now.tree }
+    requires live { AreLive arena.now.tree changed.now }
+    ensures first { IfOk result (λ found. (before : Evaluated) (said : List (ℕ × ElementRecord)) → let after : Evaluated = record { tree = arena.now.tree; said = said } in AreFormerTargets former.now before after → TellsReferences index.now after → (key : ℕ) → is_among found.first key ≡ refers before after changed.now key) }
+    ensures second { IfOk result (λ found. (before : Evaluated) (said : List (ℕ × ElementRecord)) → let after : Evaluated = record { tree = arena.now.tree; said = said } in AreFormerTargets former.now before after → TellsReferences index.now after → (key : ℕ) → is_among found.second key ≡ refers_through before after changed.now key) }
+{
+    arena_holds_document(arena);
+    let first = found_elements(alloc, arena, index, former, changed)?;
+    let second = found_elements(alloc, arena, index, &[], first.as_slice())?;
+    Ok(Referring { first, second })
+}
