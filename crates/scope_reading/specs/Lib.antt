@@ -1,0 +1,2 @@
+pub mod ScopeChanges
+pub mod Laws
