@@ -6,7 +6,7 @@ use Rattle.edit_script.specs.declared.action.Action.{Action}
 use Rattle.edit_script.specs.declared.keyword.Keyword.{Keyword}
 use Rattle.edit_script.specs.declared.keyword.Keyword.TheVariants.{Insert, Remove, Move, Set, Unset, Sheet, Show}
 use Rattle.edit_script.specs.Machinery.Operands.{AreOperands, of_insert, of_remove, of_move, of_set, of_set_empty, of_unset, of_sheet, of_show, found, keyword_at, keyword_text}
-use Rattle.edit_script.specs.Scripts.{IsCommand, insert_command, remove_command, move_command, set_command, set_empty_command, unset_command, sheet_command, show_command}
+use Rattle.edit_script.specs.Scripts.{IsEditCommand, insert_command, remove_command, move_command, set_command, set_empty_command, unset_command, sheet_command, show_command}
 
 taken : (keyword : Keyword) (line rest : List ℕ) (x : Keyword × List ℕ) → past_text (keyword_text keyword) line ≡ Some rest → found keyword rest ≡ Some x
     → line ≡ keyword_text x.0 ++ x.1
@@ -48,7 +48,7 @@ keyword_again Unset operands = refl
 keyword_again Sheet operands = refl
 keyword_again Show operands = refl
 
-pub command_is : (keyword : Keyword) (operands : List ℕ) (action : Action) → AreOperands keyword operands action → IsCommand (keyword_text keyword ++ operands) action
+pub command_is : (keyword : Keyword) (operands : List ℕ) (action : Action) → AreOperands keyword operands action → IsEditCommand (keyword_text keyword ++ operands) action
 command_is Insert operands action (of_insert parent index markup fragment path position reads) = insert_command parent index markup fragment path position reads
 command_is Remove operands action (of_remove path sound) = remove_command path sound
 command_is Move operands action (of_move from parent index path sound position) = move_command from parent index path sound position
@@ -64,7 +64,7 @@ pub record HasOperands (line : List ℕ) (action : Action) : Type 0 where
   pub parts : line ≡ keyword_text keyword ++ operands
   pub are : AreOperands keyword operands action
 
-pub command_parts : (line : List ℕ) (action : Action) → IsCommand line action → HasOperands line action
+pub command_parts : (line : List ℕ) (action : Action) → IsEditCommand line action → HasOperands line action
 command_parts line action (insert_command parent index markup fragment path position reads) =
     record { keyword = Insert; operands = _; parts = refl; are = of_insert parent index markup fragment path position reads }
 command_parts line action (remove_command path sound) = record { keyword = Remove; operands = _; parts = refl; are = of_remove path sound }
@@ -79,14 +79,14 @@ command_parts line action show_command = record { keyword = Show; operands = [];
 pub command_reads : (line : List ℕ) (action : Action) (is : HasOperands line action) → keyword_at line ≡ Some (is.keyword, is.operands)
 command_reads line action is = ap keyword_at is.parts ∙ keyword_again is.keyword is.operands
 
-pub no_keyword : (line : List ℕ) → keyword_at line ≡ None → (action : Action) → IsCommand line action → ⊥
+pub no_keyword : (line : List ℕ) → keyword_at line ≡ None → (action : Action) → IsEditCommand line action → ⊥
 no_keyword line none action is = let e = sym (command_reads line action (command_parts line action is)) ∙ none in cc
 
-pub found_command : (line operands : List ℕ) (keyword : Keyword) (action : Action) → keyword_at line ≡ Some (keyword, operands) → AreOperands keyword operands action → IsCommand line action
+pub found_command : (line operands : List ℕ) (keyword : Keyword) (action : Action) → keyword_at line ≡ Some (keyword, operands) → AreOperands keyword operands action → IsEditCommand line action
 found_command line operands keyword action read are =
-    subst (λ (t : List ℕ). IsCommand t action) (sym (keyword_takes line (keyword, operands) read)) (command_is keyword operands action are)
+    subst (λ (t : List ℕ). IsEditCommand t action) (sym (keyword_takes line (keyword, operands) read)) (command_is keyword operands action are)
 
-pub command_operands : (line operands : List ℕ) (keyword : Keyword) (action : Action) → keyword_at line ≡ Some (keyword, operands) → IsCommand line action → AreOperands keyword operands action
+pub command_operands : (line operands : List ℕ) (keyword : Keyword) (action : Action) → keyword_at line ≡ Some (keyword, operands) → IsEditCommand line action → AreOperands keyword operands action
 command_operands line operands keyword action read is =
     let parts = command_parts line action is in
     let same : (parts.keyword, parts.operands) ≡ (keyword, operands) = (let e = sym (command_reads line action parts) ∙ read in cc) in

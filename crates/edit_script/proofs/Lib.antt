@@ -1,6 +1,7 @@
 mod CommandLaws
 mod EditLaws
 mod FaultLaws
+mod HistoryLaws
 mod LineLaws
 mod OneLaws
 mod OperandLaws

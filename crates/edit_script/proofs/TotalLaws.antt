@@ -1,5 +1,5 @@
 -- Each text has a reading as a script.
-use Rattle.std.proofs.Common.{◌≡◌, ℕ, zero, suc, ◌+◌, ◌≤◌, false, List, [], ◌∷◌, ◌++◌, length, Option, Some, None, ◌⊎◌, inl, inr, refl, sym, ap, ◌∙◌, arith}
+use Rattle.std.proofs.Common.{◌≡◌, ℕ, zero, suc, ◌+◌, ◌≤◌, false, List, [], ◌∷◌, ◌++◌, length, codes, subst, Option, Some, None, ◌⊎◌, inl, inr, refl, sym, ap, ◌∙◌, arith}
 use Rattle.std.specs.Prelude.{Result, Ok, Err}
 use Rattle.std.specs.Fmt.{decimal}
 use Rattle.std.specs.Str.{bytes_eq}
@@ -23,12 +23,15 @@ use Rattle.xhtml_reader.specs.Readings.{ReadsAsFragment}
 use Rattle.edit_script.specs.Lines.{is_skipped}
 use Rattle.edit_script.specs.Machinery.Operands.{AreOperands, keyword_at, of_show}
 use Rattle.edit_script.specs.Machinery.Words.{AreParts, ArePositions, IsNameAndValue, IsNameText, IsPathText, IsPositionFront, IsPositionText, IsWordAndRest, positions_text, with_value, without_value}
-use Rattle.edit_script.specs.Scripts.{AreCommands, IsCommand, IsFirstBad, ReadsAsScript, bad_here, bad_later, command, command_line, no_line, script_lines, skipped_line}
+use Rattle.edit_script.specs.Scripts.{AreCommands, IsCommand, IsEditCommand, IsFirstBad, IsHistoryCommand, ReadsAsScript, bad_here, bad_later, command, command_line, edit_command, no_line, redo_command, script_lines, skipped_line, undo_command}
 use Rattle.edit_script.specs.declared.action.Action.TheVariants as actions
 use Rattle.edit_script.specs.declared.command.Command.{Command}
 use Rattle.edit_script.specs.declared.keyword.Keyword.{Keyword}
 use Rattle.edit_script.specs.declared.keyword.Keyword.TheVariants.{Insert, Remove, Move, Set, Unset, Sheet, Show}
+use Rattle.edit_script.specs.declared.script_kind.ScriptKind.{ScriptKind}
+use Rattle.edit_script.specs.declared.script_kind.ScriptKind.TheVariants.{Edits, History}
 use Rattle.edit_script.proofs.CommandLaws.{command_operands, found_command, no_keyword}
+use Rattle.edit_script.proofs.HistoryLaws.{only_edit}
 use Rattle.edit_script.proofs.OperandLaws.{insert_index, insert_is, insert_markup, insert_path, insert_rest, insert_split, move_from, move_index, move_is, move_parent, move_rest, move_split, remove_is, remove_path, set_is, set_name, set_path, set_split, sheet_is, sheet_some, show_none, unset_is, unset_name, unset_path, unset_split}
 use Rattle.edit_script.proofs.PathLaws.{front_position, path-deeper, path-positions, path-root}
 use Rattle.edit_script.proofs.WordLaws.{lacks_all, position_digits, position_front, same_position, small, split_finds, split_is}
@@ -184,36 +187,55 @@ operands_decided Show (c ∷ cs) = none (λ action is. let e = show_none (c ∷ 
 
 -- Lines.
 
-command_decided : (line : List ℕ) → Decided (IsCommand line)
-command_decided line = told (keyword_at line) refl
+edit_decided : (line : List ℕ) → Decided (IsEditCommand line)
+edit_decided line = told (keyword_at line) refl
   where
-    told : (o : Option (Keyword × List ℕ)) → keyword_at line ≡ o → Decided (IsCommand line)
+    told : (o : Option (Keyword × List ℕ)) → keyword_at line ≡ o → Decided (IsEditCommand line)
     told None e = none (no_keyword line e)
     told (Some (keyword, operands)) e =
         part_of (operands_decided keyword operands) (λ action is. (action, command_operands line operands keyword action e is))
         (λ action are. found action (found_command line operands keyword action e are))
 
--- the lines, from this number on, are commands, or one is bad
-abbrev LinesRead : ℕ → List (List ℕ) → Type 0
-LinesRead number lines = ((commands : List Command) × AreCommands number lines commands) ⊎ ((bad : ℕ) × IsFirstBad number lines bad)
+history_decided : (line : List ℕ) → Decided (IsHistoryCommand line)
+history_decided line = elim (cases_Bool (bytes_eq line (codes "undo"))) [
+  | inl same ↦ found actions.Undo (subst (λ (t : List ℕ). IsHistoryCommand t actions.Undo) (sym ((bytes_eq-Decides line (codes "undo")).0 same)) undo_command)
+  | inr not_undo ↦ elim (cases_Bool (bytes_eq line (codes "redo"))) [
+    | inl same ↦ found actions.Redo (subst (λ (t : List ℕ). IsHistoryCommand t actions.Redo) (sym ((bytes_eq-Decides line (codes "redo")).0 same)) redo_command)
+    | inr not_redo ↦ part_of (edit_decided line)
+        (λ action is. (
+          action,
+          only_edit line action (not_from_Decides (bytes_eq line (codes "undo")) (bytes_eq-Decides line (codes "undo")) not_undo)
+              (not_from_Decides (bytes_eq line (codes "redo")) (bytes_eq-Decides line (codes "redo")) not_redo) is,
+        ))
+        (λ action is. found action (edit_command is))
+  ]
+]
 
-lines_read : (number : ℕ) (lines : List (List ℕ)) → LinesRead number lines
-lines_read number [] = inl ([], no_line number)
-lines_read number (line ∷ rest) = elim (cases_Bool (is_skipped line)) [
-  | inl skipped ↦ elim (lines_read (number + 1) rest) [
+command_decided : (kind : ScriptKind) (line : List ℕ) → Decided (IsCommand kind line)
+command_decided Edits line = edit_decided line
+command_decided History line = history_decided line
+
+-- the lines, from this number on, are commands, or one is bad
+abbrev LinesRead : ScriptKind → ℕ → List (List ℕ) → Type 0
+LinesRead kind number lines = ((commands : List Command) × AreCommands kind number lines commands) ⊎ ((bad : ℕ) × IsFirstBad kind number lines bad)
+
+lines_read : (kind : ScriptKind) (number : ℕ) (lines : List (List ℕ)) → LinesRead kind number lines
+lines_read kind number [] = inl ([], no_line number)
+lines_read kind number (line ∷ rest) = elim (cases_Bool (is_skipped line)) [
+  | inl skipped ↦ elim (lines_read kind (number + 1) rest) [
     | inl are ↦ inl (are.0, skipped_line skipped are.1)
     | inr bad ↦ inr (bad.0, bad_later (inl skipped) bad.1)
   ]
-  | inr counts ↦ told counts (command_decided line) (lines_read (number + 1) rest)
+  | inr counts ↦ told counts (command_decided kind line) (lines_read kind (number + 1) rest)
 ]
   where
-    told : is_skipped line ≡ false → Decided (IsCommand line) → LinesRead (number + 1) rest → LinesRead number (line ∷ rest)
+    told : is_skipped line ≡ false → Decided (IsCommand kind line) → LinesRead kind (number + 1) rest → LinesRead kind number (line ∷ rest)
     told counts (none lacking) later = inr (number, bad_here (record { counts = counts; none = lacking }))
     told counts (found action is) (inl are) = inl (command number action ∷ are.0, command_line action counts is are.1)
     told counts (found action is) (inr bad) = inr (bad.0, bad_later (inr (action, is)) bad.1)
 
-pub some_reading : (text : List ℕ) → (reading : Result (List Command) ℕ) × ReadsAsScript text reading
-some_reading text = elim (lines_read 1 (script_lines text)) [
+pub some_reading : (kind : ScriptKind) (text : List ℕ) → (reading : Result (List Command) ℕ) × ReadsAsScript kind text reading
+some_reading kind text = elim (lines_read kind 1 (script_lines text)) [
   | inl are ↦ (Ok are.0, are.1)
   | inr bad ↦ (Err bad.0, bad.1)
 ]

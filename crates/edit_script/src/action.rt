@@ -12,4 +12,8 @@ pub enum Action {
     SheetFile(Text),
     /// The document's texts are shown as they then are.
     Show,
+    /// The last accepted edit that is not undone is undone. No script of edits has this.
+    Undo,
+    /// The last edit that was undone is done again. No script of edits has this.
+    Redo,
 }

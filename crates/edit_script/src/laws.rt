@@ -2,23 +2,31 @@
 
 ghost use Rattle.std.specs.Prelude.{◌≡◌, ◌∷◌, [], ℕ, List, Result};
 ghost use Rattle.edit_script.specs.Draws.{quotients};
-ghost use Rattle.edit_script.specs.Scripts.{IsCommand, ReadsAsScript};
+ghost use Rattle.edit_script.specs.Scripts.{IsCommand, IsEditCommand, ReadsAsScript};
 ghost use Rattle.edit_script.specs.declared.action.Action.{Action};
+ghost use Rattle.edit_script.specs.declared.action.Action.TheVariants as actions;
 ghost use Rattle.edit_script.specs.declared.command.Command.{Command};
+ghost use Rattle.edit_script.specs.declared.script_kind.ScriptKind.{ScriptKind};
 
 /// A line is one command at most.
 pub fn one_action()
-    ensures { (line : List ℕ) (action other : Action) → IsCommand line action → IsCommand line other → action ≡ other }
+    ensures { (kind : ScriptKind) (line : List ℕ) (action other : Action) → IsCommand kind line action → IsCommand kind line other → action ≡ other }
+{}
+
+/// No line of a script of edits undoes or redoes one.
+pub fn edits_stay_done()
+    ensures undo { (line : List ℕ) → IsEditCommand line actions.Undo → ⊥ }
+    ensures redo { (line : List ℕ) → IsEditCommand line actions.Redo → ⊥ }
 {}
 
 /// Each text has a reading: it is a script of some commands, or it has a first bad line.
 pub fn some_reading()
-    ensures { (text : List ℕ) → (reading : Result (List Command) ℕ) × ReadsAsScript text reading }
+    ensures { (kind : ScriptKind) (text : List ℕ) → (reading : Result (List Command) ℕ) × ReadsAsScript kind text reading }
 {}
 
 /// A text is a script of one list of commands, or has one first bad line, and not both.
 pub fn one_reading()
-    ensures { (text : List ℕ) (reading other : Result (List Command) ℕ) → ReadsAsScript text reading → ReadsAsScript text other → reading ≡ other }
+    ensures { (kind : ScriptKind) (text : List ℕ) (reading other : Result (List Command) ℕ) → ReadsAsScript kind text reading → ReadsAsScript kind text other → reading ≡ other }
 {}
 
 /// The first quotients of the seed 1, by which a run can be worked out by hand.

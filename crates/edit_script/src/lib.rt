@@ -4,12 +4,13 @@
 //! number of the first line that is neither skipped nor a command. A line is a keyword and its operands, with
 //! one space between two words; the last operand of `insert`, `set` and `sheet` is the rest of the line as it
 //! stands. A script is read before anything is done: whether an edit has its place, and whether a file is
-//! there, only the run of the script tells.
+//! there, only the run of the script tells. [`read_history_script`] reads a script that may have the lines `undo`
+//! and `redo` besides; in a script of edits these are bad lines.
 //!
-//! The layer above knows this by `IsScript text commands`, that the text is a script of these commands, and
-//! `FailsAsScript text number`, that it is none and its first bad line has this number (`specs/Scripts.antt`);
-//! `IsCommand line action` has the form of each command. [`laws`] says that each text reads in one way, and in
-//! one only.
+//! The layer above knows this by `IsScript kind text commands`, that the text is a script of this kind and these
+//! commands, and `FailsAsScript kind text number`, that it is none and its first bad line has this number
+//! (`specs/Scripts.antt`); `IsEditCommand line action` and `IsHistoryCommand line action` have the form of each
+//! command. [`laws`] says that each text reads in one way, and in one only.
 //!
 //! ```text
 //! let commands = read_script(alloc, "set /0 class x\n\nshow\n")?;    // two commands, of lines 1 and 3
@@ -37,9 +38,10 @@ mod made_edits;
 mod operands;
 mod path;
 mod script;
+pub mod script_kind;
 mod sections;
 mod texts;
 pub mod words;
 
 pub use generator::generate;
-pub use script::read_script;
+pub use script::{read_history_script, read_script};

@@ -3,6 +3,7 @@ use Rattle.std.proofs.Common.{◌≡◌, ◌∙◌, ℕ, List, Option, Result, s
 use Rattle.std.specs.Prelude.{Some, None, Ok, Err}
 use Rattle.edit_script.specs.Scripts.{ReadsAsScript}
 use Rattle.edit_script.specs.declared.command.Command.{Command}
+use Rattle.edit_script.specs.declared.script_kind.ScriptKind.TheVariants.{Edits}
 use Rattle.edit_script.proofs.TotalLaws.{some_reading}
 use Rattle.ports.specs.Files.{Files}
 use Rattle.xhtml_reader.specs.Readings.{ReadsAsDocument}
@@ -53,8 +54,8 @@ some_script files document sheet script = by (text_in (Word 3) (files script)) r
   where
     by : (given : Result (List ℕ) Status) → text_in (Word 3) (files script) ≡ given → (reading : Result (List Command) ℕ) × ScriptReadsAs files document sheet script reading
     by (Ok text) is =
-        let found = some_reading text in
-        (found.0, λ other style lines first second third. let known : text ≡ lines = cc (sym is ∙ third) in subst (λ t. ReadsAsScript t found.0) known found.1)
+        let found = some_reading Edits text in
+        (found.0, λ other style lines first second third. let known : text ≡ lines = cc (sym is ∙ third) in subst (λ t. ReadsAsScript Edits t found.0) known found.1)
     by (Err refusal) is = (Err 1, λ other style lines first second third. absurd (cc (sym is ∙ third)))
 
 pub some_readings : (words : List (List ℕ)) (files : Files) (form : Option Form) → ReadsAsForm words form → (readings : Readings) × AreReadings words files readings

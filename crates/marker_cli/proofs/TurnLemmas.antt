@@ -6,8 +6,10 @@ use Rattle.std.specs.Str.{chars, is_utf8}
 use Rattle.std.specs.Str.Lossy.{utf8_valid_len}
 use Rattle.edit_script.specs.Scripts.{AreCommands, ReadsAsScript, command_line, no_line, skipped_line}
 use Rattle.edit_script.specs.declared.action.Action.{Action}
-use Rattle.edit_script.specs.declared.action.Action.TheVariants.{Change, SheetFile, Show}
+use Rattle.edit_script.specs.declared.action.Action.TheVariants.{Change, SheetFile, Show, Undo, Redo}
 use Rattle.edit_script.specs.declared.command.Command.{Command}
+use Rattle.edit_script.specs.declared.script_kind.ScriptKind.{ScriptKind}
+use Rattle.edit_script.specs.declared.script_kind.ScriptKind.TheVariants.{Edits}
 use Rattle.forest.specs.Forest.{Forest}
 use Rattle.generated_texts.specs.Lines.{fresh_dump}
 use Rattle.marker_engine.specs.Edited.{edited}
@@ -82,6 +84,8 @@ turns_action : (files : Files) (name : FileAt → List ℕ) (number : ℕ) (acti
 turns_action files name number (Change change) source next is follows = turns_edit files name number source (edited source change) next follows
 turns_action files name number (SheetFile file) source next is follows = turns_text files name (Line number) _ file is (λ text found. follows _)
 turns_action files name number Show source next is follows = at_bytes _ (follows source)
+turns_action files name number Undo source next is follows = at_bytes _ (follows source)
+turns_action files name number Redo source next is follows = at_bytes _ (follows source)
 
 turns_play : (files : Files) (name : FileAt → List ℕ) (commands : List Command) (source : Source) → AreNamed name commands → AreTurns files name (play files commands source)
 turns_play files name [] source named = at_end _ (λ file fault. cc fault)
@@ -95,7 +99,7 @@ other_line number other more = grind (arith, more)
 same_line : (number : ℕ) → (number == number) ≡ true
 same_line number = grind arith
 
-named_from : {number : ℕ} {lines : List (List ℕ)} {commands : List Command} (name : FileAt → List ℕ) → AreCommands number lines commands
+named_from : {kind : ScriptKind} {number : ℕ} {lines : List (List ℕ)} {commands : List Command} (name : FileAt → List ℕ) → AreCommands kind number lines commands
     → ((line : ℕ) → number ≤ line → name (Line line) ≡ sheet_name commands line) → AreNamed name commands
 named_from name (no_line number) same = tt
 named_from {number} name (skipped_line skipped rest) same = named_from name rest (λ line more. same line (omega (arith, more)))
@@ -118,13 +122,13 @@ module _ (files : Files) (name : FileAt → List ℕ) where
   turns_table : (sheet style : List ℕ) (from to : ℤ) → name (Word 1) ≡ sheet → AreTurns files name (table_output files sheet style from to)
   turns_table sheet style from to first = turns_text files name (Word 1) _ sheet first (λ text found. at_bytes _ (at_end _ (λ file fault. cc fault)))
 
-  turns_commands : (lines : List ℕ) (style : List ℕ) (tree : Forest Node) (read : Result (List Command) ℕ) → ReadsAsScript lines read
+  turns_commands : (lines : List ℕ) (style : List ℕ) (tree : Forest Node) (read : Result (List Command) ℕ) → ReadsAsScript Edits lines read
       → ((line : ℕ) → name (Line line) ≡ sheet_name (commands_in read) line)
       → AreTurns files name (goes_on (commands_of read) (λ commands. play files commands (record { tree = tree; sheet = style })))
   turns_commands lines style tree (Ok commands) reads named = turns_play files name commands _ (named_from name reads (λ line more. named line))
   turns_commands lines style tree (Err number) reads named = at_end _ (λ file fault. cc fault)
 
-  turns_tree : (lines : List ℕ) (style : List ℕ) (reading : Reading) (read : Result (List Command) ℕ) → ReadsAsScript lines read
+  turns_tree : (lines : List ℕ) (style : List ℕ) (reading : Reading) (read : Result (List Command) ℕ) → ReadsAsScript Edits lines read
       → ((line : ℕ) → name (Line line) ≡ sheet_name (commands_in read) line)
       → AreTurns files name (goes_on (tree_of reading) (λ tree.
       goes_on (commands_of read) (λ commands. play files commands (record { tree = tree; sheet = style }))))

@@ -3,8 +3,9 @@ use Rattle.std.specs.Prelude.{◌≡◌, ℕ, List, [], ◌∷◌, ◌++◌, Res
 use Rattle.std.specs.Fmt.{decimal}
 use Rattle.edit_script.specs.Scripts.{ReadsAsScript}
 use Rattle.edit_script.specs.declared.action.Action.{Action}
-use Rattle.edit_script.specs.declared.action.Action.TheVariants.{Change, SheetFile, Show}
+use Rattle.edit_script.specs.declared.action.Action.TheVariants.{Change, SheetFile, Show, Undo, Redo}
 use Rattle.edit_script.specs.declared.command.Command.{Command}
+use Rattle.edit_script.specs.declared.script_kind.ScriptKind.TheVariants.{Edits}
 use Rattle.generated_texts.specs.Lines.{fresh_dump}
 use Rattle.marker_engine.specs.Edited.{edited}
 use Rattle.marker_engine.specs.Engines.{Source}
@@ -23,7 +24,7 @@ use Rattle.marker_cli.specs.Turns.{text_in, with_text}
 abbrev pub ScriptReadsAs : Files → (document sheet script : List ℕ) → Result (List Command) ℕ → Type 0
 ScriptReadsAs files document sheet script reading =
     (text style lines : List ℕ) → text_in (Word 1) (files document) ≡ Ok text → text_in (Word 2) (files sheet) ≡ Ok style
-    → text_in (Word 3) (files script) ≡ Ok lines → ReadsAsScript lines reading
+    → text_in (Word 3) (files script) ≡ Ok lines → ReadsAsScript Edits lines reading
 
 -- the commands of a script, or the status with which it ends the run
 abbrev pub commands_of : Result (List Command) ℕ → Result (List Command) Status
@@ -44,6 +45,10 @@ refusal IntoItself = codes " into-itself\n"
 abbrev pub refused : ℕ → PlaceFault → List ℕ
 refused number fault = codes "refused " ++ (decimal number ++ refusal fault)
 
+-- the line about an `undo` or a `redo` that finds nothing
+abbrev pub nothing : ℕ → List ℕ
+nothing number = codes "refused " ++ (decimal number ++ codes " nothing\n")
+
 -- What the commands do.
 
 -- an accepted edit leaves the edited document and sheet, a refused one those that were there
@@ -59,6 +64,9 @@ abbrev pub action_output : Files → ℕ → Action → Source → (Source → O
 action_output files number (Change edit) source next = after_edit number source (edited source edit) next
 action_output files number (SheetFile name) source next = with_text files (Line number) name (λ text. next (with_sheet text source))
 action_output files number Show source next = writes (shown number source) (next source)
+-- nothing is kept of what was there before an edit, and a script of edits has no such line
+action_output files number Undo source next = writes (nothing number) (next source)
+action_output files number Redo source next = writes (nothing number) (next source)
 
 -- all of them, in their order
 abbrev pub play : Files → List Command → Source → Output

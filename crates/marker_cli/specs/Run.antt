@@ -2,7 +2,7 @@
 use Rattle.std.specs.Prelude.{◌≡◌, ◌⊎◌, ℕ, ℤ, ◌+◌, List, [], ◌∷◌, length, Option, Some, None, Result, Ok, Err}
 use Rattle.std.specs.Option.{option_map_or}
 use Rattle.edit_script.specs.declared.action.Action.{Action}
-use Rattle.edit_script.specs.declared.action.Action.TheVariants.{Change, SheetFile, Show}
+use Rattle.edit_script.specs.declared.action.Action.TheVariants.{Change, SheetFile, Show, Undo, Redo}
 use Rattle.edit_script.specs.declared.command.Command.{Command}
 use Rattle.ports.specs.Files.{Files}
 use Rattle.marker_cli.specs.declared.status.FileAt.{FileAt}
@@ -76,6 +76,8 @@ abbrev pub action_size : Files → Action → ℕ
 action_size files (Change change) = 0
 action_size files (SheetFile name) = size_of files name
 action_size files Show = 0
+action_size files Undo = 0
+action_size files Redo = 0
 
 abbrev pub commands_size : Files → List Command → ℕ
 commands_size files [] = 0

@@ -9,7 +9,7 @@ ghost use Rattle.ports.specs.Files.{Files};
 ghost use Rattle.ports.specs.Grown.{grown, GrowsByFront};
 ghost use Rattle.marker_cli.specs.declared.status.FileAt.TheVariants.{Line};
 ghost use Rattle.marker_cli.specs.declared.status.Status.TheVariants as status;
-ghost use Rattle.marker_cli.specs.Edit.{action_output, after_edit, play, shown, with_sheet};
+ghost use Rattle.marker_cli.specs.Edit.{action_output, after_edit, nothing, play, shown, with_sheet};
 ghost use Rattle.marker_cli.specs.Ends.{EndsAs, IsCaused, IsPutCaused, IsStop, ReadsFailed, part_status};
 ghost use Rattle.marker_cli.specs.Output.{Output};
 ghost use Rattle.marker_cli.specs.Run.{action_size, commands_size, size_of};
@@ -118,6 +118,16 @@ fn put_shown<O: Sink, L: Ledger>(
     Ok(put_all(out, b"end\n")?)
 }
 
+/// Tells that the `undo` or `redo` of the line of this number finds nothing.
+fn put_nothing<O: Sink>(number: usize, out: &mut O) -> Result<(), Status>
+    ensures ok { OnOk result (O.out out.new ≡ grown (O.out out.old) (nothing number)) }
+    ensures failed { OnErr result (GrowsByFront (O.out out.old) (O.out out.new) (nothing number)) }
+    ensures cause { IsPutCaused (Rose (O.faults out.old) (O.faults out.new)) result }
+    ensures faults { O.faults out.old ≤ O.faults out.new }
+{
+    Ok(put_numbered(b"refused ", number, b" nothing\n", out)?)
+}
+
 /// Does one command.
 fn play_command<S: Shelf, O: Sink, L: Ledger>(
     alloc: Global,
@@ -145,6 +155,8 @@ fn play_command<S: Shelf, O: Sink, L: Ledger>(
         Action::Change(edit) => play_edit(alloc, number, edit, engine, out, steps),
         Action::SheetFile(name) => play_sheet(alloc, number, name.as_str(), engine, shelf, steps),
         Action::Show => put_shown(alloc, number, engine, out, steps),
+        Action::Undo => put_nothing(number, out),
+        Action::Redo => put_nothing(number, out),
     }
 }
 

@@ -3,6 +3,7 @@
 ghost use Rattle.std.specs.Prelude.{◌≡◌, ℕ, IfErr, IfOk, List, Result};
 ghost use Rattle.std.specs.Str.{chars};
 ghost use Rattle.edit_script.specs.Scripts.{ReadsAsScript};
+ghost use Rattle.edit_script.specs.declared.script_kind.ScriptKind.TheVariants.{Edits};
 ghost use Rattle.edit_script.specs.declared.command.Command as command;
 ghost use Rattle.node_arena.specs.Document.{HasElementRoot};
 ghost use Rattle.xhtml_reader.specs.Readings.{ReadsAsDocument};
@@ -36,7 +37,7 @@ pub fn read_tree(alloc: Global, text: &str) -> Result<Tree, Status>
 
 /// The commands of a script.
 pub fn read_commands(alloc: Global, text: &str) -> Result<List<Command>, Status>
-    ensures commands { (reading : Result (List command.Command) ℕ) → ReadsAsScript (chars text.now) reading → Gives (commands_of reading) result }
+    ensures commands { (reading : Result (List command.Command) ℕ) → ReadsAsScript Edits (chars text.now) reading → Gives (commands_of reading) result }
     ensures cause { IsCaused ⊥ ⊥ ⊥ ⊥ (part_status result) }
     ensures file { ¬ (TellsOfLine (part_status result)) }
     ensures stops { IfErr result IsStop }

@@ -6,9 +6,11 @@ use edit_script::action::Action;
 use edit_script::command::Command;
 use edit_script::fault::ScriptFault;
 use edit_script::generator::{GeneratedRun, generate};
-use edit_script::read_script;
+use edit_script::script_kind::ScriptKind;
+use edit_script::{read_history_script, read_script};
 use plain_types::attr::Attr;
 use plain_types::edit::Edit;
+use plain_types::list::List;
 use plain_types::memory::Memory;
 use plain_types::node::NodeView;
 use plain_types::path::Path;
@@ -102,7 +104,7 @@ static BAD_PATHS: [&str; 17] = [
     "move 0 / 0",
 ];
 
-static BAD_WORDS: [&str; 18] = [
+static BAD_WORDS: [&str; 17] = [
     "set /",
     "set / ",
     "set / 1a x",
@@ -119,7 +121,6 @@ static BAD_WORDS: [&str; 18] = [
     "sheet ",
     "shows",
     "Show",
-    "undo",
     "\u{feff}\u{feff}show",
 ];
 
@@ -131,6 +132,27 @@ static BAD_BLANKS: [&str; 7] = [
     "show\u{a0}",
     " # x",
     "\r",
+];
+
+/// In a script of edits these are bad lines.
+static HISTORY: [Told; 6] = [
+    ("undo", "1 undo;"),
+    ("redo", "1 redo;"),
+    ("undo\r\n\nredo\n", "1 undo;3 redo;"),
+    ("show\nundo\nundo\nredo", "1 show;2 undo;3 undo;4 redo;"),
+    ("\u{feff}undo\n#redo", "1 undo;"),
+    ("undo\nredo \n", "bad 2"),
+];
+
+static BAD_HISTORY: [&str; 8] = [
+    "undo ",
+    " undo",
+    "Undo",
+    "undos",
+    "und",
+    "redo 1",
+    "redo\t",
+    "undo redo",
 ];
 
 static FIRST_BAD: [Told; 4] = [
@@ -231,6 +253,8 @@ fn push_action(action: &Action, told: &mut Text) -> Result<(), Memory> {
         Action::Change(edit) => push_change(edit, told),
         Action::SheetFile(name) => push_all(&["sheet ", name.as_str()], told),
         Action::Show => told.push_str("show"),
+        Action::Undo => told.push_str("undo"),
+        Action::Redo => told.push_str("redo"),
     }
 }
 
@@ -244,10 +268,17 @@ fn push_commands(commands: &[Command], told: &mut Text) -> Result<(), Memory> {
     Ok(())
 }
 
+fn read(alloc: Global, kind: ScriptKind, script: &str) -> Result<List<Command>, ScriptFault> {
+    match kind {
+        ScriptKind::Edits => read_script(alloc, script),
+        ScriptKind::History => read_history_script(alloc, script),
+    }
+}
+
 /// The commands of a script, each behind the number of its line; or the number of the bad line.
-fn told(alloc: Global, script: &str) -> Result<Text, Memory> {
+fn told(alloc: Global, kind: ScriptKind, script: &str) -> Result<Text, Memory> {
     let mut out = Text::new(alloc);
-    match read_script(alloc, script) {
+    match read(alloc, kind, script) {
         Ok(commands) => push_commands(commands.as_slice(), &mut out)?,
         Err(ScriptFault::BadLine { number }) => {
             out.push_str("bad ")?;
@@ -258,10 +289,14 @@ fn told(alloc: Global, script: &str) -> Result<Text, Memory> {
     Ok(out)
 }
 
-/// The first script of which something else is told.
-fn first_wrong(alloc: Global, table: &[Told]) -> Result<Option<&'static str>, Memory> {
+/// The first script of this kind of which something else is told.
+fn first_wrong(
+    alloc: Global,
+    kind: ScriptKind,
+    table: &[Told],
+) -> Result<Option<&'static str>, Memory> {
     for (script, expected) in table {
-        if told(alloc, script)?.as_str() != *expected {
+        if told(alloc, kind, script)?.as_str() != *expected {
             return Ok(Some(script));
         }
     }
@@ -270,16 +305,38 @@ fn first_wrong(alloc: Global, table: &[Told]) -> Result<Option<&'static str>, Me
 
 #[test]
 fn scripts(rt: HostRuntime) -> Result<(), Fail> {
-    assert_eq!(rt; first_wrong(rt.alloc(), &FORMS)?, None);
-    assert_eq!(rt; first_wrong(rt.alloc(), &LINES)?, None);
-    assert_eq!(rt; first_wrong(rt.alloc(), &FIRST_BAD)?, None);
+    assert_eq!(rt; first_wrong(rt.alloc(), ScriptKind::Edits, &FORMS)?, None);
+    assert_eq!(rt; first_wrong(rt.alloc(), ScriptKind::Edits, &LINES)?, None);
+    assert_eq!(rt;
+        first_wrong(rt.alloc(), ScriptKind::Edits, &FIRST_BAD)?,
+        None
+    );
     Ok(())
 }
 
-/// The first line that is a command after all.
-fn first_command(alloc: Global, lines: &[&'static str]) -> Result<Option<&'static str>, Memory> {
+#[test]
+fn history_scripts(rt: HostRuntime) -> Result<(), Fail> {
+    assert_eq!(rt; first_wrong(rt.alloc(), ScriptKind::History, &FORMS)?, None);
+    assert_eq!(rt; first_wrong(rt.alloc(), ScriptKind::History, &LINES)?, None);
+    assert_eq!(rt;
+        first_wrong(rt.alloc(), ScriptKind::History, &FIRST_BAD)?,
+        None
+    );
+    assert_eq!(rt;
+        first_wrong(rt.alloc(), ScriptKind::History, &HISTORY)?,
+        None
+    );
+    Ok(())
+}
+
+/// The first line that is a command of a script of this kind after all.
+fn first_command(
+    alloc: Global,
+    kind: ScriptKind,
+    lines: &[&'static str],
+) -> Result<Option<&'static str>, Memory> {
     for line in lines {
-        if told(alloc, line)?.as_str() != "bad 1" {
+        if told(alloc, kind, line)?.as_str() != "bad 1" {
             return Ok(Some(line));
         }
     }
@@ -288,10 +345,34 @@ fn first_command(alloc: Global, lines: &[&'static str]) -> Result<Option<&'stati
 
 #[test]
 fn near_misses(rt: HostRuntime) -> Result<(), Fail> {
-    assert_eq!(rt; first_command(rt.alloc(), &BAD_INSERTS)?, None);
-    assert_eq!(rt; first_command(rt.alloc(), &BAD_PATHS)?, None);
-    assert_eq!(rt; first_command(rt.alloc(), &BAD_WORDS)?, None);
-    assert_eq!(rt; first_command(rt.alloc(), &BAD_BLANKS)?, None);
+    assert_eq!(rt;
+        first_command(rt.alloc(), ScriptKind::Edits, &BAD_INSERTS)?,
+        None
+    );
+    assert_eq!(rt;
+        first_command(rt.alloc(), ScriptKind::Edits, &BAD_PATHS)?,
+        None
+    );
+    assert_eq!(rt;
+        first_command(rt.alloc(), ScriptKind::Edits, &BAD_WORDS)?,
+        None
+    );
+    assert_eq!(rt;
+        first_command(rt.alloc(), ScriptKind::Edits, &BAD_BLANKS)?,
+        None
+    );
+    assert_eq!(rt;
+        first_command(rt.alloc(), ScriptKind::Edits, &["undo", "redo"])?,
+        None
+    );
+    assert_eq!(rt;
+        first_command(rt.alloc(), ScriptKind::Edits, &BAD_HISTORY)?,
+        None
+    );
+    assert_eq!(rt;
+        first_command(rt.alloc(), ScriptKind::History, &BAD_HISTORY)?,
+        None
+    );
     Ok(())
 }
 

@@ -1,6 +1,7 @@
 use Rattle.std.proofs.Common.{ap}
 use Rattle.std.specs.Prelude.{Ok, Err}
 use Rattle.std.specs.Str.{chars}
+use Rattle.edit_script.specs.declared.script_kind.ScriptKind.TheVariants.{Edits}
 use Rattle.marker_cli.specs.Edit.{commands_of}
 use Rattle.marker_cli.proofs.FaultLemmas.{commands_caused, commands_file, commands_stops, no_commands}
 use Rattle.marker_cli.proofs.read_texts.read_commands.Goals as goal
@@ -8,7 +9,7 @@ use Rattle.marker_cli.proofs.read_texts.read_commands.Goals as goal
 pub returns-in_err-read_script-clause-commands : goal.returns-in_err-read_script-clause-commands
 returns-in_err-read_script-clause-commands c reading reads =
     no_commands (chars c.args.text.now) reading _ c.from_residual.result c.from_residual.ensures
-    (λ number fails. c.one_reading.ensures (chars c.args.text.now) reading (Err number) reads fails) c.in_err-read_script.ensures.fault
+    (λ number fails. c.one_reading.ensures Edits (chars c.args.text.now) reading (Err number) reads fails) c.in_err-read_script.ensures.fault
 
 pub returns-in_err-read_script-clause-cause : goal.returns-in_err-read_script-clause-cause
 returns-in_err-read_script-clause-cause c = commands_caused _ c.from_residual.result c.from_residual.ensures
@@ -20,4 +21,4 @@ pub returns-in_err-read_script-clause-stops : goal.returns-in_err-read_script-cl
 returns-in_err-read_script-clause-stops c = commands_stops _ c.from_residual.result c.from_residual.ensures
 
 pub returns-clause-commands : goal.returns-clause-commands
-returns-clause-commands c reading reads = ap commands_of (c.one_reading.ensures (chars c.args.text.now) reading (Ok _) reads c.in_ok-read_script.ensures.found)
+returns-clause-commands c reading reads = ap commands_of (c.one_reading.ensures Edits (chars c.args.text.now) reading (Ok _) reads c.in_ok-read_script.ensures.found)
