@@ -5,3 +5,7 @@ pub mod PlaceLaws
 pub mod ValueLaws
 pub mod InverseLaws
 pub mod VersionLaws
+pub mod LedPaths
+pub mod SubtreeLaws
+pub mod NodeFacts
+mod Examples

@@ -1,10 +1,10 @@
 -- Where edits that are kept lead.
-use Rattle.std.proofs.Common.{zero, suc, [], ◌∷◌, refl, sym, ap, ◌∙◌}
+use Rattle.std.proofs.Common.{ℕ, zero, suc, List, [], ◌∷◌, take, refl, sym, ap, subst, ◌∙◌}
 use Rattle.plain_types.specs.declared.edit.Edit.{Edit}
 use Rattle.node_arena.specs.Edits.{edited_sheet}
 use Rattle.same_documents.proofs.SameEdits.{same_edited, same_fault, same_sym}
-use Rattle.edit_inverses.specs.Laws.{FewerLeadToFewer, FewerHavePlaces, InversesLeadBack, IsAllowed, KeptHavePlaces, SameVersionsHavePlaces, SameVersionsLeadToSame}
-use Rattle.edit_inverses.specs.Versions.{IsSameVersion, Version, undoing, version_after}
+use Rattle.edit_inverses.specs.Laws.{InversesLeadBack, IsAllowed, KeptHavePlaces, NewestHavePlaces, NewestLeadBack, PrefixesHavePlaces, PrefixesLeadToPrefixes, SameVersionsHavePlaces, SameVersionsLeadToSame}
+use Rattle.edit_inverses.specs.Versions.{AreSameVersions, IsSameVersion, Version, undoing, version_after, versions_after}
 use Rattle.edit_inverses.proofs.InverseLaws.{inverses_allowed, inverses_undo, inverses_undo_sheets}
 
 after_same : (edit : Edit) (version other : Version) → IsSameVersion version other → IsSameVersion (version_after edit version) (version_after edit other)
@@ -40,12 +40,31 @@ stay_allowed edit kept version allowed were =
       allow_same kept version again (version_sym again version (leads_back edit version allowed)) were,
     )
 
-pub fewer_versions : FewerLeadToFewer
-fewer_versions zero edits version = refl
-fewer_versions (suc count) [] version = refl
-fewer_versions (suc count) (edit ∷ edits) version = ap (λ rest. version_after edit version ∷ rest) (fewer_versions count edits (version_after edit version))
+pub prefix_versions : PrefixesLeadToPrefixes
+prefix_versions zero edits version = refl
+prefix_versions (suc count) [] version = refl
+prefix_versions (suc count) (edit ∷ edits) version = ap (λ rest. version_after edit version ∷ rest) (prefix_versions count edits (version_after edit version))
 
-pub fewer_allowed : FewerHavePlaces
-fewer_allowed zero edits version allowed = tt
-fewer_allowed (suc count) [] version allowed = tt
-fewer_allowed (suc count) (edit ∷ edits) version allowed = (allowed.0, fewer_allowed count edits (version_after edit version) allowed.1)
+pub prefix_places : PrefixesHavePlaces
+prefix_places zero edits version allowed = tt
+prefix_places (suc count) [] version allowed = tt
+prefix_places (suc count) (edit ∷ edits) version allowed = (allowed.0, prefix_places count edits (version_after edit version) allowed.1)
+
+-- prefixes of versions that are the same are the same
+cut_same : (count : ℕ) (versions others : List Version) → AreSameVersions versions others → AreSameVersions (take count versions) (take count others)
+cut_same zero versions others same = tt
+cut_same (suc count) [] [] same = tt
+cut_same (suc count) [] (other ∷ others) same = absurd same
+cut_same (suc count) (version ∷ versions) [] same = absurd same
+cut_same (suc count) (version ∷ versions) (other ∷ others) same = (same.0, cut_same count versions others same.1)
+
+pub newest_back : NewestLeadBack
+newest_back depth edit kept version allowed =
+    let after = version_after edit version in
+    let all : List Edit = undoing edit version ∷ kept in
+    subst (λ versions. AreSameVersions versions (take depth (version ∷ versions_after kept version))) (sym (prefix_versions depth all after))
+    (cut_same depth (versions_after all after) (version ∷ versions_after kept version) (lead_back edit kept version allowed))
+
+pub newest_places : NewestHavePlaces
+newest_places depth edit kept version allowed were =
+    prefix_places depth (undoing edit version ∷ kept) (version_after edit version) (stay_allowed edit kept version allowed were)

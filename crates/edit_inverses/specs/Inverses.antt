@@ -48,6 +48,10 @@ with_value path name (Some value) = SetAttr path name value
 abbrev pub as_it_is : List ℕ → List ℕ → Forest Node → Edit
 as_it_is path name document = with_value path name (value_at path name document)
 
+-- The insertion that undoes a removal: it puts the node, with all that was under it, where it was.
+abbrev pub put_back : List ℕ → Forest Node → Edit
+put_back path document = Insert (parent_path path) (last_position path) (alone (on_path path document))
+
 -- The move that undoes a move: it takes the node from where it came to; the former parent has the path that it has while
 -- the node stands there.
 abbrev pub move_back : List ℕ → List ℕ → Edit
@@ -58,7 +62,7 @@ move_back from there = Move there (once_in there (parent_path from)) (last_posit
 -- it had; and the sheet is that of its text again.
 abbrev pub inverse_of : Edit → Forest Node → List ℕ → Edit
 inverse_of (Insert parent index fragment) document sheet = Remove (child_at parent index)
-inverse_of (Remove path) document sheet = Insert (parent_path path) (last_position path) (alone (on_path path document))
+inverse_of (Remove path) document sheet = put_back path document
 inverse_of (Move from parent index) document sheet = move_back from (child_at (once_out from parent) index)
 inverse_of (SetAttr path name value) document sheet = as_it_is path name document
 inverse_of (UnsetAttr path name) document sheet = as_it_is path name document

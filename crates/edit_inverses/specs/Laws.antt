@@ -65,8 +65,18 @@ abbrev pub KeptHavePlaces : Type 0
 KeptHavePlaces = OfEachKept (λ edit kept version. HavePlaces kept version → HavePlaces (undoing edit version ∷ kept) (version_after edit version))
 
 -- A prefix of the edits leads to the prefix of the versions of that length, and has its places where all have.
-abbrev pub FewerLeadToFewer : Type 0
-FewerLeadToFewer = (count : ℕ) (edits : List Edit) (version : Version) → versions_after (take count edits) version ≡ take count (versions_after edits version)
+abbrev pub PrefixesLeadToPrefixes : Type 0
+PrefixesLeadToPrefixes = (count : ℕ) (edits : List Edit) (version : Version) → versions_after (take count edits) version ≡ take count (versions_after edits version)
 
-abbrev pub FewerHavePlaces : Type 0
-FewerHavePlaces = (count : ℕ) (edits : List Edit) (version : Version) → HavePlaces edits version → HavePlaces (take count edits) version
+abbrev pub PrefixesHavePlaces : Type 0
+PrefixesHavePlaces = (count : ℕ) (edits : List Edit) (version : Version) → HavePlaces edits version → HavePlaces (take count edits) version
+
+-- Where no more edits are kept than a depth allows: after an edit its inverse, and what was kept before it, lead back to the
+-- version before the edit and on from there, cut to the depth.
+abbrev pub NewestLeadBack : Type 0
+NewestLeadBack =
+    (depth : ℕ) → OfEachKept (λ edit kept version. AreSameVersions (versions_after (take depth (undoing edit version ∷ kept)) (version_after edit version)) (take depth (version ∷ versions_after kept version)))
+
+abbrev pub NewestHavePlaces : Type 0
+NewestHavePlaces =
+    (depth : ℕ) → OfEachKept (λ edit kept version. HavePlaces kept version → HavePlaces (take depth (undoing edit version ∷ kept)) (version_after edit version))

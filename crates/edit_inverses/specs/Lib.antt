@@ -1,3 +1,4 @@
+pub mod Places
 pub mod Inverses
 pub mod Versions
 pub mod Laws

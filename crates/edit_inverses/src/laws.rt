@@ -1,6 +1,18 @@
 //! Laws of inverse edits. The functions do nothing: each contract is a law.
 
-ghost use Rattle.edit_inverses.specs.Laws.{FewerLeadToFewer, FewerHavePlaces, InversesAreAllowed, InversesLeadBack, InversesUndo, InversesUndoSheets, KeptHavePlaces, SameVersionsHavePlaces, SameVersionsLeadToSame};
+ghost use Rattle.edit_inverses.specs.Laws.{InsertsTree, InversesAreAllowed, InversesLeadBack, InversesUndo, InversesUndoSheets, KeptHavePlaces, NewestHavePlaces, NewestLeadBack, PrefixesHavePlaces, PrefixesLeadToPrefixes, SameVersionsHavePlaces, SameVersionsLeadToSame};
+
+use plain_types::edit::Edit;
+
+/// What an edit inserts is a tree.
+pub fn edits_insert_trees(edit: &Edit)
+    ensures { InsertsTree edit.now }
+{
+    if let Edit::Insert { fragment, .. } = edit {
+        // The contract of `len` says so.
+        let _count = fragment.len();
+    }
+}
 
 /// What an edit makes of a document allows the edit's inverse.
 pub fn inverses_are_allowed()
@@ -26,8 +38,15 @@ pub fn inverses_lead_back()
     ensures places { KeptHavePlaces }
 {}
 
-/// Where the last of the edits that are kept are dropped, the others lead to the first of the versions.
-pub fn fewer_lead_to_fewer()
-    ensures versions { FewerLeadToFewer }
-    ensures places { FewerHavePlaces }
+/// A prefix of the edits that are kept leads to a prefix of the versions, as long, and has its places where all have.
+pub fn prefixes_lead_to_prefixes()
+    ensures versions { PrefixesLeadToPrefixes }
+    ensures places { PrefixesHavePlaces }
+{}
+
+/// Where no more edits are kept than a depth allows, the oldest go: the others lead back to the newest versions, as many
+/// as the depth allows, and none of them is refused for its place.
+pub fn newest_lead_back()
+    ensures versions { NewestLeadBack }
+    ensures places { NewestHavePlaces }
 {}

@@ -15,13 +15,17 @@
 //! | File of `specs/` | It says |
 //! |---|---|
 //! | `Inverses.antt` | the inverse of an edit, `inverse_of edit document sheet`, by the document and the sheet before the edit |
+//! | `Places.antt` | the position that a path has below a node, as the code finds it |
 //! | `Versions.antt` | a document with its sheet, and to which versions edits lead one after the other |
 //! | `Laws.antt` | that inverses are allowed and undo, and that inverses which are kept lead back version by version |
 //!
 //! A history of edits is a list of inverses, the newest first, and the versions that it keeps are those to which they
 //! lead: after an edit the version before it, and then those that were kept before, each the same. So it is with edits
-//! that are undone and kept to be redone. The crate has no code: the functions of [`laws`] do nothing, and each contract is
-//! a law.
+//! that are undone and kept to be redone. The functions of [`laws`] do nothing, and each contract is a law.
+//!
+//! [`inverse::inverse_of`] makes the inverse before the edit is done, from the document in its arena, and
+//! [`subtree::tree_at`] copies the tree of a node, as an insertion takes it. Neither recurses, and want of memory is their
+//! one free answer.
 //!
 //! ```text
 //! <ol><li>a<ul/></li><li>b</li></ol>      move /1 /0/1 0     makes of it    <ol><li>a<ul><li>b</li></ul></li></ol>
@@ -33,4 +37,7 @@
 //! ```
 #![tactic(auto)]
 
+pub mod inverse;
 pub mod laws;
+mod place;
+pub mod subtree;

@@ -4,7 +4,7 @@ ghost use Rattle.same_documents.specs.Laws.{SameAreEditedAlike, SameAreRefusedAl
 
 /// Each document is the same as itself; of two that are the same either is the same as the other; and two that are the
 /// same as a third are the same.
-pub fn same_is_a_sameness()
+pub fn same_is_an_equivalence()
     ensures itself { SameAsItself }
     ensures both { SameBothWays }
     ensures through { SameThroughAnother }

@@ -1,0 +1,18 @@
+use Rattle.std.proofs.Common.{sym, arith}
+use Rattle.edit_inverses.proofs.LedPaths.{below_within, out_before, out_behind, out_beside}
+use Rattle.edit_inverses.proofs.place.once_out.Goals as goal
+
+pub returns-in_default-position_below : goal.returns-in_default-position_below
+returns-in_default-position_below c =
+    record { path = out_beside c.args.gone.now c.in-Some.parent.now c.args.path.now c.in_ok-steps.steps.items c.in-Some.index.now c.in_ok-steps.ensures.items c.in-Some.ensures.cases.0 (sym c.in_default-position_below.ensures) }
+
+pub returns-then-position-index : goal.returns-then-position-index
+returns-then-position-index c =
+    record { path = out_before c.args.gone.now c.in-Some.parent.now c.args.path.now c.in_ok-steps.steps.items c.in-Some.index.now c.in_ok-steps.ensures.items c.in-Some.ensures.cases.0 c.in-Some-position_below.position (sym c.in-Some-position_below.ensures) c.if-position-index.true }
+
+pub index_mut-requires : goal.index_mut-requires
+index_mut-requires c = omega (arith, c.in_ok-steps.ensures.len, below_within c.in-Some.parent.now c.args.path.now c.in-Some-position_below.position (sym c.in-Some-position_below.ensures))
+
+pub returns : goal.returns
+returns c =
+    record { path = out_behind c.args.gone.now c.in-Some.parent.now c.args.path.now c.in_ok-steps.steps.items c.in-Some.index.now c.in_ok-steps.ensures.items c.in-Some.ensures.cases.0 c.in-Some-position_below.position (sym c.in-Some-position_below.ensures) c.if-position-index.false }
