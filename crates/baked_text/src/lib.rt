@@ -1,8 +1,8 @@
-//! Documents with their generated texts written into them: how such a document is written.
+//! Documents with their generated texts written into them: how one such text is written, and what is true of the whole.
 //!
 //! What is put into a document, and which text comes of it, the crate `bake_definitions` says. [`put_insertion`] writes
-//! one generated text, as an element of its own, and [`span_taking`] says into which elements one may be put. What is put
-//! in at the tags of a document comes from a [`tag_insertions::TagInsertions`], tag by tag.
+//! one generated text, as an element of its own, and [`span_taking`] says into which elements one may be put. A whole
+//! document is not written yet.
 //!
 //! [`laws`] says what is true of all baked texts: a document bakes to one text, that text is a document again, its tree
 //! is the baked tree, and the text has grown by insertions alone, but for the tags that were opened. Without the insertions
@@ -22,4 +22,3 @@
 pub mod laws;
 pub mod put_insertion;
 pub mod span_taking;
-pub mod tag_insertions;
