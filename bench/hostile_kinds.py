@@ -124,16 +124,19 @@ KINDS = [
     Kind("increments of one counter in one value", 200_000, of_sheet(wrapped("p{counter-increment:", " c", "}")), check=is_empty),
     Kind("reversed counters of one element", 2_000, of_sheet(wrapped("p{counter-reset:", lambda k: f" reversed(c{k})", "}")),
          grows="the square of the counters", check=is_empty),
-    Kind("counter styles that items name", 8_000, lambda size: {
+    Kind("counter styles that items name", 50_000, lambda size: {
         "d.xhtml": wrapped("<ol>", "<li/>", "</ol>")(size),
         "s.css": chained("li{list-style:z}", many(lambda k: f'@counter-style n{k}{{symbols:"x"}}', size), '@counter-style z{symbols:"y"}'),
-    }, grows="styles by items", check=lines(lambda size: size)),
+    }, check=lines(lambda size: size)),
     Kind("counter styles", 50_000, of_sheet(wrapped("", lambda k: f'@counter-style n{k}{{symbols:"x"}}', "")), check=is_empty),
     Kind("a counter style over and over", 50_000, of_sheet(wrapped("", '@counter-style n{symbols:"x"}', "")), check=is_empty),
     Kind("counter styles that extend each other", 20_000, of_sheet(styles("system:extends NEXT")), ("table", "s.css", "n0", "7", "7"),
          check=lambda _size, out: out == b'7 "7"\n'),
-    Kind("counter styles that fall back on each other", 8_000, of_sheet(styles('system:fixed;symbols:"x";fallback:NEXT')),
-         ("table", "s.css", "n0", "2", "2"), grows="the square of the styles", check=lambda _size, out: out == b'2 "2"\n'),
+    Kind("counter styles that fall back on each other", 50_000, of_sheet(styles('system:fixed;symbols:"x";fallback:NEXT')),
+         ("table", "s.css", "n0", "2", "2"), check=lambda _size, out: out == b'2 "2"\n'),
+    Kind("counter styles that fall back on each other, for each of 100 items", 5_000, lambda size: {
+        "d.xhtml": wrapped("<ol>", "<li/>", "</ol>")(100), "s.css": ["li{list-style:n0}", *styles('system:fixed;symbols:"x";fallback:NEXT')(size)],
+    }, check=lines(lambda _: 100)),
     Kind("a style of many symbols", 1 * MIB, of_sheet(wrapped("@counter-style z{system:cyclic;symbols:", "a ", "}")),
          ("table", "s.css", "z", "5", "5"), check=lambda _size, out: out == b'5 "a"\n'),
     Kind("a style of many weights", 100_000, of_sheet(lambda size: chained(
@@ -223,7 +226,7 @@ KINDS = [
 
 # Linear too, and yet not for a run at the most that a file may have: it would take tens of GiB, or an hour.
 TOO_LARGE = {
-    "100,000 rules over 100 elements", "items beside each other", "style elements without rules", "style attributes",
+    "100,000 rules over 100 elements", "counter styles that items name", "items beside each other", "style elements without rules", "style attributes",
     "next siblings", "children", ":empty and :root", "counters of siblings", "reversed lists beside each other",
     "references to one element", "references to nothing", "a ring of references",
     "references to one text of 1,000 characters", "a script of moves", "a script of sheets", "a script of shows",

@@ -1,34 +1,14 @@
 -- Rules in a map from names: the map's entries, in their order, are the rules.
-use Rattle.std.proofs.Common.{◌≡◌, ◌+◌, ℕ, suc, List, [], ◌∷◌, Bool, cond, map, Some, None, length, nat_lt, not, refl, sym, ap, ◌∙◌, inl, inr}
-use Rattle.std.specs.List.{position, prefix_len}
+use Rattle.std.proofs.Common.{◌≡◌, ℕ, List, [], ◌∷◌, map, refl, sym, ap, ◌∙◌, inl, inr}
+use Rattle.std.specs.List.{position}
 use Rattle.std.specs.Str.{bytes_eq, chars, IsUtf8}
 use Rattle.std.proofs.lemmas.Bool.{cases_Bool}
 use Rattle.std.proofs.lemmas.Slice.Eq.{bytes_eq-Decides}
 use Rattle.indexmap.specs.IndexMap.{insert_entry}
 use Rattle.plain_types.specs.declared.counter_style.StyleDef.{StyleDef}
+use Rattle.plain_types.proofs.PlaceLemmas.{position-agree}
 use Rattle.plain_types.proofs.TextLemmas.{bytes_eq-chars}
 use Rattle.counter_style_table.specs.Rules.{is_named, name_of, with_rule}
-
--- two tests that agree along two lists pass first at one place
-prefix_len-agree : {A B : Type 0} (p : A → Bool) (q : B → Bool) (xs : List A) (ys : List B) → map p xs ≡ map q ys → prefix_len (λ x. not (p x)) xs ≡ prefix_len (λ y. not (q y)) ys
-prefix_len-agree p q [] [] e = refl
-prefix_len-agree p q [] (y ∷ ys) e = absurd (cc)
-prefix_len-agree p q (x ∷ xs) [] e = absurd (cc)
-prefix_len-agree p q (x ∷ xs) (y ∷ ys) e =
-    let first : p x ≡ q y = cc in
-    let rest : map p xs ≡ map q ys = cc in
-    ap (λ b. cond (not b) (1 + prefix_len (λ z. not (p z)) xs) 0) first ∙ ap (λ n. cond (not (q y)) (1 + n) 0) (prefix_len-agree p q xs ys rest)
-
-length-agree : {A B : Type 0} (p : A → Bool) (q : B → Bool) (xs : List A) (ys : List B) → map p xs ≡ map q ys → length xs ≡ length ys
-length-agree p q [] [] e = refl
-length-agree p q [] (y ∷ ys) e = absurd (cc)
-length-agree p q (x ∷ xs) [] e = absurd (cc)
-length-agree p q (x ∷ xs) (y ∷ ys) e = let rest : map p xs ≡ map q ys = cc in ap suc (length-agree p q xs ys rest)
-
-pub position-agree : {A B : Type 0} (p : A → Bool) (q : B → Bool) (xs : List A) (ys : List B) → map p xs ≡ map q ys → position p xs ≡ position q ys
-position-agree p q xs ys e =
-    ap (λ n. cond (nat_lt n (length xs)) (Some n) None) (prefix_len-agree p q xs ys e)
-    ∙ ap (λ n. cond (nat_lt (prefix_len (λ y. not (q y)) ys) n) (Some (prefix_len (λ y. not (q y)) ys)) None) (length-agree p q xs ys e)
 
 module _ {K : Type 0} (bytes : K → List ℕ) (text : (k : K) → IsUtf8 (bytes k)) where
   abbrev pub AreNamed : List (K × StyleDef) → Type 0

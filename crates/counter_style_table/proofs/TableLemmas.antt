@@ -13,6 +13,7 @@ use Rattle.plain_types.specs.declared.counter_style.Descriptor.TheVariants as de
 use Rattle.plain_types.specs.declared.counter_style.StyleDef.{StyleDef}
 use Rattle.plain_types.specs.StyleNames.{lower_case, predefined_names}
 use Rattle.plain_types.specs.Table.{IsTable, decimal_style, has_its_symbols}
+use Rattle.plain_types.proofs.PlaceLemmas.{position-agree}
 use Rattle.css_definitions.specs.CounterStyles.{defines, described, distinct, excluded_names, extended_by, finished, finished_styles, finished_within, gives_right_symbols, gives_symbols, is_on_cycle, kept_names, last_named, may_be_defined, over, own_style, rules_with, system_of}
 use Rattle.css_definitions.specs.PredefinedStyles.{predefined}
 use Rattle.css_definitions.proofs.Chains.{cases_option}
@@ -20,7 +21,6 @@ use Rattle.counter_style_table.specs.Rules.{is_named, name_of}
 use Rattle.counter_style_table.proofs.CycleLemmas.{none_some}
 use Rattle.counter_style_table.proofs.FinishedLemmas.{found_own, last_position, no_rule, put}
 use Rattle.counter_style_table.proofs.NameLemmas.{apart-put, bytes_eq-same, bytes_eq-sym, names-put, position-own}
-use Rattle.counter_style_table.proofs.RuleLemmas.{position-agree}
 
 -- Each style has its symbols.
 

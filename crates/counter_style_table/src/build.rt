@@ -27,7 +27,7 @@ pub fn build(alloc: Global, styles: &List<StyleDef>) -> Result<Table, Memory>
     ensures styles { IfOk result (λ table. table ≡ finished_styles styles.now) }
 {
     let rules = rules_with(alloc, styles.as_slice())?;
-    Ok(Table::of(finish(alloc, &rules)?))
+    Table::of(alloc, finish(alloc, &rules)?)
 }
 
 /// The predefined rules and these, as far as they define a style, the last one of each name.

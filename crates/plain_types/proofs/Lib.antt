@@ -3,3 +3,4 @@ pub mod ForestLemmas
 pub mod StyleNameLemmas
 pub mod TextLemmas
 pub mod PlaceLemmas
+pub mod NameLemmas

@@ -1,12 +1,17 @@
 //! Tables of finished counter styles.
 
-ghost use Rattle.std.specs.Prelude.{◌≡◌, ◌<◌, IsTrue, Some, length};
-ghost use Rattle.std.specs.List.{slice_get};
+ghost use Rattle.std.specs.Prelude.{◌≡◌, ◌≢◌, ◌<◌, IfOk, IsTrue, Some, length, map};
+ghost use Rattle.std.specs.List.{AllPairs, slice_get};
 ghost use Rattle.std.specs.Str.{chars};
+ghost use Rattle.std.specs.String.{string_bytes};
+ghost use Rattle.plain_types.specs.declared.counter_style.CounterStyle.{CounterStyle};
 
 use crate::counter_style::CounterStyle;
 use crate::list::List;
+use crate::memory::Memory;
 use crate::style_name::style_name;
+use indexmap::IndexSet;
+use std::alloc::Global;
 use std::marker::Model;
 
 /// The counter styles of a document, under distinct names. `decimal` is among them, and each has the
@@ -14,10 +19,14 @@ use std::marker::Model;
 #[derive(Drop)]
 pub struct Table {
     styles: List<CounterStyle>,
+    /// The names of the styles, in their order.
+    names: IndexSet<String>,
 }
 
 impl Model for Table {
-    ghost use Rattle.std.specs.Prelude.{List};
+    ghost use Rattle.std.specs.Prelude.{◌≡◌, List, map};
+    ghost use Rattle.std.specs.Str.{chars};
+    ghost use Rattle.std.specs.String.{string_bytes};
     ghost use Rattle.plain_types.specs.declared.counter_style.CounterStyle.{CounterStyle};
     ghost use Rattle.plain_types.specs.Table.{IsTable};
 
@@ -25,19 +34,20 @@ impl Model for Table {
 
     ghost view = { λ table. table.styles };
 
-    ghost invariant = { λ table. IsTable table.styles };
+    ghost invariant = { λ table. IsTable table.styles × (map (λ key. chars (string_bytes key)) table.names.keys ≡ map (λ (style : CounterStyle). style.name) table.styles) };
 }
 
 impl Table {
     ghost use Rattle.plain_types.specs.Table.{IsTable, has_its_symbols, place_named};
 
     /// The table of these styles, in this order. Their names are distinct, the `decimal` of CSS is among them, and
-    /// each has the symbols that its system asks for. It takes no memory.
-    pub fn of(styles: List<CounterStyle>) -> Table
+    /// each has the symbols that its system asks for. It takes time and memory linear in their names.
+    pub fn of(alloc: Global, styles: List<CounterStyle>) -> Result<Table, Memory>
         requires table { IsTable styles }
-        ensures styles { result ≡ styles }
+        ensures styles { IfOk result (λ table. table ≡ styles) }
     {
-        Table { styles }
+        let names = names_of(alloc, styles.as_slice())?;
+        Ok(Table { styles, names })
     }
 
     /// How many styles there are. Constant time. What every table is, `IsTable` says: distinct names, the `decimal`
@@ -50,18 +60,12 @@ impl Table {
     }
 
     /// The place of the style of this name, predefined names in any ASCII case. It takes no memory, and
-    /// time linear in the number of styles.
+    /// time linear in the name, as long as few names of the table have one hash.
     pub fn find(&self, name: &str) -> Option<usize>
         ensures place { result ≡ place_named self.now (chars name.now) }
         ensures table { IsTable self.now }
     {
-        let wanted = style_name(name);
-        for (place, style) in self.styles.as_slice().iter().enumerate() {
-            if style.name.as_str() == wanted {
-                return Some(place);
-            }
-        }
-        None
+        self.names.get_index_of(style_name(name))
     }
 
     /// The style at this place.
@@ -72,4 +76,16 @@ impl Table {
     {
         &self.styles.as_slice()[place]
     }
+}
+
+/// The names of these styles, in their order.
+fn names_of(alloc: Global, styles: &[CounterStyle]) -> Result<IndexSet<String>, Memory>
+    requires distinct { AllPairs (λ (first second : CounterStyle). first.name ≢ second.name) styles.now }
+    ensures names { IfOk result (λ names. map (λ key. chars (string_bytes key)) names.keys ≡ map (λ (style : CounterStyle). style.name) styles.now) }
+{
+    let mut names = IndexSet::new(alloc);
+    for style in styles {
+        names.insert(String::from_str(alloc, style.name.as_str())?)?;
+    }
+    Ok(names)
 }

@@ -19,8 +19,8 @@ use std::alloc::Global;
 /// and so does `symbols()` with too few symbols.
 ///
 /// A style that does not write the value hands it to its fallback, and a chain of fallbacks ends at
-/// `decimal` at the latest. Each style that is tried costs at most 64 digits and 120 code points; finding
-/// its fallback costs time linear in the table.
+/// `decimal` at the latest. Each style that is tried costs at most 64 digits and 120 code points, and the name
+/// of its fallback is looked up by a hash; there are no more of them than styles.
 pub fn represent(
     alloc: Global,
     table: &Table,
@@ -38,7 +38,7 @@ pub fn represent(
 /// Appends prefix, representation and suffix of the value. Prefix and suffix are those of the style that is
 /// meant, whichever style writes the value. Not for `none`, whose markers have no text.
 ///
-/// It costs what `represent` costs, once more time linear in the table, and the prefix and the suffix.
+/// It costs what `represent` costs, and the prefix and the suffix.
 pub fn represent_marker(
     alloc: Global,
     table: &Table,

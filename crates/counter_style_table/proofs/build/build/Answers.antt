@@ -1,5 +1,6 @@
 use Rattle.std.proofs.Common.{◌≡◌, List, [], map, length, sym, ap, subst, ◌∙◌}
 use Rattle.std.specs.List.{fold, range_with_len}
+use Rattle.std.proofs.lemmas.Result.{IfOk-weaker}
 use Rattle.plain_types.specs.Table.{IsTable}
 use Rattle.plain_types.specs.declared.counter_style.CounterStyle.{CounterStyle}
 use Rattle.plain_types.specs.declared.counter_style.StyleDef.{StyleDef}
@@ -27,6 +28,7 @@ of-requires c = record {
 pub returns : goal.returns
 returns c = record {
   styles =
-      c.of.ensures.styles
-      ∙ finished_of c.args.styles.now c.as_slice.result.now c.in_ok-rules.rules c.in_ok-finish.field-0 c.as_slice.ensures.items c.in_ok-rules.ensures.rules c.in_ok-finish.ensures.styles;
+      IfOk-weaker c.of.result (λ (table : List CounterStyle). table ≡ c.in_ok-finish.field-0) (λ (table : List CounterStyle). table ≡ finished_styles c.args.styles.now)
+      (λ table e. e ∙ finished_of c.args.styles.now c.as_slice.result.now c.in_ok-rules.rules c.in_ok-finish.field-0 c.as_slice.ensures.items c.in_ok-rules.ensures.rules c.in_ok-finish.ensures.styles)
+      c.of.ensures.styles;
 }
