@@ -1,5 +1,6 @@
 -- A comparison has all ones or 0 in each lane of a vector; here it is a test of the lanes' bytes.
-use Rattle.std.proofs.Common.{◌≡◌, ℕ, ◌+◌, ◌%◌, ◌^◌, ◌<◌, ◌≤◌, ◌&&◌, ◌||◌, leb, nat_le, Bool, true, false, cond, bit_and, bit_or, List, [], ◌∷◌, map, length, take, get_or, replicate, refl, sym, ap, ap₂, ◌∙◌, arith}
+use Rattle.std.proofs.Common.{◌≡◌, ℕ, ◌+◌, ◌%◌, ◌^◌, ◌<◌, ◌≤◌, ◌&&◌, ◌||◌, not, leb, nat_le, Bool, true, false, cond, bit_and, bit_or, List, [], ◌∷◌, map, length, take, get_or, replicate, refl, sym, ap, ap₂, ◌∙◌, arith}
+use Rattle.std.proofs.Math.Nat.{pow-succ'}
 use Rattle.std.proofs.lemmas.Simd.{zip2-map, zip2_splat, zip2_splat_left, mask_l-mod, map-map}
 use Rattle.std.proofs.lemmas.List.{length-map}
 use Rattle.std.proofs.lemmas.List.Folds.{list_any_more}
@@ -64,3 +65,19 @@ pub bits_of_flags : (p : ℕ → Bool) (lanes seen : List ℕ) → length lanes 
 bits_of_flags p lanes seen short known =
     ap (λ l. mask_l l % 2 ^ 64) (ap (map (top 7)) known ∙ map-map (top 7) (λ x. flag (p x)) lanes ∙ map_same _ _ (λ x. top_of_flag (p x)) lanes)
     ∙ mask_l-mod (map p lanes) 64 (omega (arith, length-map lanes p))
+
+one_or_other : (b : Bool) → cond b 1 0 + cond (not b) 1 0 ≡ 1
+one_or_other true = refl
+one_or_other false = refl
+
+-- each lane has its bit either where a test passes or where it does not
+pub each_bit_once : (p : ℕ → Bool) (xs : List ℕ) → mask_l (map p xs) + mask_l (map (λ x. not (p x)) xs) + 1 ≡ 2 ^ length xs
+each_bit_once p [] = refl
+each_bit_once p (x ∷ xs) =
+    let here = one_or_other (p x) in
+    let rest = each_bit_once p xs in
+    let double = pow-succ' 2 (length xs) in
+    omega (arith, here, rest, double)
+
+pub missed : (p : ℕ → Bool) (lanes : List ℕ) → length lanes ≡ 32 → mask_l (map p lanes) + mask_l (map (λ x. not (p x)) lanes) ≡ 4294967295
+missed p lanes long = let all = each_bit_once p lanes in let total = ap (λ n. 2 ^ n) long in omega (arith, all, total)

@@ -1,22 +1,24 @@
 //! Classes of bytes, and searches by them.
 //!
 //! Readers look for the next byte that means something: a quote, a `<`, a character that ends a name.
-//! Such a set of bytes is a [`ByteClass`], made once from its ranges; [`first_in`] and [`count_in`] then
-//! read a slice by it. No call takes memory.
+//! Such a set of bytes is a [`ByteClass`], made once from its ranges; [`first_in`], [`first_not_in`] and
+//! [`count_in`] then read a slice by it. No call takes memory.
 //!
-//! The crate is our own, of no standard. The layer above knows it by one word of `specs/`: `is_in class
-//! byte`, that the byte lies in one of the ranges. What `first_in` answers is the `position` of the first
-//! such byte, and `count_in` counts them by `count_by`; both are words of std.
+//! The crate is our own, of no standard. The layer above knows it by two words of `specs/`: `is_in class
+//! byte`, that the byte lies in one of the ranges, and `is_outside class byte`, that it lies in none. What
+//! `first_in` answers is the `position` of the first byte in the class, and `first_not_in` that of the first
+//! outside it; `count_in` counts those in it by `count_by`. Both are words of std.
 //!
-//! Both go over the bytes in one pass: as many at once as a vector holds, range by range and without an early
+//! All go over the bytes in one pass: as many at once as a vector holds, range by range and without an early
 //! end, and the rest byte by byte.
 //!
-//! With the class of `<` and `&`, `first_in(b"ab&c<", &class)` is `Some(2)`, and `count_in` gives 2.
+//! With the class of `<` and `&`, `first_in(b"ab&c<", &class)` is `Some(2)`, `first_not_in` gives `Some(0)`, and
+//! `count_in` gives 2.
 #![tactic(auto)]
 
 ghost use Rattle.std.specs.Prelude.{◌≡◌, ◌≤◌, SomeIff, length, map, count_by, position};
 ghost use Rattle.std.specs.Simd.Lanes.{mask_l};
-ghost use Rattle.lane_class.specs.Ranges.{is_in};
+ghost use Rattle.lane_class.specs.Ranges.{is_in, is_outside};
 
 use std::marker::Model;
 use std::simd::prelude::*;
@@ -26,6 +28,9 @@ const MOST: usize = 8;
 
 /// How many bytes a vector holds.
 const LANES: usize = 32;
+
+/// A bit for each of them.
+const EACH_LANE: u64 = 0xffff_ffff;
 
 /// A set of bytes: those that lie in one of at most eight ranges. Contracts see the list of its ranges.
 #[derive(Drop)]
@@ -82,6 +87,14 @@ impl ByteClass {
         }
         inside.to_bitmask()
     }
+
+    /// For each of these bytes a bit, the first one's lowest: whether it lies in none of the ranges.
+    #[inline(always)]
+    fn misses(&self, lanes: u8x32) -> u64
+        ensures { result ≡ mask_l (map (is_outside self.now) lanes) }
+    {
+        EACH_LANE - self.hits(lanes)
+    }
 }
 
 /// The first place whose byte is in the class, byte by byte.
@@ -89,6 +102,13 @@ fn first_near(bytes: &[u8], class: &ByteClass) -> Option<usize>
     ensures { result ≡ position (is_in class.now) bytes.now }
 {
     bytes.iter().position(|byte| class.contains(*byte))
+}
+
+/// The first place whose byte is outside the class, byte by byte.
+fn first_other_near(bytes: &[u8], class: &ByteClass) -> Option<usize>
+    ensures { result ≡ position (is_outside class.now) bytes.now }
+{
+    bytes.iter().position(|byte| !class.contains(*byte))
 }
 
 /// How many bytes are in the class, byte by byte.
@@ -112,6 +132,24 @@ pub fn first_in(bytes: &[u8], class: &ByteClass) -> Option<usize>
     }
     match first_near(&bytes[start..], class) {
         Some(place) => Some(start + place),
+        None => None,
+    }
+}
+
+/// The first place whose byte is outside the class, in time linear in that place.
+pub fn first_not_in(bytes: &[u8], class: &ByteClass) -> Option<usize>
+    ensures { result ≡ position (is_outside class.now) bytes.now }
+{
+    let mut start = 0;
+    'far: while bytes.len() - start >= LANES {
+        let misses = class.misses(u8x32::from_slice(&bytes[start..]));
+        if misses != 0 {
+            return Some(start + misses.trailing_zeros() as usize);
+        }
+        start += LANES;
+    }
+    match first_other_near(&bytes[start..], class) {
+        Some(behind) => Some(start + behind),
         None => None,
     }
 }
@@ -140,6 +178,8 @@ mod tests {
         let class = ByteClass::of(&[(b'<', b'<'), (b'a', b'f')]).ok_or("two ranges")?;
         assert_eq!(rt; first_in(b"xyz<a", &class), Some(3));
         assert_eq!(rt; first_in(b"gz`", &class), None);
+        assert_eq!(rt; first_not_in(b"<afz<", &class), Some(3));
+        assert_eq!(rt; first_not_in(b"<<a", &class), None);
         assert_eq!(rt; count_in(b"fa<=;g", &class), 3);
         assert!(rt; ByteClass::of(&[(1, 0); 9]).is_none());
         Ok(())
@@ -170,6 +210,33 @@ mod tests {
         Ok(())
     }
 
+    /// Whether the one byte outside the class is found, where it is put at this place of the text.
+    fn is_seen_outside(class: &ByteClass, bytes: &mut [u8; 70], place: usize, len: usize) -> bool {
+        if place >= bytes.len() || len > bytes.len() {
+            return false;
+        }
+        bytes[place] = b'x';
+        let wanted = if place < len { Some(place) } else { None };
+        let found = first_not_in(&bytes[..len], class);
+        bytes[place] = b' ';
+        found == wanted
+    }
+
+    #[test]
+    fn every_place_outside_of_every_length(rt: HostRuntime) -> Result<(), Fail> {
+        let class = ByteClass::of(&[(b' ', b' '), (9, 10), (12, 13)]).ok_or("three ranges")?;
+        let mut bytes = [b' '; 70];
+        for len in 0..=70 {
+            for place in 0..70 {
+                assert!(rt;
+                    is_seen_outside(&class, &mut bytes, place, len),
+                    "{place} of {len}"
+                );
+            }
+        }
+        Ok(())
+    }
+
     #[test]
     fn every_length_of_many(rt: HostRuntime) -> Result<(), Fail> {
         let class = ByteClass::of(&[(b'0', b'9'), (b'<', b'<')]).ok_or("two ranges")?;
@@ -181,6 +248,12 @@ mod tests {
             let step = usize::from(next[0] != b'a');
             wanted = wanted.saturating_add(step);
             assert_eq!(rt; first_in(next, &class), Some(1 - step.min(1)));
+            let other = if len < 68 {
+                Some([1, 0, 2][len % 3])
+            } else {
+                None
+            };
+            assert_eq!(rt; first_not_in(next, &class), other);
         }
         Ok(())
     }
@@ -197,6 +270,9 @@ mod tests {
         assert_eq!(rt; count_in(&long, &class), 5);
         assert_eq!(rt; first_in(&long, &class), Some(33));
         assert_eq!(rt; first_in(&long[12..], &class), Some(21));
+        assert_eq!(rt; first_not_in(&long[33..], &class), Some(2));
+        assert_eq!(rt; first_not_in(&long[39..], &class), Some(2));
+        assert_eq!(rt; first_not_in(&long[43..], &class), None);
         Ok(())
     }
 }
