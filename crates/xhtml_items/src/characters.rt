@@ -19,7 +19,8 @@ pub(crate) fn is_plain(c: char) -> bool
     is_character(c) && c != '<' && c != '&'
 }
 
-pub(crate) fn is_legal(c: char) -> bool
+/// Whether a document may have the character, as it is or by a reference (XML 1.0, 2.2). The carriage return is one.
+pub fn is_legal(c: char) -> bool
     ensures { result ≡ is_legal c }
 {
     c == '\r' || is_character(c)

@@ -39,7 +39,7 @@ use fault::DocFault;
 use kind::Kind;
 pub use name::is_name;
 use plain_types::tree::Tree;
-pub use prepare::without_mark;
+pub use prepare::{has_line_feeds_alone, with_line_feeds, without_mark};
 use read::read;
 use std::alloc::Global;
 

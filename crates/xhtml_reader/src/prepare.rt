@@ -1,6 +1,6 @@
 //! Texts as their items are read from them.
 
-ghost use Rattle.std.specs.Prelude.{◌≡◌, IfOk, true};
+ghost use Rattle.std.specs.Prelude.{◌≡◌, ◌≢◌, IfOk, true, false};
 ghost use Rattle.std.specs.Str.{chars, IsUtf8};
 ghost use Rattle.xml_definitions.specs.Normalized.{with_line_feeds, without_mark};
 ghost use Rattle.xhtml_reader.specs.Machinery.LineEnds.{begins_with_line_feed, line_end_left};
@@ -44,8 +44,8 @@ fn line_end_left(c: char, after: &str) -> Option<char>
     }
 }
 
-/// The text with line feeds for its line ends.
-pub(crate) fn with_line_feeds(alloc: Global, text: &str) -> Result<Text, Memory>
+/// The text with line feeds for its line ends (XML 1.0, 2.11), in linear time.
+pub fn with_line_feeds(alloc: Global, text: &str) -> Result<Text, Memory>
     ensures { IfOk result (λ normalized. normalized ≡ with_line_feeds (chars text.now)) }
 {
     let mut normalized = Text::new(alloc);
@@ -59,9 +59,10 @@ pub(crate) fn with_line_feeds(alloc: Global, text: &str) -> Result<Text, Memory>
     Ok(normalized)
 }
 
-/// Whether line ends are line feeds already.
-pub(crate) fn has_line_feeds_alone(text: &str) -> bool
-    ensures { result ≡ true → with_line_feeds (chars text.now) ≡ chars text.now }
+/// Whether line ends are line feeds already, in linear time.
+pub fn has_line_feeds_alone(text: &str) -> bool
+    ensures stays { result ≡ true → with_line_feeds (chars text.now) ≡ chars text.now }
+    ensures changes { result ≡ false → with_line_feeds (chars text.now) ≢ chars text.now }
 {
     !text.contains('\r')
 }
