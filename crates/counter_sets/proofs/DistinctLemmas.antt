@@ -78,15 +78,15 @@ distinct_push (c ∷ set) counter h m =
 
 -- Counters of two sets.
 
-abbrev AreLackedBy : List Counter → List Counter → Type 0
+abbrev pub AreLackedBy : List Counter → List Counter → Type 0
 AreLackedBy set [] = Unit {0}
 AreLackedBy set (c ∷ counters) = (list_any (is_same c) set ≡ false) × AreLackedBy set counters
 
-lacked_rest : (c : Counter) (set counters : List Counter) → AreLackedBy (c ∷ set) counters → AreLackedBy set counters
+pub lacked_rest : (c : Counter) (set counters : List Counter) → AreLackedBy (c ∷ set) counters → AreLackedBy set counters
 lacked_rest c set [] h = tt
 lacked_rest c set (d ∷ counters) h = (or_right (is_same d c) (list_any (is_same d) set) h.0, lacked_rest c set counters h.1)
 
-lacked_first : (c : Counter) (set counters : List Counter) → AreLackedBy (c ∷ set) counters → list_any (is_same c) counters ≡ false
+pub lacked_first : (c : Counter) (set counters : List Counter) → AreLackedBy (c ∷ set) counters → list_any (is_same c) counters ≡ false
 lacked_first c set [] h = refl
 lacked_first c set (d ∷ counters) h =
     both_false (is_same c d) (list_any (is_same c) counters) (same_symm c d ∙ or_left (is_same d c) (list_any (is_same d) set) h.0) (lacked_first c set counters h.1)

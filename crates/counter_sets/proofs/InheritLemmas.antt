@@ -1,5 +1,5 @@
 -- What boxes inherit, found in a list.
-use Rattle.std.proofs.Common.{◌≡◌, ◌≢◌, ◌+◌, ◌∷◌, ◌++◌, ◌&&◌, ◌||◌, ◌==◌, ◌<◌, ℕ, zero, suc, ℤ, List, [], Bool, true, false, cond, Option, Some, None, length, take, drop, map, get_or, refl, sym, ap, ◌∙◌, arith, inl, inr, true≢false, append_assoc}
+use Rattle.std.proofs.Common.{◌≡◌, ◌≢◌, ◌+◌, ◌∷◌, ◌++◌, ◌&&◌, ◌||◌, ◌==◌, ◌<◌, ℕ, zero, suc, ℤ, List, [], Bool, true, false, cond, not, Option, Some, None, length, take, drop, map, get_or, refl, sym, subst, ap, ◌∙◌, arith, inl, inr, true≢false, append_assoc}
 use Rattle.std.specs.Prelude.{IfNone, IsSomeAnd, filter, find, option_copied, slice_get}
 use Rattle.std.specs.Slice.{IsItemAt}
 use Rattle.std.proofs.lemmas.Option.{slice_get_past, slice_get_read}
@@ -15,7 +15,7 @@ use Rattle.plain_types.specs.declared.box_kind.BoxKind.{BoxKind}
 use Rattle.plain_types.specs.declared.box_kind.BoxKind.TheVariants.{Element, Marker, Before, After}
 use Rattle.plain_types.specs.declared.counter.Counter.{Counter}
 use Rattle.counter_sets.specs.Sets.{AreDistinct, change_at, is_missing_in, is_named, is_same, is_same_box, is_same_kind, with_value}
-use Rattle.counter_sets.proofs.DistinctLemmas.{lacking}
+use Rattle.counter_sets.proofs.DistinctLemmas.{AreLackedBy, lacked_first, lacked_rest, lacking, same_symm}
 
 -- Counters that are the same as one are the same as each other.
 
@@ -66,6 +66,56 @@ found_there counter (c ∷ set) (suc place) h there = elim (cases_Bool (is_same 
   | inl e ↦ absurd (true≢false (sym (any_alike counter c set e ∙ any_there (is_same counter) set place there) ∙ lacking (list_any (is_same c) set) h.0))
   | inr e ↦ rw e (found_there counter set place h.1 there)
 ]
+
+-- The sibling's counters past those of the parent.
+
+any_at : (test : Counter → Bool) (set : List Counter) (place : ℕ) (counter : Counter) → place < length set → counter ≡ get_or set place counter → test counter ≡ true → list_any test set ≡ true
+any_at test [] place counter below read h = absurd (omega (arith, below))
+any_at test (c ∷ set) zero counter below read h = let e : test c ≡ true = ap test (sym read) ∙ h in rw e refl
+any_at test (c ∷ set) (suc place) counter below read h = elim (cases_Bool (test c)) [
+  | inl e ↦ rw e refl
+  | inr e ↦ rw e (any_at test set place counter (omega (arith, below)) read h)
+]
+
+lacked_push : (set counters : List Counter) (counter : Counter) → AreLackedBy set counters → list_any (is_same counter) set ≡ false → AreLackedBy set (counters ++ counter ∷ [])
+lacked_push set [] counter h l = (l, tt)
+lacked_push set (c ∷ counters) counter h l = (h.0, lacked_push set counters counter h.1 l)
+
+all_kept : (parent past : List Counter) → AreLackedBy past parent → filter (is_missing_in parent) past ≡ past
+all_kept parent [] h = refl
+all_kept parent (c ∷ past) h =
+    let e : is_missing_in parent c ≡ true = ap not (lacked_first c past parent h) in
+    rw e (ap (λ counters. c ∷ counters) (all_kept parent past (lacked_rest c past parent h)))
+
+-- the sibling has the parent's counters up to a place, and then these
+pub record IsPast (parent sibling past : List Counter) (place : ℕ) : Type 0 where
+  pub same : filter (is_missing_in parent) sibling ≡ filter (is_missing_in parent) past
+  pub distinct : AreDistinct past
+  pub lacked : AreLackedBy past (take place parent)
+
+pub past_none : (parent sibling : List Counter) → AreDistinct sibling → IsPast parent sibling sibling 0
+past_none parent sibling h = record { same = refl; distinct = h; lacked = tt }
+
+pub past_one : (parent sibling past rest : List Counter) (place : ℕ) (counter first : Counter) → place < length parent → counter ≡ get_or parent place counter → past ≡ first ∷ rest
+    → is_same counter first ≡ true → IsPast parent sibling past place → IsPast parent sibling rest (place + 1)
+past_one parent sibling past rest place counter first below read splits alike h =
+    let there : is_missing_in parent first ≡ false = ap not (any_at (is_same first) parent place counter below read (same_symm first counter ∙ alike)) in
+    let distinct : AreDistinct (first ∷ rest) = subst AreDistinct splits h.distinct in
+    let lacked : AreLackedBy (first ∷ rest) (take place parent) = subst (λ (counters : List Counter). AreLackedBy counters (take place parent)) splits h.lacked in
+    let more : take (place + 1) parent ≡ take place parent ++ counter ∷ [] = take_more parent place counter below ∙ ap (λ c. take place parent ++ c ∷ []) (sym read) in
+    record {
+      same =
+          h.same ∙ ap (filter (is_missing_in parent)) splits
+          ∙ ap (λ b. cond b (first ∷ filter (is_missing_in parent) rest) (filter (is_missing_in parent) rest)) there;
+      distinct = distinct.1;
+      lacked =
+          subst (AreLackedBy rest) (sym more)
+          (lacked_push rest (take place parent) counter (lacked_rest first rest (take place parent) lacked)
+          (sym (any_alike counter first rest alike) ∙ lacking (list_any (is_same first) rest) distinct.0));
+    }
+
+pub past_all : (parent sibling past : List Counter) (place : ℕ) → take place parent ≡ parent → IsPast parent sibling past place → past ≡ filter (is_missing_in parent) sibling
+past_all parent sibling past place all h = sym (h.same ∙ all_kept parent past (subst (AreLackedBy past) all h.lacked))
 
 -- A list that begins with what a list adds.
 
@@ -118,7 +168,7 @@ module _ {X Y : Type 0} (keep : X → Bool) (f : X → Y) where
 
 -- The parent's counters, and those that the sibling adds.
 
-all_missing : (set : List Counter) → filter (is_missing_in []) set ≡ set
+pub all_missing : (set : List Counter) → filter (is_missing_in []) set ≡ set
 all_missing [] = refl
 all_missing (c ∷ set) = ap (λ counters. c ∷ counters) (all_missing set)
 

@@ -54,9 +54,10 @@ impl CounterSet {
 
     /// The set that a box inherits (CSS Lists 3, 4.4): the parent's counters, then those that the sibling
     /// before it has besides, each with its value in the set of the box just before in tree order. Where one
-    /// of these three is that set, its list is shared, as by `share`, and none is made. It takes time in the product
-    /// of the sets' lengths at worst; where counters that are the same have the same places, only those that the
-    /// sibling has besides are sought elsewhere.
+    /// of these three is that set, its list is shared, as by `share`, and none is made. It takes time linear in the
+    /// sets' lengths where the parent's counters come first in the sibling's set, and what a box inherits stands in
+    /// that order at the front of the preceding set, or of its front: so it is in the sets of boxes. Else it takes
+    /// time in the product of the lengths.
     pub fn inherit(
         alloc: Global,
         parent: &CounterSet,

@@ -20,7 +20,7 @@ pub fn is_named(name: &str, counter: &Counter) -> bool
 }
 
 /// Whether both are the same counter, by name and creator.
-fn is_same(first: &Counter, second: &Counter) -> bool
+pub(crate) fn is_same(first: &Counter, second: &Counter) -> bool
     ensures test { result ≡ is_same first.now second.now }
 {
     is_named(first.name.as_str(), second) && first.creator == second.creator

@@ -4,7 +4,7 @@ ghost use Rattle.std.specs.Prelude.{◌≡◌, ◌≢◌, ◌↔◌, ◌++◌, �
 ghost use Rattle.plain_types.specs.declared.counter.Counter.{Counter};
 ghost use Rattle.counter_sets.specs.Sets.{AreDistinct, inherited, is_missing_in, valued_in, with_value};
 
-use crate::counters::{find_same, is_missing_in, is_with_value};
+use crate::counters::{find_same, is_missing_in, is_same, is_with_value};
 use plain_types::count::Count;
 use plain_types::counter::Counter;
 use plain_types::duplicate::Duplicate;
@@ -20,12 +20,14 @@ pub(crate) fn copy_inherited(
     sibling: &[Counter],
     values: &[Counter],
 ) -> Result<List<Counter>, Memory>
+    requires siblings { AreDistinct sibling.now }
     requires distinct { AreDistinct values.now }
     ensures copy { IfOk result (λ copy. copy ≡ inherited parent.now (Some sibling.now) (Some values.now)) }
 {
     let mut list = List::new(alloc);
     push_added(alloc, &mut list, &[], parent, values)?;
-    push_added(alloc, &mut list, parent, sibling, values)?;
+    let (others, added) = besides(parent, sibling);
+    push_added(alloc, &mut list, others, added, values)?;
     Ok(list)
 }
 
@@ -36,16 +38,47 @@ pub(crate) fn is_inherited(
     sibling: &[Counter],
     values: &[Counter],
 ) -> bool
+    requires siblings { AreDistinct sibling.now }
     requires distinct { AreDistinct values.now }
     ensures test { IsTrue result ↔ (list.now ≡ inherited parent.now (Some sibling.now) (Some values.now)) }
 {
-    let Some(others) = past_added(list, &[], parent, values) else {
+    let Some(others) = past_added(list, 0, &[], parent, values) else {
         return false;
     };
-    let Some(rest) = past_added(others, parent, sibling, values) else {
+    let (lacking, added) = besides(parent, sibling);
+    let Some(rest) = past_added(others, parent.len(), lacking, added, values) else {
         return false;
     };
     rest.is_empty()
+}
+
+/// Two lists, of which the second has besides the first what the sibling's counters have besides the parent's. Where
+/// the parent's come first among the sibling's, as they do in the sets of boxes, these are none and those past them:
+/// then none of these has to be looked for among the parent's.
+fn besides<'a>(parent: &'a [Counter], sibling: &'a [Counter]) -> (&'a [Counter], &'a [Counter])
+    requires siblings { AreDistinct sibling.now }
+    ensures same { filter (is_missing_in result.0.now) result.1.now ≡ filter (is_missing_in parent.now) sibling.now }
+{
+    match past_front(parent, sibling) {
+        Some(past) => (&[], past),
+        None => (parent, sibling),
+    }
+}
+
+/// The sibling's counters past those of the parent, where these come first among them.
+fn past_front<'a>(parent: &[Counter], sibling: &'a [Counter]) -> Option<&'a [Counter]>
+    requires siblings { AreDistinct sibling.now }
+    ensures past { IfSome result (λ past. past.now ≡ filter (is_missing_in parent.now) sibling.now) }
+{
+    let mut past = sibling;
+    for counter in parent {
+        let (first, rest) = past.split_first()?;
+        if !is_same(counter, first) {
+            return None;
+        }
+        past = rest;
+    }
+    Some(past)
 }
 
 /// Appends those of the counters that `others` lacks, each with its value among `values`.
@@ -62,7 +95,7 @@ fn push_added(
     for (place, counter) in counters.iter().enumerate() {
         if is_missing_in(others, place, counter) {
             let mut copy = counter.duplicate(alloc)?;
-            copy.value = value_in(values, place, counter);
+            copy.value = value_in(values, list.len(), counter);
             list.push(copy)?;
         }
     }
@@ -70,9 +103,10 @@ fn push_added(
 }
 
 /// What `list` has past those of the counters that `others` lacks, each with its value among `values`, where it begins
-/// with them.
+/// with them. The first of these values is looked for at the place `first` first, and each other one past the one before.
 fn past_added<'a>(
     list: &'a [Counter],
+    first: usize,
     others: &[Counter],
     counters: &[Counter],
     values: &[Counter],
@@ -84,7 +118,8 @@ fn past_added<'a>(
     let mut past = list;
     for (place, counter) in counters.iter().enumerate() {
         if is_missing_in(others, place, counter) {
-            past = past_first(past, counter, value_in(values, place, counter))?;
+            let at = first.saturating_add(list.len().saturating_sub(past.len()));
+            past = past_first(past, counter, value_in(values, at, counter))?;
         }
     }
     Some(past)

@@ -8,9 +8,11 @@ returns c =
     let parent = c.args.parent.now in
     let added = filter (is_missing_in parent) c.args.sibling.now in
     let values = valued_in c.args.values.now in
+    let own = map values (filter (is_missing_in []) parent) in
     record {
       copy =
           c.in_ok-push_added-2.ensures.ok
-          ∙ ap (λ list. list ++ map values added) (c.in_ok-push_added.ensures.ok ∙ ap (λ list. list ++ map values (filter (is_missing_in []) parent)) c.new-list.ensures.empty)
+          ∙ ap (λ list. list ++ map values (filter (is_missing_in c.besides.result.0.now) c.besides.result.1.now)) (c.in_ok-push_added.ensures.ok ∙ ap (λ list. list ++ own) c.new-list.ensures.empty)
+          ∙ ap (λ counters. own ++ map values counters) c.besides.ensures.same
           ∙ inherited_parts values parent added;
     }
