@@ -193,6 +193,13 @@ KINDS = [
     Kind("counters of the root, at every element", 1_000, lambda size: {
         "d.xhtml": wrapped("<body>", "<p/>", "</body>")(1_000), "s.css": wrapped("body{counter-reset:", lambda k: f" c{k}", "}")(size),
     }, grows="by counters and elements", check=is_empty),
+    Kind("counters of the root and of its first child, at every element", 500, lambda size: {
+        "d.xhtml": wrapped("<body><i/>", "<p/>", "</body>")(1_000),
+        "s.css": ["body{counter-reset:", *many(lambda k: f" c{k}", size), "}i{counter-reset:", *many(lambda k: f" d{k}", size), "}"],
+    }, check=is_empty),
+    Kind("counters that every element increments", 50, lambda size: {
+        "d.xhtml": wrapped("<body>", "<p/>", "</body>")(1_000), "s.css": wrapped("p{counter-increment:", lambda k: f" c{k}", "}")(size),
+    }, grows="the square of the counters", check=is_empty),
     Kind("nested quotes", 1_000, of_document(nested("<q>", "", "</q>")), grows="the output is the square of the depth", check=lines(lambda size: 2 * size)),
     Kind("reversed lists in each other", 250, of_document(nested('<ol reversed="">', "<li/>", "</ol>")), grows="the square of the depth", check=lines(lambda _: 1)),
     Kind("reversed lists beside each other", 20_000, of_document(wrapped("<body>", '<ol reversed=""><li/></ol>', "</body>")), check=lines(lambda size: size)),
@@ -230,7 +237,7 @@ TOO_LARGE = {
     "next siblings", "children", ":empty and :root", "counters of siblings", "reversed lists beside each other",
     "references to one element", "references to nothing", "a ring of references",
     "references to one text of 1,000 characters", "a script of moves", "a script of sheets", "a script of shows",
-    "an attribute set again and again",
+    "an attribute set again and again", "counters of the root and of its first child, at every element",
 }
 LARGEST = [kind for kind in KINDS if kind.grows == "linear" and kind.name not in TOO_LARGE]
 
