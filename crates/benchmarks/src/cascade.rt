@@ -16,6 +16,7 @@ use plain_types::style::Quotes;
 use plain_types::text::Text;
 use plain_types::tree::Tree;
 use plain_types::tree_builder::TreeBuilder;
+use selector_match::siblings::Siblings;
 use std::alloc::Global;
 use std::marker::Brand;
 use std::sync::ledger::{Blank, Ledger};
@@ -111,7 +112,17 @@ fn style_all<L: Ledger>(
     let root = arena.root();
     let inline = inline_declarations(alloc, arena, root)?;
     let inline = inline.as_slice();
-    let above = style_of(alloc, arena, &agent, author, inline, None, root, &mut steps)?;
+    let mut siblings = Siblings::new(alloc, arena);
+    let above = style_of(
+        alloc,
+        &mut siblings,
+        &agent,
+        author,
+        inline,
+        None,
+        root,
+        &mut steps,
+    )?;
     let count = arena.child_count(root);
     for index in 0..count {
         if let Some(key) = arena.child(root, index) {
@@ -119,7 +130,14 @@ fn style_all<L: Ledger>(
             let inline = inline_declarations(alloc, arena, key)?;
             let inline = inline.as_slice();
             let _style = style_of(
-                alloc, arena, &agent, author, inline, parent, key, &mut steps,
+                alloc,
+                &mut siblings,
+                &agent,
+                author,
+                inline,
+                parent,
+                key,
+                &mut steps,
             )?;
         }
     }

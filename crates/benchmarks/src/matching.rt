@@ -10,6 +10,7 @@ use plain_types::selector::{Compound, Selector, Simple};
 use plain_types::selector_parts::{Join, PseudoElement};
 use plain_types::text::Text;
 use selector_match::matching::matches;
+use selector_match::siblings::Siblings;
 use std::alloc::Global;
 
 /// The shape of the tree, the combinator between the compounds, and the one before the last compound.
@@ -56,10 +57,12 @@ fn selector_of(alloc: Global, between: Join, last: Join, count: usize) -> Result
 }
 
 /// How often, of a thousand times, the selector matches that node.
-fn count_matching(arena: &Arena, node: usize, selector: &Selector) -> usize
-    requires live { IsLive arena.now.tree node }
+fn count_matching(siblings: &Siblings<'_>, node: usize, selector: &Selector) -> usize
+    requires live { IsLive siblings.now node }
 {
-    (0..1000).filter(|_| matches(arena, node, selector)).count()
+    (0..1000)
+        .filter(|_| matches(siblings, node, selector))
+        .count()
 }
 
 /// Matches the last of so many elements with a selector of so many compounds, two at least, a thousand times,
@@ -73,5 +76,6 @@ pub(crate) fn perform(alloc: Global, work: &str, size: usize, compounds: usize) 
     let arena = Arena::from_tree(alloc, &tree).ok()?;
     let selector = selector_of(alloc, between, last, compounds.checked_sub(2)?).ok()?;
     let node = last_node(&arena, tree.len());
-    Some(count_matching(&arena, node, &selector))
+    let siblings = Siblings::new(alloc, &arena);
+    Some(count_matching(&siblings, node, &selector))
 }

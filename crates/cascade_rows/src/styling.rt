@@ -17,6 +17,7 @@ use plain_types::memory::Memory;
 use plain_types::sheet::{Sheet, StyleRule};
 use plain_types::style::{ElementStyle, Style};
 use plain_types::text::Text;
+use selector_match::siblings::Siblings;
 use selectors::selector_list::read_selectors;
 use std::alloc::Global;
 use std::marker::Brand;
@@ -99,7 +100,7 @@ fn styles<L: Ledger>(
     let inline = inline_declarations(alloc, arena, key)?;
     style_of(
         alloc,
-        arena,
+        &mut Siblings::new(alloc, arena),
         agent,
         author,
         inline.as_slice(),

@@ -19,6 +19,7 @@ use merged_walk::stop::Stop;
 use plain_types::list::List;
 use plain_types::memory::Memory;
 use plain_types::style::Style;
+use selector_match::siblings::Siblings;
 use snapshot_board::board::Board;
 use std::alloc::Global;
 use std::mem;
@@ -101,16 +102,19 @@ impl Catching {
         &mut self,
         alloc: Global,
         sources: &Sources<T>,
+        siblings: &mut Siblings<'_>,
         key: usize,
         fresh: bool,
         steps: &mut Steps<L>,
     ) -> Result<(), Memory>
+        requires same { siblings.old ≡ sources.now.arena.now.tree }
         requires live { IsLive sources.now.arena.now.tree key }
         requires opens { CanOpen key self.old.around }
         ensures entered { OnOk result (HasEntered (reading T.starts sources.now) self.old self.new key fresh) }
+        ensures same { siblings.new ≡ siblings.old }
         ensures steps { steps.new ≤ steps.old + 2 }
     {
-        let opened = self.open_next(alloc, sources, key, steps)?;
+        let opened = self.open_next(alloc, sources, siblings, key, steps)?;
         collect_opened(alloc, &mut self.changes, opened.as_ref())?;
         let inside = inside_opened(alloc, opened.as_ref())?;
         self.go_inside(key, opened, inside, fresh)?;
@@ -123,16 +127,29 @@ impl Catching {
         &self,
         alloc: Global,
         sources: &Sources<T>,
+        siblings: &mut Siblings<'_>,
         key: usize,
         steps: &mut Steps<L>,
     ) -> Result<Option<Opened>, Memory>
+        requires same { siblings.old ≡ sources.now.arena.now.tree }
         requires live { IsLive sources.now.arena.now.tree key }
         requires opens { CanOpen key self.now.around }
         ensures opened { IfOk result (λ opened. opened ≡ opened_at (reading T.starts sources.now) (frames_of self.now) key self.now.around) }
+        ensures same { siblings.new ≡ siblings.old }
         ensures steps { steps.new ≤ steps.old + 2 }
     {
         match &self.around {
-            Some(around) => open(alloc, sources, self.style_above(), key, around, steps),
+            Some(around) => {
+                open(
+                    alloc,
+                    sources,
+                    siblings,
+                    self.style_above(),
+                    key,
+                    around,
+                    steps,
+                )
+            }
             None => Ok(None),
         }
     }

@@ -21,6 +21,7 @@ use mini_cascade::style_attributes::inline_declarations;
 use mini_cascade::style_of::style_of;
 use plain_types::memory::Memory;
 use plain_types::style::{ElementStyle, Style};
+use selector_match::siblings::Siblings;
 use std::alloc::Global;
 use std::sync::ledger::Ledger;
 use steps::Steps;
@@ -31,17 +32,20 @@ use surroundings::surroundings::Surroundings;
 pub(crate) fn open<L: Ledger, T: Starts>(
     alloc: Global,
     sources: &Sources<T>,
+    siblings: &mut Siblings<'_>,
     parent: Option<&Style>,
     key: usize,
     around: &Surroundings,
     steps: &mut Steps<L>,
 ) -> Result<Option<Opened>, Memory>
+    requires same { siblings.old ≡ sources.now.arena.now.tree }
     requires live { IsLive sources.now.arena.now.tree key }
     requires new { HandsOn (IsByOther key) around.now }
     ensures opened { IfOk result (λ opened. opened ≡ opened_in sources.now.table.now (element_style sources.now.arena.now.tree sources.now.agent.now sources.now.author.now) (T.starts sources.now.starts.now) sources.now.arena.now.tree true key (option_copied parent.entry) (handed_by around.now)) }
+    ensures same { siblings.new ≡ siblings.old }
     ensures steps { steps.new ≤ steps.old + 2 }
 {
-    let style = styled(alloc, sources, parent, key, steps)?;
+    let style = styled(alloc, sources, siblings, parent, key, steps)?;
     let made = open_styled(alloc, sources, &style, key, around, steps)?;
     Ok(with_style(style, made))
 }
@@ -50,18 +54,21 @@ pub(crate) fn open<L: Ledger, T: Starts>(
 fn styled<L: Ledger, T: Starts>(
     alloc: Global,
     sources: &Sources<T>,
+    siblings: &mut Siblings<'_>,
     parent: Option<&Style>,
     key: usize,
     steps: &mut Steps<L>,
 ) -> Result<ElementStyle, Memory>
-    requires { IsLive sources.now.arena.now.tree key }
+    requires same { siblings.old ≡ sources.now.arena.now.tree }
+    requires live { IsLive sources.now.arena.now.tree key }
     ensures style { IfOk result (λ style. style ≡ element_style sources.now.arena.now.tree sources.now.agent.now sources.now.author.now key (option_copied parent.entry)) }
+    ensures same { siblings.new ≡ siblings.old }
     ensures step { steps.new ≤ steps.old + 1 }
 {
     let inline = inline_declarations(alloc, sources.arena, key)?;
     style_of(
         alloc,
-        sources.arena,
+        siblings,
         sources.agent,
         sources.author,
         inline.as_slice(),

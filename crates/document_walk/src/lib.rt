@@ -15,7 +15,8 @@
 //! its style, to take the starts that its boxes need, and to evaluate its boxes up to its children (`element`). It is
 //! left once its children are done: then come its after box and its record (`leaving`). What a box is handed by the
 //! boxes before it is a `Surroundings` of the crate `surroundings`. Elements in an element without a box are neither
-//! styled nor evaluated; texts are passed. Where changes of counters are wanted, they are collected when an element is opened,
+//! styled nor evaluated; texts are passed. What styles ask of positions among siblings is counted once for the children
+//! of an element, since a walk's document does not change (`Siblings` of `selector_match`). Where changes of counters are wanted, they are collected when an element is opened,
 //! and its after box's when it is left, so that they come in tree order (`collecting`).
 //!
 //! The walk evaluates what differs since an edit, and no more. It goes from stop to stop, as `merged_walk` has them: to

@@ -14,6 +14,7 @@ use box_eval::starts::Starts;
 use merged_walk::stop::Way;
 use node_arena::arena::Arena;
 use plain_types::memory::Memory;
+use selector_match::siblings::Siblings;
 use snapshot_board::board::Board;
 use std::alloc::Global;
 use std::sync::ledger::Ledger;
@@ -24,11 +25,14 @@ pub(crate) fn turn_at_stop<L: Ledger, T: Starts, R: Snapshot + Drop>(
     walk: &mut Catching,
     alloc: Global,
     sources: &Sources<T>,
+    siblings: &mut Siblings<'_>,
     board: &Board<R>,
     steps: &mut Steps<L>,
 ) -> Result<(), Memory>
+    requires same { siblings.old ≡ sources.now.arena.now.tree }
     requires somewhere { IsSomewhere (reading T.starts sources.now) (kept_on R.walked board.now) walk.old steps.old }
     requires at { is_at (stops_left walk.old) (length (frames_of walk.old)) walk.old.link ≡ true }
+    ensures same { siblings.new ≡ siblings.old }
     ensures next { OnOk result (GoesOn (reading T.starts sources.now) (kept_on R.walked board.now) walk.old steps.old walk.new steps.new) }
     ensures found { OnOk result (GoesOn (reading T.starts sources.now) (kept_on R.walked board.now) walk.old 0 walk.new 0) }
     ensures most { IsWithinMost (reading T.starts sources.now) (kept_on R.walked board.now) walk.old steps.old steps.new }
@@ -39,10 +43,10 @@ pub(crate) fn turn_at_stop<L: Ledger, T: Starts, R: Snapshot + Drop>(
         if let Some(key) = walk.link {
             match stop.way {
                 Way::Past => {}
-                Way::Inside => walk.enter(alloc, sources, key, false, steps)?,
+                Way::Inside => walk.enter(alloc, sources, siblings, key, false, steps)?,
                 Way::Anew => {
                     if is_element(sources.arena, key) {
-                        walk.enter(alloc, sources, key, true, steps)?;
+                        walk.enter(alloc, sources, siblings, key, true, steps)?;
                     } else {
                         walk.link = sources.arena.next_sibling(key);
                     }
@@ -58,13 +62,16 @@ pub(crate) fn turn_at<L: Ledger, T: Starts, R: Snapshot + Drop>(
     walk: &mut Catching,
     alloc: Global,
     sources: &Sources<T>,
+    siblings: &mut Siblings<'_>,
     board: &Board<R>,
     key: usize,
     steps: &mut Steps<L>,
 ) -> Result<(), Memory>
+    requires same { siblings.old ≡ sources.now.arena.now.tree }
     requires somewhere { IsSomewhere (reading T.starts sources.now) (kept_on R.walked board.now) walk.old steps.old }
     requires off { is_at (stops_left walk.old) (length (frames_of walk.old)) walk.old.link ≡ false }
     requires link { walk.old.link ≡ Some key }
+    ensures same { siblings.new ≡ siblings.old }
     ensures next { OnOk result (GoesOn (reading T.starts sources.now) (kept_on R.walked board.now) walk.old steps.old walk.new steps.new) }
     ensures found { OnOk result (GoesOn (reading T.starts sources.now) (kept_on R.walked board.now) walk.old 0 walk.new 0) }
     ensures most { IsWithinMost (reading T.starts sources.now) (kept_on R.walked board.now) walk.old steps.old steps.new }
@@ -75,12 +82,12 @@ pub(crate) fn turn_at<L: Ledger, T: Starts, R: Snapshot + Drop>(
         return Ok(());
     }
     if walk.is_fresh() {
-        return walk.enter(alloc, sources, key, true, steps);
+        return walk.enter(alloc, sources, siblings, key, true, steps);
     }
     if walk.is_same(board, key, steps) {
         return walk.skip(alloc, board, steps);
     }
-    walk.enter(alloc, sources, key, false, steps)
+    walk.enter(alloc, sources, siblings, key, false, steps)
 }
 
 /// Whether the node is an element.

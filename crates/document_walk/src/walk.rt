@@ -18,6 +18,7 @@ use box_eval::starts::Starts;
 use merged_walk::stop::Stop;
 use plain_types::list::List;
 use plain_types::memory::Memory;
+use selector_match::siblings::Siblings;
 use snapshot_board::board::Board;
 use std::alloc::Global;
 use std::sync::ledger::Ledger;
@@ -74,13 +75,14 @@ pub(crate) fn go<L: Ledger, T: Starts, R: Snapshot + Drop>(
     ensures three { IsWithinWhole (reading T.starts sources.now) (kept_on R.walked board.now) (stops_left walk.old) steps.old steps.new }
 {
     let _root = sources.arena.root();
+    let mut siblings = Siblings::new(alloc, sources.arena);
     'turns: loop {
         if walk.is_at_stop() {
-            turn_at_stop(walk, alloc, sources, board, steps)?;
+            turn_at_stop(walk, alloc, sources, &mut siblings, board, steps)?;
             continue;
         }
         match walk.link {
-            Some(key) => turn_at(walk, alloc, sources, board, key, steps)?,
+            Some(key) => turn_at(walk, alloc, sources, &mut siblings, board, key, steps)?,
             None => match walk.stack.pop() {
                 Some(frame) => walk.leave(alloc, sources, frame, steps)?,
                 None => return Ok(()),

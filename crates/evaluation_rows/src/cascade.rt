@@ -15,6 +15,7 @@ use plain_types::sheet::Sheet;
 use plain_types::style::{Display, ElementStyle, ListType, Style};
 use plain_types::style_ref::StyleRef;
 use plain_types::text::Text;
+use selector_match::siblings::Siblings;
 use std::alloc::Global;
 use std::marker::Brand;
 use std::sync::ledger::{Blank, Ledger};
@@ -134,7 +135,7 @@ pub fn style_at<L: Ledger>(
     let inline = inline_declarations(alloc, arena, key)?;
     style_of(
         alloc,
-        arena,
+        &mut Siblings::new(alloc, arena),
         agent,
         author,
         inline.as_slice(),

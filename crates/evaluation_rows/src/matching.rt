@@ -2,11 +2,11 @@
 
 use crate::cascade::arena_of;
 use css_reader::sheet::read_sheet;
-use node_arena::arena::Arena;
 use plain_types::memory::Memory;
 use plain_types::selector::Selector;
 use plain_types::text::Text;
 use selector_match::matching::matches;
+use selector_match::siblings::Siblings;
 use std::alloc::Global;
 use std::test::Fail;
 
@@ -150,14 +150,38 @@ static SMALL_ROWS: [Selected; 4] = [
     ("p:nth-child(-n+1)", "b"),
 ];
 
+/// Rows and their cells: in tree order the elements with a common parent do not come one after the other.
+const TABLE: &str =
+    r#"<table n="a"><tr n="b"><td n="c"/><th n="d"/><td n="e"/></tr><tr n="f"><td n="g"/><td n="h"/></tr>x<tr n="i"><th n="j"/><td n="k"/></tr></table>"#;
+
+static TABLE_ROWS: [Selected; 10] = [
+    ("tr:nth-child(2)", "f"),
+    (":nth-child(2)", "dfhk"),
+    (":nth-last-child(2)", "dfgj"),
+    ("td:nth-of-type(2)", "eh"),
+    ("td:nth-last-of-type(1)", "ehk"),
+    ("th:only-of-type", "dj"),
+    ("td:only-of-type", "k"),
+    (":only-child", "a"),
+    // the positions of a row, asked for at each of its cells
+    ("tr:nth-child(odd) > td:nth-child(odd)", "ce"),
+    ("tr:last-child td:first-of-type", "k"),
+];
+
 /// The attributes `n` of the elements that the selector matches; `text` for a text.
-fn matched(alloc: Global, arena: &Arena, selector: &Selector) -> Result<Text, Memory> {
+fn matched(
+    alloc: Global,
+    siblings: &mut Siblings<'_>,
+    selector: &Selector,
+) -> Result<Text, Memory> {
+    let arena = siblings.arena();
     let mut names = Text::new(alloc);
     let mut at = arena.root();
     'walk: for _place in 0..100 {
-        if matches(arena, at, selector) {
+        if matches(siblings, at, selector) {
             names.push_str(arena.attr(at, "n").unwrap_or("text"))?;
         }
+        siblings.keep(alloc, at);
         match arena.next_in_order(at) {
             Some(next) => at = next,
             None => break,
@@ -167,14 +191,18 @@ fn matched(alloc: Global, arena: &Arena, selector: &Selector) -> Result<Text, Me
 }
 
 /// What the one selector of this text matches; none where it has no reading.
-fn selected(alloc: Global, arena: &Arena, text: &str) -> Result<Option<Text>, Memory> {
+fn selected(
+    alloc: Global,
+    siblings: &mut Siblings<'_>,
+    text: &str,
+) -> Result<Option<Text>, Memory> {
     let rule = format!(in alloc; "{text}{{}}")?;
     let sheet = read_sheet(alloc, rule.as_str())?;
     let Some(rule) = sheet.rules.as_slice().first() else {
         return Ok(None);
     };
     match rule.selectors.as_slice() {
-        [selector] => matched(alloc, arena, selector).map(Some),
+        [selector] => matched(alloc, siblings, selector).map(Some),
         _ => Ok(None),
     }
 }
@@ -186,8 +214,9 @@ fn first_wrong(
     table: &[Selected],
 ) -> Result<Option<&'static str>, Fail> {
     let arena = arena_of(alloc, document)?.ok_or("no document")?;
+    let mut siblings = Siblings::new(alloc, &arena);
     for (selector, expected) in table {
-        match selected(alloc, &arena, selector)? {
+        match selected(alloc, &mut siblings, selector)? {
             Some(names) if names.as_str() == *expected => {}
             _ => return Ok(Some(selector)),
         }
@@ -199,6 +228,7 @@ fn first_wrong(
 fn names_and_positions(rt: HostRuntime) -> Result<(), Fail> {
     assert_eq!(rt; first_wrong(rt.alloc(), DOCUMENT, &NAMES)?, None);
     assert_eq!(rt; first_wrong(rt.alloc(), DOCUMENT, &POSITIONS)?, None);
+    assert_eq!(rt; first_wrong(rt.alloc(), TABLE, &TABLE_ROWS)?, None);
     Ok(())
 }
 

@@ -11,13 +11,13 @@ ghost use Rattle.selectors.specs.Specificity.{is_less};
 
 use crate::candidate::Candidates;
 use crate::rank::{Attachment, Level, Origin, Rank, cascade_level};
-use node_arena::arena::Arena;
 use plain_types::declaration::{Declaration, Declared};
 use plain_types::memory::Memory;
 use plain_types::selector::Selector;
 use plain_types::selector_parts::PseudoElement;
 use plain_types::sheet::{Sheet, StyleRule};
 use selector_match::matching::matches;
+use selector_match::siblings::Siblings;
 use selectors::counting::specificity;
 use selectors::specificity::Specificity;
 use std::alloc::Global;
@@ -48,11 +48,11 @@ fn counts_for(pseudo: PseudoElement, what: &Declaration) -> bool
 }
 
 /// Whether a selector selects the element, or this pseudo-element of it.
-fn selects(arena: &Arena, key: usize, pseudo: PseudoElement, selector: &Selector) -> bool
-    requires { IsLive arena.now.tree key }
-    ensures { result ≡ selects arena.now.tree key pseudo selector.now }
+fn selects(siblings: &Siblings<'_>, key: usize, pseudo: PseudoElement, selector: &Selector) -> bool
+    requires { IsLive siblings.now key }
+    ensures { result ≡ selects siblings.now key pseudo selector.now }
 {
-    is_same(selector.pseudo, pseudo) && matches(arena, key, selector)
+    is_same(selector.pseudo, pseudo) && matches(siblings, key, selector)
 }
 
 /// The greater of a specificity that may be missing and of another.
@@ -67,17 +67,17 @@ fn more_specific(held: Option<Specificity>, other: Specificity) -> Specificity
 
 /// The greatest specificity of a rule's selectors that select the element or this pseudo-element of it.
 fn specificity_in(
-    arena: &Arena,
+    siblings: &Siblings<'_>,
     key: usize,
     pseudo: PseudoElement,
     rule: &StyleRule,
 ) -> Option<Specificity>
-    requires { IsLive arena.now.tree key }
-    ensures { result ≡ specificity_in arena.now.tree key pseudo rule.now }
+    requires { IsLive siblings.now key }
+    ensures { result ≡ specificity_in siblings.now key pseudo rule.now }
 {
     let mut best: Option<Specificity> = None;
     for selector in rule.selectors.as_slice() {
-        if selects(arena, key, pseudo, selector) {
+        if selects(siblings, key, pseudo, selector) {
             best = Some(more_specific(best, specificity(selector)));
         }
     }
@@ -107,16 +107,16 @@ fn add_declared<'a>(
 /// Appends what a rule declares for the element or for this pseudo-element of it.
 fn add_rule<'a>(
     list: &mut Candidates<'a>,
-    arena: &Arena,
+    siblings: &Siblings<'_>,
     key: usize,
     pseudo: PseudoElement,
     origin: Origin,
     rule: &'a StyleRule,
 ) -> Result<(), Memory>
-    requires { IsLive arena.now.tree key }
-    ensures ok { OnOk result (list.new ≡ list.old ++ declared_in arena.now.tree key pseudo origin rule.now) }
+    requires { IsLive siblings.now key }
+    ensures ok { OnOk result (list.new ≡ list.old ++ declared_in siblings.now key pseudo origin rule.now) }
 {
-    match specificity_in(arena, key, pseudo, rule) {
+    match specificity_in(siblings, key, pseudo, rule) {
         Some(specificity) => add_declared(
             list,
             pseudo,
@@ -161,22 +161,29 @@ fn add_attached<'a>(list: &mut Candidates<'a>, inline: &'a [Declared]) -> Result
 /// Appends what rules declare, each of whose selectors is matched once.
 fn add_rules<'a>(
     lists: &mut Applicable<'a>,
-    arena: &Arena,
+    siblings: &Siblings<'_>,
     key: usize,
     origin: Origin,
     rules: &'a [StyleRule],
 ) -> Result<(), Memory>
-    requires { IsLive arena.now.tree key }
-    ensures own { OnOk result (lists.new.own ≡ lists.old.own ++ flat_map (declared_in arena.now.tree key pseudo.Own origin) rules.now) }
-    ensures marker { OnOk result (lists.new.marker ≡ lists.old.marker ++ flat_map (declared_in arena.now.tree key pseudo.Marker origin) rules.now) }
-    ensures before { OnOk result (lists.new.before ≡ lists.old.before ++ flat_map (declared_in arena.now.tree key pseudo.Before origin) rules.now) }
-    ensures after { OnOk result (lists.new.after ≡ lists.old.after ++ flat_map (declared_in arena.now.tree key pseudo.After origin) rules.now) }
+    requires { IsLive siblings.now key }
+    ensures own { OnOk result (lists.new.own ≡ lists.old.own ++ flat_map (declared_in siblings.now key pseudo.Own origin) rules.now) }
+    ensures marker { OnOk result (lists.new.marker ≡ lists.old.marker ++ flat_map (declared_in siblings.now key pseudo.Marker origin) rules.now) }
+    ensures before { OnOk result (lists.new.before ≡ lists.old.before ++ flat_map (declared_in siblings.now key pseudo.Before origin) rules.now) }
+    ensures after { OnOk result (lists.new.after ≡ lists.old.after ++ flat_map (declared_in siblings.now key pseudo.After origin) rules.now) }
 {
     for rule in rules {
-        add_rule(&mut lists.own, arena, key, PseudoElement::Own, origin, rule)?;
+        add_rule(
+            &mut lists.own,
+            siblings,
+            key,
+            PseudoElement::Own,
+            origin,
+            rule,
+        )?;
         add_rule(
             &mut lists.marker,
-            arena,
+            siblings,
             key,
             PseudoElement::Marker,
             origin,
@@ -184,7 +191,7 @@ fn add_rules<'a>(
         )?;
         add_rule(
             &mut lists.before,
-            arena,
+            siblings,
             key,
             PseudoElement::Before,
             origin,
@@ -192,7 +199,7 @@ fn add_rules<'a>(
         )?;
         add_rule(
             &mut lists.after,
-            arena,
+            siblings,
             key,
             PseudoElement::After,
             origin,
@@ -205,20 +212,20 @@ fn add_rules<'a>(
 /// The declarations that apply, where these are the element's hints and those of its `style` attribute.
 pub(crate) fn collect<'a>(
     alloc: Global,
-    arena: &Arena,
+    siblings: &Siblings<'_>,
     key: usize,
     agent: &'a Sheet,
     hints: &'a [Declaration],
     author: &'a Sheet,
     inline: &'a [Declared],
 ) -> Result<Applicable<'a>, Memory>
-    requires live { IsLive arena.now.tree key }
-    requires hints { hints.now ≡ hints_of arena.now.tree key }
-    requires inline { inline.now ≡ inline_of arena.now.tree key }
-    ensures own { IfOk result (λ lists. lists.own ≡ applied arena.now.tree key pseudo.Own agent.now author.now) }
-    ensures marker { IfOk result (λ lists. lists.marker ≡ applied arena.now.tree key pseudo.Marker agent.now author.now) }
-    ensures before { IfOk result (λ lists. lists.before ≡ applied arena.now.tree key pseudo.Before agent.now author.now) }
-    ensures after { IfOk result (λ lists. lists.after ≡ applied arena.now.tree key pseudo.After agent.now author.now) }
+    requires live { IsLive siblings.now key }
+    requires hints { hints.now ≡ hints_of siblings.now key }
+    requires inline { inline.now ≡ inline_of siblings.now key }
+    ensures own { IfOk result (λ lists. lists.own ≡ applied siblings.now key pseudo.Own agent.now author.now) }
+    ensures marker { IfOk result (λ lists. lists.marker ≡ applied siblings.now key pseudo.Marker agent.now author.now) }
+    ensures before { IfOk result (λ lists. lists.before ≡ applied siblings.now key pseudo.Before agent.now author.now) }
+    ensures after { IfOk result (λ lists. lists.after ≡ applied siblings.now key pseudo.After agent.now author.now) }
 {
     let mut lists = Applicable {
         own: Candidates::new(alloc),
@@ -228,7 +235,7 @@ pub(crate) fn collect<'a>(
     };
     add_rules(
         &mut lists,
-        arena,
+        siblings,
         key,
         Origin::UserAgent,
         agent.rules.as_slice(),
@@ -236,7 +243,7 @@ pub(crate) fn collect<'a>(
     add_hints(&mut lists.own, hints)?;
     add_rules(
         &mut lists,
-        arena,
+        siblings,
         key,
         Origin::Author,
         author.rules.as_slice(),

@@ -1,10 +1,11 @@
 //! The cascade: which style an element and its pseudo-elements have (CSS Cascade 5, 4 to 7).
 //!
-//! The floor above selectors and their matching: [`style_of::style_of`] takes a document, the sheets of the user
-//! agent and of the author, an element, what its `style` attribute declares and the own style of its parent, and
-//! gives the styles of the element and of its `::marker`, `::before` and `::after`. [`agent_sheet::AGENT_SHEET`]
-//! is the text of the sheet that the user agent has, [`hints::hints`] says what the attributes of HTML's lists
-//! mean as declarations, and [`style_attributes::inline_declarations`] reads a `style` attribute.
+//! The floor above selectors and their matching: [`style_of::style_of`] takes a document, as the `Siblings` of
+//! `selector_match`, the sheets of the user agent and of the author, an element, what its `style` attribute declares
+//! and the own style of its parent, and gives the styles of the element and of its `::marker`, `::before` and
+//! `::after`. [`agent_sheet::AGENT_SHEET`] is the text of the sheet that the user agent has, [`hints::hints`] says
+//! what the attributes of HTML's lists mean as declarations, and [`style_attributes::inline_declarations`] reads a
+//! `style` attribute.
 //!
 //! On the way there, the declarations that apply are put into lists, one for the element and one for each
 //! pseudo-element, in the order in which they appear (`applicable`); of those of a property the greatest
@@ -18,7 +19,8 @@
 //! ```text
 //! let root = arena.root();    // <ol start="3" style="list-style: none"/>
 //! let inline = inline_declarations(alloc, &arena, root)?;
-//! let style = style_of(alloc, &arena, &agent, &author, inline.as_slice(), None, root, &mut steps)?;
+//! let mut siblings = Siblings::new(alloc, &arena);
+//! let style = style_of(alloc, &mut siblings, &agent, &author, inline.as_slice(), None, root, &mut steps)?;
 //! style.own.resets       // `list-item 2`
 //! style.own.list_type    // `none`
 //! ```

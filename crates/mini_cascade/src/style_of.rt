@@ -8,11 +8,11 @@ ghost use Rattle.mini_cascade.specs.Styles.{element_style, styles_under};
 use crate::applicable::{Applicable, collect};
 use crate::defaulting::{initial_values, style_under};
 use crate::hints::hints;
-use node_arena::arena::Arena;
 use plain_types::declaration::Declared;
 use plain_types::memory::Memory;
 use plain_types::sheet::Sheet;
 use plain_types::style::{ElementStyle, Style};
+use selector_match::siblings::Siblings;
 use std::alloc::Global;
 use std::sync::ledger::Ledger;
 use steps::Steps;
@@ -45,10 +45,11 @@ fn styles_under<'a>(
 /// of the element's parent, and `None` for the root, which inherits initial values. One step is counted, also
 /// where the answer is `Memory`.
 ///
-/// Each selector is matched once; declarations of rules that do not match are not looked at.
+/// Each selector is matched once; declarations of rules that do not match are not looked at. Counts of siblings that
+/// the matching asked for are kept for later calls.
 pub fn style_of<L: Ledger>(
     alloc: Global,
-    arena: &Arena,
+    siblings: &mut Siblings<'_>,
     agent: &Sheet,
     author: &Sheet,
     inline: &[Declared],
@@ -56,13 +57,23 @@ pub fn style_of<L: Ledger>(
     key: usize,
     steps: &mut Steps<L>,
 ) -> Result<ElementStyle, Memory>
-    requires live { IsLive arena.now.tree key }
-    requires inline { inline.now ≡ inline_of arena.now.tree key }
-    ensures style { IfOk result (λ style. style ≡ element_style arena.now.tree agent.now author.now key (option_copied parent.entry)) }
+    requires live { IsLive siblings.old key }
+    requires inline { inline.now ≡ inline_of siblings.old key }
+    ensures tree { siblings.new ≡ siblings.old }
+    ensures style { IfOk result (λ style. style ≡ element_style siblings.old agent.now author.now key (option_copied parent.entry)) }
     ensures step { steps.new ≡ steps.old + 1 }
 {
     steps.tick();
-    let hints = hints(alloc, arena, key)?;
-    let lists = collect(alloc, arena, key, agent, hints.as_slice(), author, inline)?;
+    let hints = hints(alloc, siblings.arena(), key)?;
+    let lists = collect(
+        alloc,
+        siblings,
+        key,
+        agent,
+        hints.as_slice(),
+        author,
+        inline,
+    )?;
+    siblings.keep(alloc, key);
     styles_under(alloc, &lists, parent)
 }

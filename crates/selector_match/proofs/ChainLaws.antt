@@ -6,7 +6,7 @@ use Rattle.std.specs.Prelude.{IfSome, IfNone, Option, Some, None}
 use Rattle.std.proofs.lemmas.Bool.{cases_Bool, or_cases, or_left, or_right, and_parts, both_ways, false_from_ne_true}
 use Rattle.selector_match.specs.Elements.{Element, Level, Standing, ancestors_in, ancestors, levels_back, among, earlier_siblings}
 use Rattle.selector_match.specs.Positions.{siblings}
-use Rattle.selector_match.proofs.Lookups.{IsBeside}
+use Rattle.selector_match.specs.Machinery.Lookups.{IsBeside}
 
 -- each element of a chain has the rest of it before itself
 abbrev pub IsChain : (Standing → List Standing) → List Standing → Type 0

@@ -1,4 +1,3 @@
-mod Lookups
 mod TextLaws
 mod SeatLaws
 mod StandingLaws
@@ -10,3 +9,4 @@ mod PositionLaws
 mod ChainLaws
 mod StepLaws
 mod WalkLaws
+mod CountLaws

@@ -15,7 +15,7 @@ use Rattle.plain_types.specs.Tree.{AreSound}
 use Rattle.plain_types.specs.declared.node.Node.{Node}
 use Rattle.plain_types.specs.declared.node.Node.TheVariants as node
 use Rattle.selector_match.specs.Elements.{Element, Level, Standing, element_with, elements, level_of, standing_in, standing_of}
-use Rattle.selector_match.proofs.Lookups.{beside_of}
+use Rattle.selector_match.specs.Machinery.Lookups.{beside_of}
 
 -- a node with what is around it: its children, the trees after it, its ancestors that are elements, each
 -- among its siblings, and the elements before it, the nearest first

@@ -19,7 +19,7 @@ use Rattle.node_arena.specs.Nodes.{node_name, node_attrs, name_of, attrs_of}
 use Rattle.node_arena.proofs.EntryLaws.{one-tree}
 use Rattle.selector_match.specs.Elements.{Element, Level, Standing, element_with, elements, are_nothing, level_of, standing_of, ancestors, ancestors_in, is_root}
 use Rattle.selector_match.specs.Positions.{siblings}
-use Rattle.selector_match.proofs.Lookups.{IsElement, nowhere, standing_at, beside_of, IsBeside, IsElementBeside}
+use Rattle.selector_match.specs.Machinery.Lookups.{IsElement, nowhere, standing_at, beside_of, IsBeside, IsElementBeside}
 use Rattle.selector_match.proofs.SeatLaws.{Seat, the_seat, seated, times-seated, elements-own, HasSeat, seat-live, seat-stands, seat-child, seat-root, stand, stand_as, own, own_levels, onward, left_beside, IsSeatBeside, seat-beside, seat-alone, leaf-texts}
 
 -- what was looked up has a name, or none
@@ -225,7 +225,7 @@ module _ (f : Forest (Keyed Node)) (doc : IsKeyedDocument f) where
       let passes = subst (λ seat. Passes after seat a.second) (same-seat q a.first e a.first_is) a.passes in
       none-reached after q a.second e passes (seat-alone f doc.distinct (one-tree f doc) after at a.second a.live a.second_is.is none)
 
-  -- There are no more siblings than nodes.
+  -- There are fewer siblings than nodes.
 
   own-few : (n : Node) (c : Forest (Keyed Node)) → length (own n c) ≤ 1
   own-few (node.Element name attrs) c = omega arith
@@ -236,21 +236,21 @@ module _ (f : Forest (Keyed Node)) (doc : IsKeyedDocument f) where
   elements-few (Tree n c r) =
       omega (arith, elements-few r, own-few n.label c, ap length (elements-own n.key n.label c r), length-append (own n.label c) (elements (without_keys r)))
 
-  earlier-few : (g : Forest (Keyed Node)) (above : List Level) (earlier : List Element) (p : Option ℕ) (e : List (Keyed Seat)) (q : ℕ) (t : Spot Seat) → spot p e (seated above earlier g) q ≡ Some t → length t.label.earlier ≤ length earlier + size g
+  earlier-few : (g : Forest (Keyed Node)) (above : List Level) (earlier : List Element) (p : Option ℕ) (e : List (Keyed Seat)) (q : ℕ) (t : Spot Seat) → spot p e (seated above earlier g) q ≡ Some t → length t.label.earlier < length earlier + size g
   earlier-few Empty above earlier p e q t is = absurd (none-some t is)
   earlier-few (Tree n c r) above earlier p e q t is =
       let seat : Seat = the_seat n.label c r above earlier in
       elim (chosen (n.key == q) _ _ _ is) [
         | inl h ↦ let same : length earlier ≡ length t.label.earlier = ap (λ (x : Spot Seat). length x.label.earlier) (same_Some _ _ h.1) in omega arith
         | inr h ↦ elim (first_found _ _ t h.1) [
-          | inl a ↦ let few : length t.label.earlier ≤ 0 + size c = earlier-few c (own_levels seat ++ above) [] (Some n.key) [] q t a in omega arith
+          | inl a ↦ let few : length t.label.earlier < 0 + size c = earlier-few c (own_levels seat ++ above) [] (Some n.key) [] q t a in omega arith
           | inr b ↦
-              let few : length t.label.earlier ≤ length (own n.label c ++ earlier) + size r = earlier-few r above (own n.label c ++ earlier) p (e ++ keyed n.key seat ∷ []) q t b.1 in
+              let few : length t.label.earlier < length (own n.label c ++ earlier) + size r = earlier-few r above (own n.label c ++ earlier) p (e ++ keyed n.key seat ∷ []) q t b.1 in
               omega (arith, own-few n.label c, length-append (own n.label c) earlier)
         ]
       ]
 
-  onward-few : (after : Bool) (q : ℕ) (seat : Seat) → IsLive f q → HasSeat f q seat → length (onward after seat) ≤ size f
+  onward-few : (after : Bool) (q : ℕ) (seat : Seat) → IsLive f q → HasSeat f q seat → length (onward after seat) < size f
   onward-few true q seat live has =
       let s = live-spot f q live in
       let its : s.0.after ≡ seat.after = sym (rw s.1 refl) ∙ has.after in
@@ -260,7 +260,7 @@ module _ (f : Forest (Keyed Node)) (doc : IsKeyedDocument f) where
   onward-few false q seat live has =
       let t = the_some (spot_of (seated [] [] f) q) (live-seat q seat live has) in
       let same : t.0.label ≡ seat = same_Some _ _ (sym (ap (option_map (λ (w : Spot Seat). w.label)) t.1) ∙ has.is) in
-      let few : length t.0.label.earlier ≤ 0 + size f = earlier-few f [] [] None [] q t.0 t.1 in
+      let few : length t.0.label.earlier < 0 + size f = earlier-few f [] [] None [] q t.0 t.1 in
       omega (arith, ap (λ (x : Seat). length x.earlier) same)
     where
       live-seat : (q : ℕ) (seat : Seat) → IsLive f q → HasSeat f q seat → IsSome (spot_of (seated [] [] f) q)
@@ -268,7 +268,7 @@ module _ (f : Forest (Keyed Node)) (doc : IsKeyedDocument f) where
           let some : 0 < times q (seated [] [] f) = subst (λ n. 0 < n) (sym (times-seated f [] [] q)) (live-counted f q live) in
           spot-some (seated [] [] f) None [] q some
 
-  pub siblings-few : (after : Bool) (q : ℕ) → IsLive f q → IsElement f q → length (siblings after (standing_at f q).level) ≤ size f
+  pub siblings-few : (after : Bool) (q : ℕ) → IsLive f q → IsElement f q → length (siblings after (standing_at f q).level) < size f
   siblings-few after q live some =
       let e = element-seat q live some in
       omega (arith, onward-few after q e.seat live e.has, ap length (siblings-at after q e))

@@ -6,9 +6,11 @@ ghost use Rattle.forest.specs.Spots.{IsLive};
 ghost use Rattle.plain_types.specs.Attributes.{value_of};
 ghost use Rattle.selector_match.specs.Elements.{ancestors, earlier_siblings, is_root, standing_of};
 ghost use Rattle.selector_match.specs.Positions.{is_counted, sibling_count, siblings};
+ghost use Rattle.selector_match.specs.Machinery.Kept.{AreRight};
 ghost use Rattle.selector_match.specs.Machinery.Sides.{is_later};
 
-use crate::neighbours::{is_empty, neighbour};
+use crate::kept::Kept;
+use crate::neighbours::{element_beside, is_empty};
 use crate::side::Side;
 use node_arena::arena::Arena;
 use node_arena::laws::arena_holds_document;
@@ -18,6 +20,7 @@ use std::marker::Model;
 #[derive(Drop)]
 pub(crate) struct Element<'a> {
     arena: &'a Arena,
+    kept: &'a Kept,
     key: usize,
 }
 
@@ -25,26 +28,28 @@ impl<'a> Model for Element<'a> {
     ghost use Rattle.std.specs.Prelude.{true, [], IsSome, unwrap_or};
     ghost use Rattle.forest.specs.Spots.{IsLive};
     ghost use Rattle.selector_match.specs.Elements.{Standing, standing_of};
+    ghost use Rattle.selector_match.specs.Machinery.Kept.{AreRight};
 
     ghost Value = { Standing };
 
     ghost view = { λ e. unwrap_or (standing_of e.arena.now.tree e.key)
         (record { level = record { element = record { name = []; attrs = []; is_empty = true }; earlier = []; later = [] }; above = [] }) };
 
-    ghost invariant = { λ e. IsLive e.arena.now.tree e.key × IsSome (standing_of e.arena.now.tree e.key) };
+    ghost invariant = { λ e. IsLive e.arena.now.tree e.key × IsSome (standing_of e.arena.now.tree e.key) × AreRight e.arena.now.tree e.kept.now };
 }
 
 impl<'a> Element<'a> {
     /// The element of this key; a text is none.
-    pub(crate) fn of(arena: &'a Arena, key: usize) -> Option<Element<'a>>
-        requires { IsLive arena.now.tree key }
+    pub(crate) fn of(arena: &'a Arena, kept: &'a Kept, key: usize) -> Option<Element<'a>>
+        requires live { IsLive arena.now.tree key }
+        requires right { AreRight arena.now.tree kept.now }
         ensures { result ≡ standing_of arena.now.tree key }
     {
         arena_holds_document(arena);
         if arena.name(key).is_none() {
             return None;
         }
-        Some(Element { arena, key })
+        Some(Element { arena, kept, key })
     }
 
     /// The same element once more.
@@ -53,6 +58,7 @@ impl<'a> Element<'a> {
     {
         Element {
             arena: self.arena,
+            kept: self.kept,
             key: self.key,
         }
     }
@@ -66,6 +72,7 @@ impl<'a> Element<'a> {
         let key = self.arena.parent(self.key)?;
         Some(Element {
             arena: self.arena,
+            kept: self.kept,
             key,
         })
     }
@@ -85,16 +92,12 @@ impl<'a> Element<'a> {
         ensures above { IfSome result (λ other. other.above ≡ self.now.above) }
         ensures none { IfNone result (siblings (is_later side) self.now.level ≡ []) }
     {
-        let arena = self.arena;
-        arena_holds_document(arena);
-        let mut at = self.key;
-        'beside: while let Some(beside) = neighbour(arena, at, side) {
-            if arena.name(beside).is_some() {
-                return Some(Element { arena, key: beside });
-            }
-            at = beside;
-        }
-        None
+        let key = element_beside(self.arena, self.key, side)?;
+        Some(Element {
+            arena: self.arena,
+            kept: self.kept,
+            key,
+        })
     }
 
     /// The nearest element before it among its siblings. Time linear in the number of texts between.
@@ -140,9 +143,19 @@ impl<'a> Element<'a> {
         !same_type || sibling.arena.name(sibling.key) == self.arena.name(self.key)
     }
 
-    /// How many siblings after it, or before it, count: all, or those of its name. Time linear in the number of
-    /// siblings.
+    /// How many siblings after it, or before it, count: all, or those of its name. Constant time where the count is
+    /// kept; else time linear in the number of siblings.
     pub(crate) fn count_siblings(&self, side: Side, same_type: bool) -> usize
+        ensures { result ≡ sibling_count (is_later side) same_type self.now.level }
+    {
+        match self.kept.count(self.key, side) {
+            Some(count) => count.of(same_type),
+            None => self.count_along(side, same_type),
+        }
+    }
+
+    /// How many siblings after it, or before it, count, from one to the next. Time linear in the number of siblings.
+    fn count_along(&self, side: Side, same_type: bool) -> usize
         ensures { result ≡ sibling_count (is_later side) same_type self.now.level }
     {
         arena_holds_document(self.arena);

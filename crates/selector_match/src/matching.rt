@@ -7,7 +7,7 @@ ghost use Rattle.selector_match.specs.Machinery.Walks.{EndsRow, IsNearestAncesto
 
 use crate::compounds::matches_compound;
 use crate::element::Element;
-use node_arena::arena::Arena;
+use crate::siblings::Siblings;
 use plain_types::selector::{Compound, Selector};
 use plain_types::selector_parts::Join;
 
@@ -177,13 +177,14 @@ fn match_ancestors(selector: &Selector, element: &Element<'_>, place: usize) -> 
 /// and nothing by a selector without compounds or whose combinators are not one less.
 ///
 /// It takes no memory. Its time is at most that of the tests of all compounds on all ancestors and, where
-/// there are `+` and `~`, on all earlier siblings of each of these. A test of a position takes the number of
-/// siblings, and `*=` the product of the two lengths; every other test takes the length of attribute and value.
-pub fn matches(arena: &Arena, key: usize, selector: &Selector) -> bool
-    requires { IsLive arena.now.tree key }
-    ensures matches { result ≡ matches arena.now.tree key selector.now }
+/// there are `+` and `~`, on all earlier siblings of each of these. A test of a position takes constant time where
+/// [`Siblings::keep`] has counted the siblings, and else their number; `*=` takes the product of the two lengths;
+/// every other test takes the length of attribute and value.
+pub fn matches(siblings: &Siblings<'_>, key: usize, selector: &Selector) -> bool
+    requires { IsLive siblings.now key }
+    ensures matches { result ≡ matches siblings.now key selector.now }
 {
-    let Some(element) = Element::of(arena, key) else {
+    let Some(element) = siblings.element(key) else {
         return false;
     };
     let Some(last) = selector.compounds.len().checked_sub(1) else {

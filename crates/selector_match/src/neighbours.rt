@@ -1,11 +1,13 @@
 //! The nodes beside a node, and its children.
 
-ghost use Rattle.std.specs.Prelude.{◌≡◌, ◌==◌, false, if◌then◌else◌, length};
+ghost use Rattle.std.specs.Prelude.{◌≡◌, ◌==◌, [], false, if◌then◌else◌, length, IfNone, IfSome};
 ghost use Rattle.std.specs.Option.{option_map_or};
 ghost use Rattle.forest.specs.Keys.{without_keys};
 ghost use Rattle.forest.specs.Spots.{IsLive, IsLink, children_of, next_sibling_of, previous_sibling_of};
 ghost use Rattle.node_arena.specs.Nodes.{characters_of};
 ghost use Rattle.selector_match.specs.Elements.{are_nothing};
+ghost use Rattle.selector_match.specs.Positions.{siblings};
+ghost use Rattle.selector_match.specs.Machinery.Lookups.{IsElement, IsElementBeside, standing_at};
 ghost use Rattle.selector_match.specs.Machinery.Sides.{is_later};
 
 use crate::side::Side;
@@ -22,6 +24,25 @@ pub(crate) fn neighbour(arena: &Arena, key: usize, side: Side) -> Option<usize>
         Side::Earlier => arena.previous_sibling(key),
         Side::Later => arena.next_sibling(key),
     }
+}
+
+/// The nearest element among the siblings after an element, or among those before it. Time linear in the number of
+/// texts between.
+pub(crate) fn element_beside(arena: &Arena, key: usize, side: Side) -> Option<usize>
+    requires live { IsLive arena.now.tree key }
+    requires element { IsElement arena.now.tree key }
+    ensures some { IfSome result (IsElementBeside arena.now.tree (is_later side) key) }
+    ensures none { IfNone result (siblings (is_later side) (standing_at arena.now.tree key).level ≡ []) }
+{
+    arena_holds_document(arena);
+    let mut at = key;
+    'beside: while let Some(beside) = neighbour(arena, at, side) {
+        if arena.name(beside).is_some() {
+            return Some(beside);
+        }
+        at = beside;
+    }
+    None
 }
 
 /// Whether a node is a text without characters.

@@ -1,6 +1,6 @@
 //! The two sides of an element among its siblings.
 
-ghost use Rattle.std.specs.Prelude.{◌≡◌};
+ghost use Rattle.std.specs.Prelude.{◌≡◌, not};
 ghost use Rattle.selector_match.specs.Machinery.Sides.{is_later};
 
 /// The siblings before an element, or those after it.
@@ -8,6 +8,16 @@ ghost use Rattle.selector_match.specs.Machinery.Sides.{is_later};
 pub(crate) enum Side {
     Earlier,
     Later,
+}
+
+/// The other side.
+pub(crate) fn opposite(side: Side) -> Side
+    ensures { is_later result ≡ not (is_later side) }
+{
+    match side {
+        Side::Earlier => Side::Later,
+        Side::Later => Side::Earlier,
+    }
 }
 
 /// The side from which positions count: after the element where they count from the last sibling.

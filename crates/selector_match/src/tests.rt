@@ -1,6 +1,7 @@
 //! What no sheet can say of selectors, and one that a sheet can, worked out by hand.
 
 use crate::matching::matches;
+use crate::siblings::Siblings;
 use node_arena::arena::{Arena, has_element_root};
 use plain_types::attr::Attr;
 use plain_types::list::List;
@@ -78,11 +79,13 @@ fn tree_of(alloc: Global, rows: &[Row]) -> Result<Option<Tree>, Memory> {
 /// The places, in tree order, of the nodes that the selector matches.
 fn matched(alloc: Global, arena: &Arena, selector: &Selector) -> Result<Vec<usize>, Memory> {
     let mut places = Vec::new(alloc);
+    let mut siblings = Siblings::new(alloc, arena);
     let mut at = arena.root();
     'walk: for place in 0..100 {
-        if matches(arena, at, selector) {
+        if matches(&siblings, at, selector) {
             places.push(place)?;
         }
+        siblings.keep(alloc, at);
         match arena.next_in_order(at) {
             Some(next) => at = next,
             None => break,

@@ -12,9 +12,12 @@ use Rattle.document_walk.proofs.StandingLemmas.{leaves}
 use Rattle.document_walk.proofs.walk.go.Goals as goal
 
 pub turns-init : goal.turns-init
-turns-init g c = λ merge held can.
-    begins_way (reading g.T.Starts.starts c.args.sources.now) (kept_on g.R.Snapshot.walked c.args.board.now) c.root-root.ensures.document.distinct c.args.walk.now merge held c.args.steps.now can
-    c.requires.frames c.requires.link c.requires.around c.requires.told
+turns-init g c = (
+  c.new-siblings.ensures.tree,
+  λ merge held can.
+      begins_way (reading g.T.Starts.starts c.args.sources.now) (kept_on g.R.Snapshot.walked c.args.board.now) c.root-root.ensures.document.distinct c.args.walk.now merge held c.args.steps.now can
+      c.requires.frames c.requires.link c.requires.around c.requires.told,
+)
 
 -- A turn at a stop.
 
@@ -22,32 +25,35 @@ pub turn_at_stop-requires-clause-somewhere : goal.turn_at_stop-requires-clause-s
 turn_at_stop-requires-clause-somewhere g c =
     let from = reading g.T.Starts.starts c.args.sources.now in
     let can = c.requires.stands in
-    record { held = can.1.0; all = told_all from (document_of from); most = c.args.steps.now + budget from can.0; at = (c.turns.invariant can.0 can.1.0 can.1.1).at }
+    record { held = can.1.0; all = told_all from (document_of from); most = c.args.steps.now + budget from can.0; at = (c.turns.invariant.1 can.0 can.1.0 can.1.1).at }
 
 pub returns-in_err-turn_at_stop-clause-most : goal.returns-in_err-turn_at_stop-clause-most
 returns-in_err-turn_at_stop-clause-most g c = λ merge held can.
     let from = reading g.T.Starts.starts c.args.sources.now in
-    (c.turn_at_stop.ensures.most held (told_all from (document_of from)) (c.args.steps.now + budget from merge) (c.turns.invariant merge held can).at).0
+    (c.turn_at_stop.ensures.most held (told_all from (document_of from)) (c.args.steps.now + budget from merge) (c.turns.invariant.1 merge held can).at).0
 
 pub returns-in_err-turn_at_stop-clause-whole : goal.returns-in_err-turn_at_stop-clause-whole
 returns-in_err-turn_at_stop-clause-whole g c = λ merge held can.
     let from = reading g.T.Starts.starts c.args.sources.now in
-    let way = c.turns.invariant merge held can in
+    let way = c.turns.invariant.1 merge held can in
     within_whole c.turn_at_stop.new.steps c.turns.steps _ _ (c.turn_at_stop.ensures.most held (told_all from (document_of from)) (c.args.steps.now + budget from merge) way.at).1 way.few
 
 pub turns-smaller-then-is_at_stop : goal.turns-smaller-then-is_at_stop
 turns-smaller-then-is_at_stop g c =
     let from = reading g.T.Starts.starts c.args.sources.now in
     let can = c.requires.stands in
-    (c.in_ok-turn_at_stop.ensures.next can.1.0 (told_all from (document_of from)) (c.args.steps.now + budget from can.0) (c.turns.invariant can.0 can.1.0 can.1.1).at).1.0
+    (c.in_ok-turn_at_stop.ensures.next can.1.0 (told_all from (document_of from)) (c.args.steps.now + budget from can.0) (c.turns.invariant.1 can.0 can.1.0 can.1.1).at).1.0
 
 pub turns-preserved-then-is_at_stop : goal.turns-preserved-then-is_at_stop
-turns-preserved-then-is_at_stop g c = λ merge held can.
-    let from = reading g.T.Starts.starts c.args.sources.now in
-    let way = c.turns.invariant merge held can in
-    goes_way from (kept_on g.R.Snapshot.walked c.args.board.now) merge held c.args.steps.now c.args.walk.now.changes c.turns.walk c.turn_at_stop.new.walk c.turns.steps c.turn_at_stop.new.steps way
-    (c.in_ok-turn_at_stop.ensures.next held (told_all from (document_of from)) (c.args.steps.now + budget from merge) way.at)
-    (c.in_ok-turn_at_stop.ensures.found held (told_all from (document_of from)) (0 + budget from merge) way.found)
+turns-preserved-then-is_at_stop g c = (
+  c.turn_at_stop.ensures.same ∙ c.turns.invariant.0,
+  λ merge held can.
+      let from = reading g.T.Starts.starts c.args.sources.now in
+      let way = c.turns.invariant.1 merge held can in
+      goes_way from (kept_on g.R.Snapshot.walked c.args.board.now) merge held c.args.steps.now c.args.walk.now.changes c.turns.walk c.turn_at_stop.new.walk c.turns.steps c.turn_at_stop.new.steps way
+      (c.in_ok-turn_at_stop.ensures.next held (told_all from (document_of from)) (c.args.steps.now + budget from merge) way.at)
+      (c.in_ok-turn_at_stop.ensures.found held (told_all from (document_of from)) (0 + budget from merge) way.found),
+)
 
 -- A turn at a node.
 
@@ -55,32 +61,35 @@ pub turn_at-requires-clause-somewhere : goal.turn_at-requires-clause-somewhere
 turn_at-requires-clause-somewhere g c =
     let from = reading g.T.Starts.starts c.args.sources.now in
     let can = c.requires.stands in
-    record { held = can.1.0; all = told_all from (document_of from); most = c.args.steps.now + budget from can.0; at = (c.turns.invariant can.0 can.1.0 can.1.1).at }
+    record { held = can.1.0; all = told_all from (document_of from); most = c.args.steps.now + budget from can.0; at = (c.turns.invariant.1 can.0 can.1.0 can.1.1).at }
 
 pub returns-in_err-turn_at-in-Some-clause-most : goal.returns-in_err-turn_at-in-Some-clause-most
 returns-in_err-turn_at-in-Some-clause-most g c = λ merge held can.
     let from = reading g.T.Starts.starts c.args.sources.now in
-    (c.turn_at.ensures.most held (told_all from (document_of from)) (c.args.steps.now + budget from merge) (c.turns.invariant merge held can).at).0
+    (c.turn_at.ensures.most held (told_all from (document_of from)) (c.args.steps.now + budget from merge) (c.turns.invariant.1 merge held can).at).0
 
 pub returns-in_err-turn_at-in-Some-clause-whole : goal.returns-in_err-turn_at-in-Some-clause-whole
 returns-in_err-turn_at-in-Some-clause-whole g c = λ merge held can.
     let from = reading g.T.Starts.starts c.args.sources.now in
-    let way = c.turns.invariant merge held can in
+    let way = c.turns.invariant.1 merge held can in
     within_whole c.turn_at.new.steps c.turns.steps _ _ (c.turn_at.ensures.most held (told_all from (document_of from)) (c.args.steps.now + budget from merge) way.at).1 way.few
 
 pub turns-smaller-in-Continue-branch-2 : goal.turns-smaller-in-Continue-branch-2
 turns-smaller-in-Continue-branch-2 g c =
     let from = reading g.T.Starts.starts c.args.sources.now in
     let can = c.requires.stands in
-    (c.in_ok-turn_at-in-Some.ensures.next can.1.0 (told_all from (document_of from)) (c.args.steps.now + budget from can.0) (c.turns.invariant can.0 can.1.0 can.1.1).at).1.0
+    (c.in_ok-turn_at-in-Some.ensures.next can.1.0 (told_all from (document_of from)) (c.args.steps.now + budget from can.0) (c.turns.invariant.1 can.0 can.1.0 can.1.1).at).1.0
 
 pub turns-preserved-in-Continue-branch-2 : goal.turns-preserved-in-Continue-branch-2
-turns-preserved-in-Continue-branch-2 g c = λ merge held can.
-    let from = reading g.T.Starts.starts c.args.sources.now in
-    let way = c.turns.invariant merge held can in
-    goes_way from (kept_on g.R.Snapshot.walked c.args.board.now) merge held c.args.steps.now c.args.walk.now.changes c.turns.walk c.turn_at.new.walk c.turns.steps c.turn_at.new.steps way
-    (c.in_ok-turn_at-in-Some.ensures.next held (told_all from (document_of from)) (c.args.steps.now + budget from merge) way.at)
-    (c.in_ok-turn_at-in-Some.ensures.found held (told_all from (document_of from)) (0 + budget from merge) way.found)
+turns-preserved-in-Continue-branch-2 g c = (
+  c.turn_at.ensures.same ∙ c.turns.invariant.0,
+  λ merge held can.
+      let from = reading g.T.Starts.starts c.args.sources.now in
+      let way = c.turns.invariant.1 merge held can in
+      goes_way from (kept_on g.R.Snapshot.walked c.args.board.now) merge held c.args.steps.now c.args.walk.now.changes c.turns.walk c.turn_at.new.walk c.turns.steps c.turn_at.new.steps way
+      (c.in_ok-turn_at-in-Some.ensures.next held (told_all from (document_of from)) (c.args.steps.now + budget from merge) way.at)
+      (c.in_ok-turn_at-in-Some.ensures.found held (told_all from (document_of from)) (0 + budget from merge) way.found),
+)
 
 -- An element is left.
 
@@ -91,7 +100,7 @@ leave-requires g c =
     let can = c.requires.stands in
     let all = told_all from (document_of from) in
     let most = c.args.steps.now + budget from can.0 in
-    let way = c.turns.invariant can.0 can.1.0 can.1.1 in
+    let way = c.turns.invariant.1 can.0 can.1.0 can.1.1 in
     let leave = can_leave from kept can.1.0 all most c.turns.walk c.turns.steps way.at c.in-Some-pop.frame _ (last_first c.turns.walk.stack.items c.pop.new.self.items c.in-Some-pop.frame c.in-Some-pop.ensures.items)
     (end_is from kept can.1.0 all most (sound from.table) c.root-root.ensures.document.distinct c.turns.walk c.turns.steps way.at (sym c.is_at_stop.ensures.test ∙ c.if-is_at_stop.false) c.in-None.is) in
     record { live = leave.live; closes = leave.closes }
@@ -104,29 +113,32 @@ turns-smaller g c =
     let all = told_all from (document_of from) in
     let most = c.args.steps.now + budget from can.0 in
     let walk = c.turns.walk in
-    let way = c.turns.invariant can.0 can.1.0 can.1.1 in
+    let way = c.turns.invariant.1 can.0 can.1.0 can.1.1 in
     (leaves from kept can.1.0 all most (sound from.table) walk c.turns.steps way.at c.root-root.ensures.document.distinct
     (record { stack = c.pop.new.self; stops = walk.stops; link = walk.link; around = walk.around; told = walk.told; changes = walk.changes }) c.leave.new.self c.in-Some-pop.frame c.leave.new.steps
     (last_first c.turns.walk.stack.items c.pop.new.self.items c.in-Some-pop.frame c.in-Some-pop.ensures.items) refl refl refl refl c.in_ok-leave-in-Some-pop.ensures.left
     (end_is from kept can.1.0 all most (sound from.table) c.root-root.ensures.document.distinct c.turns.walk c.turns.steps way.at (sym c.is_at_stop.ensures.test ∙ c.if-is_at_stop.false) c.in-None.is) c.leave.ensures.steps).1.0
 
 pub turns-preserved : goal.turns-preserved
-turns-preserved g c = λ merge held can.
-    let from = reading g.T.Starts.starts c.args.sources.now in
-    let kept = kept_on g.R.Snapshot.walked c.args.board.now in
-    let all = told_all from (document_of from) in
-    let most = c.args.steps.now + budget from merge in
-    let walk = c.turns.walk in
-    let way = c.turns.invariant merge held can in
-    goes_way from kept merge held c.args.steps.now c.args.walk.now.changes walk c.leave.new.self c.turns.steps c.leave.new.steps way
-    (leaves from kept held all most (sound from.table) walk c.turns.steps way.at c.root-root.ensures.document.distinct
-    (record { stack = c.pop.new.self; stops = walk.stops; link = walk.link; around = walk.around; told = walk.told; changes = walk.changes }) c.leave.new.self c.in-Some-pop.frame c.leave.new.steps
-    (last_first c.turns.walk.stack.items c.pop.new.self.items c.in-Some-pop.frame c.in-Some-pop.ensures.items) refl refl refl refl c.in_ok-leave-in-Some-pop.ensures.left
-    (end_is from kept held all most (sound from.table) c.root-root.ensures.document.distinct c.turns.walk c.turns.steps way.at (sym c.is_at_stop.ensures.test ∙ c.if-is_at_stop.false) c.in-None.is) c.leave.ensures.steps)
-    (leaves from kept held all (0 + budget from merge) (sound from.table) walk 0 way.found c.root-root.ensures.document.distinct
-    (record { stack = c.pop.new.self; stops = walk.stops; link = walk.link; around = walk.around; told = walk.told; changes = walk.changes }) c.leave.new.self c.in-Some-pop.frame 0
-    (last_first c.turns.walk.stack.items c.pop.new.self.items c.in-Some-pop.frame c.in-Some-pop.ensures.items) refl refl refl refl c.in_ok-leave-in-Some-pop.ensures.left
-    (end_is from kept held all (0 + budget from merge) (sound from.table) c.root-root.ensures.document.distinct c.turns.walk 0 way.found (sym c.is_at_stop.ensures.test ∙ c.if-is_at_stop.false) c.in-None.is) (omega arith))
+turns-preserved g c = (
+  c.turns.invariant.0,
+  λ merge held can.
+      let from = reading g.T.Starts.starts c.args.sources.now in
+      let kept = kept_on g.R.Snapshot.walked c.args.board.now in
+      let all = told_all from (document_of from) in
+      let most = c.args.steps.now + budget from merge in
+      let walk = c.turns.walk in
+      let way = c.turns.invariant.1 merge held can in
+      goes_way from kept merge held c.args.steps.now c.args.walk.now.changes walk c.leave.new.self c.turns.steps c.leave.new.steps way
+      (leaves from kept held all most (sound from.table) walk c.turns.steps way.at c.root-root.ensures.document.distinct
+      (record { stack = c.pop.new.self; stops = walk.stops; link = walk.link; around = walk.around; told = walk.told; changes = walk.changes }) c.leave.new.self c.in-Some-pop.frame c.leave.new.steps
+      (last_first c.turns.walk.stack.items c.pop.new.self.items c.in-Some-pop.frame c.in-Some-pop.ensures.items) refl refl refl refl c.in_ok-leave-in-Some-pop.ensures.left
+      (end_is from kept held all most (sound from.table) c.root-root.ensures.document.distinct c.turns.walk c.turns.steps way.at (sym c.is_at_stop.ensures.test ∙ c.if-is_at_stop.false) c.in-None.is) c.leave.ensures.steps)
+      (leaves from kept held all (0 + budget from merge) (sound from.table) walk 0 way.found c.root-root.ensures.document.distinct
+      (record { stack = c.pop.new.self; stops = walk.stops; link = walk.link; around = walk.around; told = walk.told; changes = walk.changes }) c.leave.new.self c.in-Some-pop.frame 0
+      (last_first c.turns.walk.stack.items c.pop.new.self.items c.in-Some-pop.frame c.in-Some-pop.ensures.items) refl refl refl refl c.in_ok-leave-in-Some-pop.ensures.left
+      (end_is from kept held all (0 + budget from merge) (sound from.table) c.root-root.ensures.document.distinct c.turns.walk 0 way.found (sym c.is_at_stop.ensures.test ∙ c.if-is_at_stop.false) c.in-None.is) (omega arith)),
+)
 
 pub returns-in_err-leave-in-Some-pop-clause-most : goal.returns-in_err-leave-in-Some-pop-clause-most
 returns-in_err-leave-in-Some-pop-clause-most g c = λ merge held can.
@@ -134,7 +146,7 @@ returns-in_err-leave-in-Some-pop-clause-most g c = λ merge held can.
     let kept = kept_on g.R.Snapshot.walked c.args.board.now in
     let all = told_all from (document_of from) in
     let most = c.args.steps.now + budget from merge in
-    let way = c.turns.invariant merge held can in
+    let way = c.turns.invariant.1 merge held can in
     let leave = can_leave from kept held all most c.turns.walk c.turns.steps way.at c.in-Some-pop.frame _ (last_first c.turns.walk.stack.items c.pop.new.self.items c.in-Some-pop.frame c.in-Some-pop.ensures.items)
     (end_is from kept held all most (sound from.table) c.root-root.ensures.document.distinct c.turns.walk c.turns.steps way.at (sym c.is_at_stop.ensures.test ∙ c.if-is_at_stop.false) c.in-None.is) in
     leaving_few c.leave.new.steps c.turns.steps _ most c.leave.ensures.steps leave.few
@@ -145,7 +157,7 @@ returns-in_err-leave-in-Some-pop-clause-whole g c = λ merge held can.
     let kept = kept_on g.R.Snapshot.walked c.args.board.now in
     let all = told_all from (document_of from) in
     let most = c.args.steps.now + budget from merge in
-    let way = c.turns.invariant merge held can in
+    let way = c.turns.invariant.1 merge held can in
     let leave = can_leave from kept held all most c.turns.walk c.turns.steps way.at c.in-Some-pop.frame _ (last_first c.turns.walk.stack.items c.pop.new.self.items c.in-Some-pop.frame c.in-Some-pop.ensures.items)
     (end_is from kept held all most (sound from.table) c.root-root.ensures.document.distinct c.turns.walk c.turns.steps way.at (sym c.is_at_stop.ensures.test ∙ c.if-is_at_stop.false) c.in-None.is) in
     leaving_whole from c.leave.new.steps c.turns.steps _ c.turns.walk c.leave.ensures.steps leave.some way.few
@@ -158,7 +170,7 @@ returns-in-None-pop-clause-covers g c = λ merge held can.
     let kept = kept_on g.R.Snapshot.walked c.args.board.now in
     let all = told_all from (document_of from) in
     let most = c.args.steps.now + budget from merge in
-    let way = c.turns.invariant merge held can in
+    let way = c.turns.invariant.1 merge held can in
     covers from kept held all most c.turns.walk c.turns.steps way.at
     (ap reverse (none_left c.turns.walk.stack.items c.pop.new.self.items _ c.in-None-pop.ensures.items c.in-None-pop.ensures.rest c.in-None-pop.ensures.cases.0))
     (end_is from kept held all most (sound from.table) c.root-root.ensures.document.distinct c.turns.walk c.turns.steps way.at (sym c.is_at_stop.ensures.test ∙ c.if-is_at_stop.false) c.in-None.is)
@@ -166,30 +178,30 @@ returns-in-None-pop-clause-covers g c = λ merge held can.
 pub returns-in-None-pop-clause-among : goal.returns-in-None-pop-clause-among
 returns-in-None-pop-clause-among g c = λ merge held can.
     let from = reading g.T.Starts.starts c.args.sources.now in
-    tells from (kept_on g.R.Snapshot.walked c.args.board.now) held (told_all from (document_of from)) (c.args.steps.now + budget from merge) c.turns.walk c.turns.steps (c.turns.invariant merge held can).at
+    tells from (kept_on g.R.Snapshot.walked c.args.board.now) held (told_all from (document_of from)) (c.args.steps.now + budget from merge) c.turns.walk c.turns.steps (c.turns.invariant.1 merge held can).at
 
 pub returns-in-None-pop-clause-few : goal.returns-in-None-pop-clause-few
 returns-in-None-pop-clause-few g c = λ merge held can.
     let from = reading g.T.Starts.starts c.args.sources.now in
-    within from (kept_on g.R.Snapshot.walked c.args.board.now) held (told_all from (document_of from)) (c.args.steps.now + budget from merge) c.turns.walk c.turns.steps (c.turns.invariant merge held can).at
+    within from (kept_on g.R.Snapshot.walked c.args.board.now) held (told_all from (document_of from)) (c.args.steps.now + budget from merge) c.turns.walk c.turns.steps (c.turns.invariant.1 merge held can).at
 
 pub returns-in-None-pop-clause-most : goal.returns-in-None-pop-clause-most
 returns-in-None-pop-clause-most g c = λ merge held can.
     let from = reading g.T.Starts.starts c.args.sources.now in
-    at_once c.turns.steps _ _ (within from (kept_on g.R.Snapshot.walked c.args.board.now) held (told_all from (document_of from)) (c.args.steps.now + budget from merge) c.turns.walk c.turns.steps (c.turns.invariant merge held can).at)
+    at_once c.turns.steps _ _ (within from (kept_on g.R.Snapshot.walked c.args.board.now) held (told_all from (document_of from)) (c.args.steps.now + budget from merge) c.turns.walk c.turns.steps (c.turns.invariant.1 merge held can).at)
 
 pub returns-in-None-pop-clause-count : goal.returns-in-None-pop-clause-count
 returns-in-None-pop-clause-count g c = λ merge held can.
-    told_few _ _ _ (c.turns.invariant merge held can).told
+    told_few _ _ _ (c.turns.invariant.1 merge held can).told
 
 pub returns-in-None-pop-clause-whole : goal.returns-in-None-pop-clause-whole
 returns-in-None-pop-clause-whole g c = λ merge held can.
-    whole_few _ _ _ (c.turns.invariant merge held can).few
+    whole_few _ _ _ (c.turns.invariant.1 merge held can).few
 
 pub returns-in_err-turn_at_stop-clause-three : goal.returns-in_err-turn_at_stop-clause-three
 returns-in_err-turn_at_stop-clause-three g c = λ merge held can come.
     let from = reading g.T.Starts.starts c.args.sources.now in
-    let way = c.turns.invariant merge held can in
+    let way = c.turns.invariant.1 merge held can in
     let collected = with_changes c.args.walk.now.changes (all_changes from.table (document_of from)) in
     let limit = c.args.steps.now + 3 * element_count (without_keys from.tree) in
     (c.turn_at_stop.ensures.most held (told_all from (document_of from)) (c.args.steps.now + budget from merge) way.at).2 collected limit (way.whole come)
@@ -197,7 +209,7 @@ returns-in_err-turn_at_stop-clause-three g c = λ merge held can come.
 pub returns-in_err-turn_at-in-Some-clause-three : goal.returns-in_err-turn_at-in-Some-clause-three
 returns-in_err-turn_at-in-Some-clause-three g c = λ merge held can come.
     let from = reading g.T.Starts.starts c.args.sources.now in
-    let way = c.turns.invariant merge held can in
+    let way = c.turns.invariant.1 merge held can in
     let collected = with_changes c.args.walk.now.changes (all_changes from.table (document_of from)) in
     let limit = c.args.steps.now + 3 * element_count (without_keys from.tree) in
     (c.turn_at.ensures.most held (told_all from (document_of from)) (c.args.steps.now + budget from merge) way.at).2 collected limit (way.whole come)
@@ -208,7 +220,7 @@ returns-in_err-leave-in-Some-pop-clause-three g c = λ merge held can come.
     let kept = kept_on g.R.Snapshot.walked c.args.board.now in
     let all = told_all from (document_of from) in
     let most = c.args.steps.now + budget from merge in
-    let way = c.turns.invariant merge held can in
+    let way = c.turns.invariant.1 merge held can in
     let collected = with_changes c.args.walk.now.changes (all_changes from.table (document_of from)) in
     let limit = c.args.steps.now + 3 * element_count (without_keys from.tree) in
     let leave = can_leave from kept held all most c.turns.walk c.turns.steps way.at c.in-Some-pop.frame _ (last_first c.turns.walk.stack.items c.pop.new.self.items c.in-Some-pop.frame c.in-Some-pop.ensures.items)
@@ -219,7 +231,7 @@ pub returns-in-None-pop-clause-three : goal.returns-in-None-pop-clause-three
 returns-in-None-pop-clause-three g c = λ merge held can come.
     let from = reading g.T.Starts.starts c.args.sources.now in
     let all = told_all from (document_of from) in
-    let way = c.turns.invariant merge held can in
+    let way = c.turns.invariant.1 merge held can in
     let collected = with_changes c.args.walk.now.changes (all_changes from.table (document_of from)) in
     let limit = c.args.steps.now + 3 * element_count (without_keys from.tree) in
     whole_limit from all collected limit c.turns.steps c.turns.walk way.at.above way.at.here (way.whole come)
@@ -230,7 +242,7 @@ returns-in-None-pop-clause-all g c = λ merge held can come.
     let kept = kept_on g.R.Snapshot.walked c.args.board.now in
     let all = told_all from (document_of from) in
     let most = c.args.steps.now + budget from merge in
-    let way = c.turns.invariant merge held can in
+    let way = c.turns.invariant.1 merge held can in
     let collected = with_changes c.args.walk.now.changes (all_changes from.table (document_of from)) in
     let limit = c.args.steps.now + 3 * element_count (without_keys from.tree) in
     all_told from kept held all most c.turns.walk c.turns.steps way.at
@@ -243,7 +255,7 @@ returns-in-None-pop-clause-changes g c = λ merge held can come.
     let kept = kept_on g.R.Snapshot.walked c.args.board.now in
     let all = told_all from (document_of from) in
     let most = c.args.steps.now + budget from merge in
-    let way = c.turns.invariant merge held can in
+    let way = c.turns.invariant.1 merge held can in
     let collected = with_changes c.args.walk.now.changes (all_changes from.table (document_of from)) in
     let limit = c.args.steps.now + 3 * element_count (without_keys from.tree) in
     all_collected from kept held all most c.turns.walk c.turns.steps way.at
@@ -253,4 +265,4 @@ returns-in-None-pop-clause-changes g c = λ merge held can come.
 pub returns-in-None-pop-clause-found : goal.returns-in-None-pop-clause-found
 returns-in-None-pop-clause-found g c = λ merge held can.
     let from = reading g.T.Starts.starts c.args.sources.now in
-    counted_alone _ _ (within from (kept_on g.R.Snapshot.walked c.args.board.now) held (told_all from (document_of from)) (0 + budget from merge) c.turns.walk 0 (c.turns.invariant merge held can).found)
+    counted_alone _ _ (within from (kept_on g.R.Snapshot.walked c.args.board.now) held (told_all from (document_of from)) (0 + budget from merge) c.turns.walk 0 (c.turns.invariant.1 merge held can).found)

@@ -1,5 +1,6 @@
+use Rattle.std.proofs.Common.{◌≡◌}
 use Rattle.forest.specs.Spots.{IsLive}
 use Rattle.evaluation_rows.proofs.matching.matched.Given as goal
 
 abbrev pub invariant-walk : goal.invariant-walk
-invariant-walk l = IsLive l.arena.tree l.at
+invariant-walk l = (l.siblings ≡ l.arena.tree) × IsLive l.arena.tree l.at

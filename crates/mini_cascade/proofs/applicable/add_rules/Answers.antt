@@ -9,7 +9,7 @@ pub loop-rule-preserved : goal.loop-rule-preserved
 loop-rule-preserved c =
     let rules = c.args.rules.now in
     let place = c.loop-rule.rule-index in
-    let declares = λ (pseudo : PseudoElement). declared_in c.args.arena.now.tree c.args.key pseudo c.args.origin in
+    let declares = λ (pseudo : PseudoElement). declared_in c.args.siblings.now c.args.key pseudo c.args.origin in
     let step = λ (pseudo : PseudoElement) (old next end : List Applied) (is : next ≡ old ++ declares pseudo c.rule-item.result)
     (reaches : old ++ flat_map (declares pseudo) (drop place rules) ≡ end).
     appended (declares pseudo) (flat_map (declares pseudo)) (λ first rest. refl) rules place c.rule-item.result old next end c.loop-rule-test.true c.rule-item.is is reaches in

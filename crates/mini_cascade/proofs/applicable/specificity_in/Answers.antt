@@ -12,7 +12,7 @@ use Rattle.mini_cascade.proofs.applicable.specificity_in.Goals.{then-selects, el
 
 pub loop-selector-preserved : goal.loop-selector-preserved
 loop-selector-preserved c =
-    let test : Selector → Bool = selects c.args.arena.now.tree c.args.key c.args.pseudo in
+    let test : Selector → Bool = selects c.args.siblings.now c.args.key c.args.pseudo in
     let chosen : List Selector → List Specificity = λ selectors. map specificity (filter test selectors) in
     let chooses = λ (first : Selector) (rest : List Selector). map-cond test specificity (test first) first (filter test rest) in
     elim c.if-selects.branch [

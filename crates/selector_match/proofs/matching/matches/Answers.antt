@@ -10,7 +10,7 @@ pub returns-then-len-last : goal.returns-then-len-last
 returns-then-len-last c =
     let fact = c.in-Some-checked_sub.ensures in
     record {
-      matches = sym (matches-there c.args.arena.now.tree c.args.key c.args.selector.now c.in-Some.element c.in-Some.ensures
+      matches = sym (matches-there c.args.siblings.now c.args.key c.args.selector.now c.in-Some.element c.in-Some.ensures
           ∙ misshapen c.args.selector.now c.in-Some.element (λ e. c.if-len-last.true (omega (arith, c.len.ensures.length, c.len-2.ensures.length, fact.0, fact.1, e))));
     }
 
@@ -28,7 +28,7 @@ returns-in-Some-match_with_siblings c =
     record {
       matches = c.match_ancestors.ensures
           ∙ sym c.in-Some-match_with_siblings.ensures.some.same
-          ∙ sym (matches-there c.args.arena.now.tree c.args.key selector element c.in-Some.ensures ∙ matches-last selector many last joins element ∙ ap (λ b. b && matched_before selector last element) found);
+          ∙ sym (matches-there c.args.siblings.now c.args.key selector element c.in-Some.ensures ∙ matches-last selector many last joins element ∙ ap (λ b. b && matched_before selector last element) found);
     }
 
 pub returns-in-None : goal.returns-in-None
@@ -42,7 +42,7 @@ returns-in-None c =
     let compound : c.index-as_slice-last.result ≡ get_or selector.compounds last no_compound =
     c.index-as_slice-last.is ∙ ap (λ cs. get_or cs last c.index-as_slice-last.result) c.as_slice.ensures.items ∙ get_or_default selector.compounds last c.index-as_slice-last.result no_compound within in
     record {
-      matches = sym (matches-there c.args.arena.now.tree c.args.key selector element c.in-Some.ensures
+      matches = sym (matches-there c.args.siblings.now c.args.key selector element c.in-Some.ensures
           ∙ matches-last selector many last joins element
           ∙ sym (ap (λ (one : Compound). matches_compound element one && matched_before selector last element) compound)
           ∙ c.in-None.ensures.none);

@@ -1,7 +1,7 @@
 use Rattle.std.proofs.Common.{sym, ap, ◌∙◌, ◌||◌, not}
 use Rattle.std.specs.Str.{bytes_eq}
 use Rattle.selector_match.specs.Elements.{Standing}
-use Rattle.selector_match.proofs.Lookups.{standing_at}
+use Rattle.selector_match.specs.Machinery.Lookups.{standing_at}
 use Rattle.selector_match.proofs.StandingLaws.{element-name}
 use Rattle.selector_match.proofs.TextLaws.{same-names}
 use Rattle.selector_match.proofs.element.Element.is_counted.Goals as goal

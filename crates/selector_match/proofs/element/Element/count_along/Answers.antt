@@ -1,11 +1,11 @@
-use Rattle.std.proofs.Common.{sym, ap, subst, ◌∙◌, ◌≡◌, ◌≤◌, ◌+◌, true, cond, count_by, length, arith}
+use Rattle.std.proofs.Common.{sym, ap, subst, ◌∙◌, ◌≡◌, ◌<◌, ◌+◌, true, cond, count_by, length, arith}
 use Rattle.std.proofs.lemmas.List.Sums.{count_by-le-length, sum_by-cons}
 use Rattle.forest.specs.Forest.{size}
 use Rattle.selector_match.specs.Elements.{Standing}
 use Rattle.selector_match.specs.Machinery.Sides.{is_later}
 use Rattle.selector_match.specs.Positions.{siblings, is_counted}
 use Rattle.selector_match.proofs.StandingLaws.{siblings-few}
-use Rattle.selector_match.proofs.element.Element.count_siblings.Goals as goal
+use Rattle.selector_match.proofs.element.Element.count_along.Goals as goal
 
 pub overflow_add-count : goal.overflow_add-count
 overflow_add-count c =
@@ -19,5 +19,5 @@ overflow_add-count c =
     ∙ sum_by-cons (λ sibling. cond (test sibling) 1 0) c.in-Some.sibling.level.element rest
     ∙ ap (λ b. cond b 1 0 + count_by test rest) counts in
     let few = count_by-le-length test (siblings (is_later c.args.side) c.args.self.now.level) in
-    let all = subst (λ (s : Standing). length (siblings (is_later c.args.side) s.level) ≤ size tree) c.self.view_is (siblings-few tree document (is_later c.args.side) c.self.inside.key c.self.invariant.0 c.self.invariant.1) in
+    let all = subst (λ (s : Standing). length (siblings (is_later c.args.side) s.level) < size tree) c.self.view_is (siblings-few tree document (is_later c.args.side) c.self.inside.key c.self.invariant.0 c.self.invariant.1) in
     omega (arith, document.few, c.beside.invariant)
