@@ -196,8 +196,8 @@ KINDS = [
     Kind("counters of the root, at every element", 1_000, lambda size: {
         "d.xhtml": wrapped("<body>", "<p/>", "</body>")(1_000), "s.css": wrapped("body{counter-reset:", lambda k: f" c{k}", "}")(size),
     }, grows="by counters and elements", check=is_empty),
-    Kind("counters of the root and of its first child, at every element", 500, lambda size: {
-        "d.xhtml": wrapped("<body><i/>", "<p/>", "</body>")(1_000),
+    Kind("counters of the root and of its first child, at every element", 250, lambda size: {
+        "d.xhtml": wrapped("<body><i/>", "<p/>", "</body>")(2_000),
         "s.css": ["body{counter-reset:", *many(lambda k: f" c{k}", size), "}i{counter-reset:", *many(lambda k: f" d{k}", size), "}"],
     }, check=is_empty),
     Kind("counters that every element increments", 50, lambda size: {
