@@ -22,7 +22,7 @@ use Rattle.document_walk.proofs.ElementLemmas.{weigh-without_keys}
 use Rattle.dirty_walk.specs.declared.exchange.ElementId.{ElementId}
 use Rattle.edit_merge.specs.Laws.{IsDone}
 use Rattle.dirty_walk.specs.Exchanges.{coming, elements_in, exchanges, first_node, leaving, taken_keys}
-use Rattle.dirty_walk.specs.Holding.{IsIndexOf}
+use Rattle.referring_elements.specs.Indexes.{IsIndexOf}
 use Rattle.dirty_walk.proofs.ExchangedLemmas.{AreExchanged, exchanged, exchanged-back}
 use Rattle.dirty_walk.proofs.IndexLemmas.{id_exchanged}
 use Rattle.dirty_walk.proofs.SaidLemmas.{put-sum, weigh-labels}

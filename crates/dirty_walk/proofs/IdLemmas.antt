@@ -17,7 +17,7 @@ use Rattle.node_arena.specs.Nodes.{attr_of}
 use Rattle.target_index.specs.declared.change.IndexChange.{IndexChange}
 use Rattle.target_index.specs.declared.change.IndexChange.TheVariants.{Hold}
 use Rattle.target_index.specs.Changes.{holds_after, holds_after_all}
-use Rattle.dirty_walk.specs.Holding.{holds_id}
+use Rattle.referring_elements.specs.Indexes.{holds_id}
 
 -- of an element that has an id, that it holds it
 abbrev pub id_change : Forest (Keyed Node) → ℕ → List IndexChange

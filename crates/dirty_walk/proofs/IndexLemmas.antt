@@ -15,7 +15,7 @@ use Rattle.plain_types.specs.declared.node.Node.TheVariants.{Element, Text}
 use Rattle.target_index.specs.Changes.{holds_after, holds_after_all}
 use Rattle.dirty_walk.specs.declared.exchange.ElementId.{ElementId}
 use Rattle.dirty_walk.specs.Exchanges.{element_of, elements_in, exchanges, held, unheld}
-use Rattle.dirty_walk.specs.Holding.{holds_id}
+use Rattle.referring_elements.specs.Indexes.{holds_id}
 use Rattle.generated_texts.specs.References.{has_id}
 use Rattle.dirty_walk.proofs.ExchangedLemmas.{AreExchanged}
 use Rattle.dirty_walk.proofs.SaidLemmas.{label-said, often, often-cons, said, silent, times-often}

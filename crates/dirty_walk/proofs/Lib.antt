@@ -6,13 +6,10 @@ pub mod CharactersLeft
 pub mod ExchangeLaws
 pub mod ExchangedLemmas
 pub mod GoneLemmas
-pub mod HolderLemmas
 pub mod IdLemmas
 pub mod IndexLemmas
 pub mod KeptLemmas
 pub mod KnownLemmas
-pub mod NodeTurns
-pub mod NodesLeft
 pub mod NothingKnown
 pub mod PathLemmas
 pub mod PlaceLemmas

@@ -21,7 +21,7 @@ use Rattle.dirty_walk.specs.DocumentStyles.{document_styles, read_styles}
 use Rattle.snapshot_board.specs.Records.{Records}
 use Rattle.target_index.specs.declared.index.Index.{Index}
 use Rattle.target_index.specs.Holders.{is_holder}
-use Rattle.dirty_walk.specs.Holding.{IsIndexOf, holds_id}
+use Rattle.referring_elements.specs.Indexes.{IsIndexOf, holds_id}
 use Rattle.dirty_walk.specs.Plain.{is_plain}
 use Rattle.dirty_walk.specs.Books.{StyledDocument, fresh_kept, HasRoomFor, IsBook, KeepsAll, UsesItsKeys}
 

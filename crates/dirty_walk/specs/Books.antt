@@ -22,7 +22,7 @@ use Rattle.dirty_walk.specs.declared.document_styles.DocumentStyles.{DocumentSty
 use Rattle.dirty_walk.specs.declared.kept.Kept.{Kept}
 use Rattle.dirty_walk.specs.DocumentStyles.{document_styles}
 use Rattle.dirty_walk.specs.Evaluations.{document_kept}
-use Rattle.dirty_walk.specs.Holding.{IsIndexOf}
+use Rattle.referring_elements.specs.Indexes.{IsIndexOf}
 use Rattle.dirty_walk.specs.Plain.{is_plain}
 
 -- a document whose nodes have keys, the text of its style sheet, whether they are settled, which is that no edit is

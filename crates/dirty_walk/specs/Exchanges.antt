@@ -16,7 +16,7 @@ use Rattle.target_index.specs.declared.change.IndexChange.{IndexChange}
 use Rattle.target_index.specs.declared.change.IndexChange.TheVariants.{Hold, Unhold}
 use Rattle.target_index.specs.declared.index.Index.{Index}
 use Rattle.dirty_walk.specs.declared.exchange.ElementId.{ElementId}
-use Rattle.dirty_walk.specs.Holding.{IsIndexOf}
+use Rattle.referring_elements.specs.Indexes.{IsIndexOf}
 
 -- the first node of trees, without what is under it and after it
 abbrev pub first_node : {L : Type 0} → Forest L → Forest L

@@ -4,7 +4,6 @@ pub mod DocumentStyles
 pub mod EditedArenas
 pub mod Evaluations
 pub mod Exchanges
-pub mod Holding
 pub mod Known
 pub mod PlaceReadings
 pub mod PlaceStyles

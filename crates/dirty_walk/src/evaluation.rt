@@ -10,7 +10,7 @@ ghost use Rattle.document_walk.specs.Elements.{element_count};
 ghost use Rattle.snapshot_board.specs.Records.{put_all};
 ghost use Rattle.dirty_walk.specs.Changes.{AreBelow, AreChanges};
 ghost use Rattle.dirty_walk.specs.Evaluations.{all_kept_of, said_of, told_of};
-ghost use Rattle.dirty_walk.specs.Holding.{IsIndexOf};
+ghost use Rattle.referring_elements.specs.Indexes.{IsIndexOf};
 ghost use Rattle.dirty_walk.specs.Known.{IsKeptIn, all_flat_texts_of, known_by};
 
 use crate::by_key::by_key;

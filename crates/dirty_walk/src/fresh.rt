@@ -9,7 +9,7 @@ ghost use Rattle.dirty_walk.specs.Books.{HasRoomFor, KeepsAll};
 ghost use Rattle.dirty_walk.specs.Changes.{AreBelow, Renews};
 ghost use Rattle.dirty_walk.specs.DocumentStyles.{document_styles};
 ghost use Rattle.dirty_walk.specs.Evaluations.{document_kept, document_told};
-ghost use Rattle.dirty_walk.specs.Holding.{IsIndexOf};
+ghost use Rattle.referring_elements.specs.Indexes.{IsIndexOf};
 ghost use Rattle.dirty_walk.specs.Plain.{is_plain};
 
 use crate::board::room_for;

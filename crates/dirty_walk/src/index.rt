@@ -2,13 +2,11 @@
 
 ghost use Rattle.std.specs.Prelude.{◌≡◌, ◌++◌, ◌∷◌, [], ℕ, codes, flat_map, IfOk, OnOk};
 ghost use Rattle.std.specs.Option.{option_map_or};
-ghost use Rattle.std.specs.Str.{chars};
 ghost use Rattle.forest.specs.Keys.{keys};
-ghost use Rattle.forest.specs.Spots.{IsLink, IsLive};
+ghost use Rattle.forest.specs.Spots.{IsLive};
 ghost use Rattle.node_arena.specs.Nodes.{attr_of};
-ghost use Rattle.generated_texts.specs.References.{first_holder};
 ghost use Rattle.target_index.specs.declared.change.IndexChange.TheVariants.{Hold};
-ghost use Rattle.dirty_walk.specs.Holding.{IsIndexOf};
+ghost use Rattle.referring_elements.specs.Indexes.{IsIndexOf};
 
 use node_arena::arena::Arena;
 use node_arena::laws::arena_holds_document;
@@ -62,14 +60,4 @@ fn put_id_change(
     let id = Text::from_str(alloc, id)?;
     changes.push(IndexChange::Hold { id, key })?;
     Ok(())
-}
-
-/// The first element in tree order that has an id, which is compared as written.
-pub(crate) fn first_holder(index: &Index, arena: &Arena, id: &str) -> Option<usize>
-    requires index { IsIndexOf index.now arena.now.tree }
-    ensures first { result ≡ first_holder arena.now.tree (chars id.now) }
-    ensures live { IsLink arena.now.tree result }
-{
-    arena_holds_document(arena);
-    index.first(arena, id)
 }

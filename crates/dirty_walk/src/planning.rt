@@ -11,7 +11,7 @@ ghost use Rattle.dirty_walk.specs.Changes.{AreBelow, Renews};
 ghost use Rattle.dirty_walk.specs.DocumentStyles.{document_styles, read_styles};
 ghost use Rattle.dirty_walk.specs.EditedArenas.{is_plain_after, kept_after, styles_after};
 ghost use Rattle.dirty_walk.specs.Exchanges.{IsIndexBefore};
-ghost use Rattle.dirty_walk.specs.Holding.{IsIndexOf};
+ghost use Rattle.referring_elements.specs.Indexes.{IsIndexOf};
 ghost use Rattle.dirty_walk.specs.PlaceStyles.{IsWithinPlaceOf, StandsBefore};
 
 use crate::document_styles::DocumentStyles;

@@ -2,8 +2,8 @@ use Rattle.std.proofs.Common.{◌≡◌, ◌++◌, ◌∙◌, [], Some, ap, subs
 use Rattle.forest.specs.Spots.{children_of, first_child_of, on_link}
 use Rattle.node_arena.specs.Changes.{alone}
 use Rattle.dirty_walk.specs.Exchanges.{element_of, elements_in}
-use Rattle.dirty_walk.proofs.NodeTurns.{Tells, begins, leave_turn, of_subtree, reach_turn, told_at}
-use Rattle.dirty_walk.proofs.NodesLeft.{told_of}
+use Rattle.referring_elements.proofs.NodeTurns.{Tells, begins, leave_turn, of_subtree, reach_turn, told_at}
+use Rattle.referring_elements.proofs.NodesLeft.{told_of}
 use Rattle.dirty_walk.proofs.exchange.elements_from.Goals as goal
 
 pub walk-init : goal.walk-init

@@ -2,8 +2,8 @@ use Rattle.std.proofs.Common.{Some, reverse}
 use Rattle.forest.specs.Spots.{on_link}
 use Rattle.node_arena.specs.Changes.{alone}
 use Rattle.dirty_walk.specs.Exchanges.{element_of, elements_in}
-use Rattle.dirty_walk.proofs.NodeTurns.{Tells}
-use Rattle.dirty_walk.proofs.NodesLeft.{turns_left}
+use Rattle.referring_elements.proofs.NodeTurns.{Tells}
+use Rattle.referring_elements.proofs.NodesLeft.{turns_left}
 use Rattle.dirty_walk.proofs.exchange.elements_from.Given as goal
 
 abbrev pub invariant-walk : goal.invariant-walk

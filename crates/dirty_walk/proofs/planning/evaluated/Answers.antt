@@ -14,7 +14,7 @@ use Rattle.dirty_walk.specs.declared.exchange.ElementId.{ElementId}
 use Rattle.dirty_walk.specs.declared.kept.Kept.{Kept}
 use Rattle.dirty_walk.specs.declared.local_stops.LocalStops.{LocalStops}
 use Rattle.dirty_walk.specs.Exchanges.{IsIndexBefore, coming, elements_in, exchanges}
-use Rattle.dirty_walk.specs.Holding.{IsIndexOf}
+use Rattle.referring_elements.specs.Indexes.{IsIndexOf}
 use Rattle.dirty_walk.specs.PlaceStyles.{IsWithinPlaceOf}
 use Rattle.dirty_walk.proofs.ExchangeLaws.{index_after, index_back}
 use Rattle.dirty_walk.proofs.planning.evaluated.Goals as goal
