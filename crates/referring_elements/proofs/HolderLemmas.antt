@@ -22,21 +22,21 @@ use Rattle.target_index.specs.declared.index.Index.{Index}
 use Rattle.target_index.specs.Holders.{IsFirstHolder, holders_of, is_holder}
 use Rattle.referring_elements.specs.Indexes.{IsIndexOf, holds_id}
 
-same_key : (key : ℕ) → (key == key) ≡ true
+pub same_key : (key : ℕ) → (key == key) ≡ true
 same_key key = grind (arith, nat_tests)
 
 squeezed : (a b : ℕ) → a ≤ b → (a < b → ⊥) → a ≡ b
 squeezed a b low high = omega (arith, low, high)
 
 -- what stands where a node was found
-record IsFound (test : Keyed Node → Bool) (p : Option ℕ) (e : List (Keyed Node)) (f : Forest (Keyed Node)) (n : Keyed Node) : Type 0 where
-  here : Spot Node
-  at : spot p e f n.key ≡ Some here
-  label : here.label ≡ n.label
-  passes : test n ≡ true
+pub record IsFound (test : Keyed Node → Bool) (p : Option ℕ) (e : List (Keyed Node)) (f : Forest (Keyed Node)) (n : Keyed Node) : Type 0 where
+  pub here : Spot Node
+  pub at : spot p e f n.key ≡ Some here
+  pub label : here.label ≡ n.label
+  pub passes : test n ≡ true
 
 module _ (test : Keyed Node → Bool) where
-  found : (f : Forest (Keyed Node)) (p : Option ℕ) (e : List (Keyed Node)) (n : Keyed Node) → HasDistinctKeys f → find test (labels f) ≡ Some n → IsFound test p e f n
+  pub found : (f : Forest (Keyed Node)) (p : Option ℕ) (e : List (Keyed Node)) (n : Keyed Node) → HasDistinctKeys f → find test (labels f) ≡ Some n → IsFound test p e f n
   found Empty p e n d is = absurd (none-some n is)
   found (Tree m c r) p e n d is =
       let parts = distinct-parts m c r d in
@@ -66,7 +66,7 @@ module _ (test : Keyed Node → Bool) where
   some_cond false x o (inr h) = h
 
   -- a node that passes is not overlooked
-  finds : (f : Forest (Keyed Node)) (p : Option ℕ) (e : List (Keyed Node)) (q : ℕ) (s : Spot Node) → spot p e f q ≡ Some s → test (keyed q s.label) ≡ true → (n : Keyed Node) × (find test (labels f) ≡ Some n)
+  pub finds : (f : Forest (Keyed Node)) (p : Option ℕ) (e : List (Keyed Node)) (q : ℕ) (s : Spot Node) → spot p e f q ≡ Some s → test (keyed q s.label) ≡ true → (n : Keyed Node) × (find test (labels f) ≡ Some n)
   finds Empty p e q s at ok = absurd (none-some s at)
   finds (Tree m c r) p e q s at ok =
       some_cond (test m) m (find test (labels c ++ labels r)) (elim (chosen (m.key == q) _ _ _ at) [
@@ -105,7 +105,7 @@ module _ (test : Keyed Node → Bool) where
       behind false false e low = omega (arith, low)
 
 -- a label that is there
-at_label : {L : Type 0} (f : Forest (Keyed L)) (q : ℕ) (s : Spot L) → spot_of f q ≡ Some s → label_of f q ≡ Some s.label
+pub at_label : {L : Type 0} (f : Forest (Keyed L)) (q : ℕ) (s : Spot L) → spot_of f q ≡ Some s → label_of f q ≡ Some s.label
 at_label f q s at = rw at refl
 
 module _ (f : Forest (Keyed Node)) (d : HasDistinctKeys f) (index : Index) (indexed : IsIndexOf index f) (id : List ℕ) where

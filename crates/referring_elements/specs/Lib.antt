@@ -2,3 +2,4 @@ pub mod Indexes
 pub mod Former
 pub mod Found
 pub mod References
+pub mod ElementsById

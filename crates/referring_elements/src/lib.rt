@@ -12,6 +12,8 @@
 //! has it.
 //!
 //! Which elements refer to which ids is put into an index by [`references::add_references`], once the document is evaluated.
+//! Where the references of a whole document are followed, the elements that its ids name are found at once, by one walk
+//! ([`first_holders::FirstHolders`]): the index looks at all elements that have an id, for each reference to it.
 //!
 //! ```text
 //! let former = FormerTarget::of(&arena, &index, id);      // before the edit, for each id that it can give another target
@@ -29,6 +31,8 @@
 
 pub mod changed;
 pub mod elements;
+mod elements_by_id;
+pub mod first_holders;
 pub mod former;
 pub mod holders;
 pub mod references;
