@@ -1,6 +1,6 @@
 #!/usr/bin/env bash
-# How references grow: to one id, and each to an id of its own; 50,000 of them and half as many. A ratio near 2 is
-# linear growth.
+# How references grow: to one id, to one id that as many elements have, and each to an id of its own; 50,000 of them and
+# half as many. A ratio near 2 is linear growth.
 #   bench/references.sh [REFERENCES]
 set -eu
 here=$(cd "$(dirname "$0")/.." && pwd)
@@ -27,9 +27,13 @@ def put(name, count, targets, holders=1):
         file.write("</body>")
 
 
-for what, targets in ("one id", lambda count: 1), ("an id each", lambda count: count):
-    put("whole.xhtml", references, targets(references))
-    put("half.xhtml", references // 2, targets(references // 2))
+for what, targets, holders in (
+    ("one id", lambda count: 1, lambda count: 1),
+    ("one id of as many elements", lambda count: 1, lambda count: count),
+    ("an id each", lambda count: count, lambda count: 1),
+):
+    for name, count in ("whole.xhtml", references), ("half.xhtml", references // 2):
+        put(name, count, targets(count), holders(count))
     whole = seconds(program, "dump", "whole.xhtml", "sheet.css")
     half = seconds(program, "dump", "half.xhtml", "sheet.css")
     print(f"{references} references to {what}: {whole:.3f} s, {ratio(whole, half):.2f} times half as many")

@@ -5,6 +5,7 @@ pub mod EditedArenas
 pub mod Evaluations
 pub mod Exchanges
 pub mod Known
+pub mod NamedElements
 pub mod PlaceReadings
 pub mod PlaceStyles
 pub mod Places

@@ -117,7 +117,7 @@ impl Book {
     /// The book of a document and the text of its sheet. The root is an element.
     ///
     /// It takes time and memory linear in the document, its sheet and its texts, beside what sets and selectors
-    /// cost, and for each reference time in the elements that hold its id, each by its depth; `Memory` where
+    /// cost; a reference takes time in its id and in what it writes, however many elements have that id. `Memory` where
     /// memory is wanting.
     pub fn begin<L: Ledger>(
         alloc: Global,

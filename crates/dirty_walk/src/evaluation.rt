@@ -16,6 +16,7 @@ ghost use Rattle.dirty_walk.specs.Known.{IsKeptIn, all_flat_texts_of, known_by};
 use crate::by_key::by_key;
 use crate::flat_texts::{FlatTexts, all_flat_texts};
 use crate::kept::Kept;
+use crate::named_elements::NamedElements;
 use crate::node_texts::{changed_entries, put_entries};
 use crate::targets::DocumentTargets;
 use box_eval::change::Change;
@@ -110,23 +111,20 @@ fn told_by<L: Ledger>(
 /// The flat texts of a document's elements, of which this is told.
 fn document_flat_texts(
     alloc: Global,
-    arena: &Arena,
-    index: &Index,
+    named: &NamedElements,
     table: &Table,
     records: &[(usize, Told)],
     records_by_key: &HashMap<usize, &Told>,
 ) -> Result<List<(usize, FlatTexts)>, Memory>
-    requires indexed { IsIndexOf index.now arena.now.tree }
     requires kept { IsKeptIn records_by_key.now records.now }
-    ensures texts { IfOk result (λ texts. texts ≡ all_flat_texts_of table.now (known_to_flat_texts table.now arena.now.tree (said_of records.now)) records.now) }
+    ensures texts { IfOk result (λ texts. texts ≡ all_flat_texts_of table.now (known_to_flat_texts table.now named.now.arena.now.tree (said_of records.now)) records.now) }
 {
     // What flat texts rest on has none itself.
     no_reference_is_circular();
     let none: List<(usize, FlatTexts)> = List::new(alloc);
     let none_by_key = by_key(alloc, none.as_slice())?;
     let targets = DocumentTargets {
-        arena,
-        index,
+        named,
         listed: records,
         records: records_by_key,
         listed_flats: none.as_slice(),
@@ -138,8 +136,7 @@ fn document_flat_texts(
 /// Puts what is kept of the elements, where these are their flat texts, on a board that has room for it.
 fn put_entries_with<L: Ledger>(
     alloc: Global,
-    arena: &Arena,
-    index: &Index,
+    named: &NamedElements,
     table: &Table,
     records: &[(usize, Told)],
     records_by_key: &HashMap<usize, &Told>,
@@ -147,17 +144,15 @@ fn put_entries_with<L: Ledger>(
     board: &mut Board<Kept>,
     steps: &mut Steps<L>,
 ) -> Result<(), Memory>
-    requires indexed { IsIndexOf index.now arena.now.tree }
     requires kept { IsKeptIn records_by_key.now records.now }
     requires room { AreBelow board.old.room records.now }
-    ensures held { OnOk result (board.new.held ≡ put_all (all_kept_of table.now (known_by arena.now.tree records.now flats.now) records.now) board.old.held) }
+    ensures held { OnOk result (board.new.held ≡ put_all (all_kept_of table.now (known_by named.now.arena.now.tree records.now flats.now) records.now) board.old.held) }
     ensures room { board.new.room ≡ board.old.room }
     ensures steps { steps.new ≤ steps.old + length records.now }
 {
     let flats_by_key = by_key(alloc, flats)?;
     let targets = DocumentTargets {
-        arena,
-        index,
+        named,
         listed: records,
         records: records_by_key,
         listed_flats: flats,
@@ -184,11 +179,11 @@ pub(crate) fn put_document_entries<L: Ledger>(
     ensures steps { steps.new ≤ steps.old + length records.now }
 {
     let by_key = by_key(alloc, records)?;
-    let flats = document_flat_texts(alloc, arena, index, table, records, &by_key)?;
+    let named = NamedElements::of_document(alloc, arena, index, records)?;
+    let flats = document_flat_texts(alloc, &named, table, records, &by_key)?;
     put_entries_with(
         alloc,
-        arena,
-        index,
+        &named,
         table,
         records,
         &by_key,
@@ -201,8 +196,7 @@ pub(crate) fn put_document_entries<L: Ledger>(
 /// What is kept of the elements, where these are their flat texts, and is not on a board.
 fn changes_with<L: Ledger>(
     alloc: Global,
-    arena: &Arena,
-    index: &Index,
+    named: &NamedElements,
     table: &Table,
     records: &[(usize, Told)],
     records_by_key: &HashMap<usize, &Told>,
@@ -210,15 +204,13 @@ fn changes_with<L: Ledger>(
     board: &Board<Kept>,
     steps: &mut Steps<L>,
 ) -> Result<Vec<(usize, Kept)>, Memory>
-    requires indexed { IsIndexOf index.now arena.now.tree }
     requires kept { IsKeptIn records_by_key.now records.now }
-    ensures changes { IfOk result (λ changes. AreChanges board.now.held (all_kept_of table.now (known_by arena.now.tree records.now flats.now) records.now) changes.items) }
+    ensures changes { IfOk result (λ changes. AreChanges board.now.held (all_kept_of table.now (known_by named.now.arena.now.tree records.now flats.now) records.now) changes.items) }
     ensures steps { steps.new ≤ steps.old + length records.now }
 {
     let flats_by_key = by_key(alloc, flats)?;
     let targets = DocumentTargets {
-        arena,
-        index,
+        named,
         listed: records,
         records: records_by_key,
         listed_flats: flats,
@@ -242,11 +234,11 @@ pub(crate) fn document_changes<L: Ledger>(
     ensures steps { steps.new ≤ steps.old + length records.now }
 {
     let by_key = by_key(alloc, records)?;
-    let flats = document_flat_texts(alloc, arena, index, table, records, &by_key)?;
+    let named = NamedElements::of_document(alloc, arena, index, records)?;
+    let flats = document_flat_texts(alloc, &named, table, records, &by_key)?;
     changes_with(
         alloc,
-        arena,
-        index,
+        &named,
         table,
         records,
         &by_key,

@@ -55,6 +55,7 @@ mod fresh;
 mod index;
 pub mod kept;
 mod local_stops;
+mod named_elements;
 mod node_texts;
 mod places;
 mod plain;

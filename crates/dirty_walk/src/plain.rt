@@ -32,7 +32,7 @@ fn refers_in(made: &Option<Made>) -> bool
 }
 
 /// Whether a box of an element holds a reference to an id, whether an element has it or not.
-fn refers(element: &ElementRecord) -> bool
+pub(crate) fn refers(element: &ElementRecord) -> bool
     ensures { result ≡ refers element.now }
 {
     refers_in(&element.marker) || refers_in(&element.before) || refers_in(&element.after)

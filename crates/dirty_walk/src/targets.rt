@@ -7,14 +7,13 @@ ghost use Rattle.std.specs.Str.{chars};
 ghost use Rattle.forest.specs.Spots.{IsLink};
 ghost use Rattle.content_eval.specs.Targets.{target_id};
 ghost use Rattle.generated_texts.specs.References.{first_holder, kept_at};
-ghost use Rattle.referring_elements.specs.Indexes.{IsIndexOf};
 ghost use Rattle.dirty_walk.specs.Known.{IsKeptIn, flat_in};
 
 use crate::characters::characters_under;
 use crate::flat_texts::FlatTexts;
+use crate::named_elements::NamedElements;
 use content_eval::targets::{Targets, target_id};
 use counter_sets::counter_set::CounterSet;
-use node_arena::arena::Arena;
 use plain_types::content::Part;
 use plain_types::memory::Memory;
 use plain_types::text::Text;
@@ -22,20 +21,17 @@ use referring_elements::holders::first_holder;
 use std::alloc::Global;
 use std::collections::HashMap;
 use surroundings::told::Told;
-use target_index::index::Index;
 
 /// The elements of a document as target functions see them.
 #[derive(Drop)]
 pub(crate) struct DocumentTargets<'a> {
-    pub(crate) arena: &'a Arena,
-    pub(crate) index: &'a Index,
+    pub(crate) named: &'a NamedElements<'a>,
     /// What the evaluation tells of the elements, and the same by key.
     pub(crate) listed: &'a [(usize, Told)],
     pub(crate) records: &'a HashMap<usize, &'a Told>,
     /// The flat texts of the elements, as far as they are known, and the same by key.
     pub(crate) listed_flats: &'a [(usize, FlatTexts)],
     pub(crate) flats: &'a HashMap<usize, &'a FlatTexts>,
-    ghost indexed: { IsIndexOf index.now arena.now.tree },
     ghost kept: { IsKeptIn records.now listed.now },
     ghost kept_flats: { IsKeptIn flats.now listed_flats.now },
 }
@@ -43,17 +39,17 @@ pub(crate) struct DocumentTargets<'a> {
 impl<'a> DocumentTargets<'a> {
     /// The element that a url names.
     fn target(&self, url: &str) -> Option<usize>
-        ensures target { result ≡ option_and_then (first_holder self.now.arena.now.tree) (target_id (chars url.now)) }
-        ensures live { IsLink self.now.arena.now.tree result }
+        ensures target { result ≡ option_and_then (first_holder self.now.named.now.arena.now.tree) (target_id (chars url.now)) }
+        ensures live { IsLink self.now.named.now.arena.now.tree result }
     {
-        first_holder(self.index, self.arena, target_id(url)?)
+        self.named.of(target_id(url)?)
     }
 }
 
 impl<'a> Targets for DocumentTargets<'a> {
     ghost use Rattle.dirty_walk.specs.Known.{known_by};
 
-    ghost known = { λ targets. known_by targets.arena.now.tree targets.listed.now targets.listed_flats.now };
+    ghost known = { λ targets. known_by targets.named.now.arena.now.tree targets.listed.now targets.listed_flats.now };
 
     fn counters(&self, url: &str) -> Option<&CounterSet> {
         let told: &Told = self.records.get(&self.target(url)?)?;
@@ -66,7 +62,7 @@ impl<'a> Targets for DocumentTargets<'a> {
 
     fn characters(&self, alloc: Global, url: &str) -> Result<Text, Memory> {
         match self.target(url) {
-            Some(key) => characters_under(alloc, self.arena, key),
+            Some(key) => characters_under(alloc, self.named.arena, key),
             None => Ok(Text::new(alloc)),
         }
     }

@@ -8,6 +8,6 @@ returns c =
     let records = c.args.records.now in
     record {
       texts = IfOk-weaker c.all_flat_texts.result _ _
-          (λ texts are. are ∙ all_same c.args.table.now c.args.arena.now.tree records c.no_reference_is_circular.ensures.flat c.as_slice.result.now records)
+          (λ texts are. are ∙ all_same c.args.table.now c.args.named.now.arena.now.tree records c.no_reference_is_circular.ensures.flat c.as_slice.result.now records)
           c.all_flat_texts.ensures.texts;
     }

@@ -1,5 +1,8 @@
 use Rattle.std.proofs.Common.{◌≡◌, ◌∙◌, ℕ, ap, List}
 use Rattle.std.proofs.lemmas.Result.{on_ok_weaker}
+use Rattle.forest.specs.Forest.{Forest}
+use Rattle.forest.specs.Keys.{Keyed}
+use Rattle.plain_types.specs.declared.node.Node.{Node}
 use Rattle.content_eval.specs.Targets.{Known}
 use Rattle.generated_texts.specs.References.{known_targets}
 use Rattle.snapshot_board.specs.Records.{put_all}
@@ -12,8 +15,10 @@ use Rattle.dirty_walk.proofs.evaluation.put_document_entries.Goals as goal
 pub returns-clause-held : goal.returns-clause-held
 returns-clause-held g c =
     let table = c.args.table.now in
-    let tree = c.args.arena.now.tree in
+    let tree = c.in_ok-named.named.arena.now.tree in
     let records = c.args.records.now in
     let known : known_by tree records c.as_slice.result.now ≡ known_targets table tree (said_of records) =
     ap (λ (flats : List (ℕ × FlatTexts)). known_by tree records flats) (c.as_slice.ensures.items ∙ c.in_ok-flats.ensures.texts) ∙ same_known table tree records in
-    on_ok_weaker c.put_entries_with.result (λ told. told ∙ ap (λ (known : Known). put_all (all_kept_of table known records) c.args.board.now.held) known) c.put_entries_with.ensures.held
+    on_ok_weaker c.put_entries_with.result
+    (λ told. told ∙ ap (λ (known : Known). put_all (all_kept_of table known records) c.args.board.now.held) (known ∙ ap (λ (t : Forest (Keyed Node)). known_targets table t (said_of records)) c.in_ok-named.ensures.tree))
+    c.put_entries_with.ensures.held

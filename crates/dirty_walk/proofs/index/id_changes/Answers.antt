@@ -1,6 +1,7 @@
 use Rattle.std.proofs.Common.{◌++◌, ◌∙◌, ap, sym}
 use Rattle.dirty_walk.proofs.IdLemmas.{id_change}
-use Rattle.dirty_walk.proofs.WalkLemmas.{fewer_left, last_told, next_told}
+use Rattle.referring_elements.proofs.WalkLemmas.{fewer_left}
+use Rattle.dirty_walk.proofs.WalkLemmas.{last_told, next_told}
 use Rattle.dirty_walk.proofs.index.id_changes.Goals as goal
 
 pub walk-smaller : goal.walk-smaller

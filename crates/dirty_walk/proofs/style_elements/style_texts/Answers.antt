@@ -1,7 +1,8 @@
 use Rattle.std.proofs.Common.{◌++◌, ◌∙◌, ap, sym}
 use Rattle.generated_texts.specs.StyleElements.{style_text_of}
 use Rattle.generated_texts.proofs.StyleTexts.{style_texts-by_keys}
-use Rattle.dirty_walk.proofs.WalkLemmas.{fewer_left, last_told, next_told}
+use Rattle.referring_elements.proofs.WalkLemmas.{fewer_left}
+use Rattle.dirty_walk.proofs.WalkLemmas.{last_told, next_told}
 use Rattle.dirty_walk.proofs.style_elements.style_texts.Goals as goal
 
 pub walk-smaller : goal.walk-smaller
