@@ -4,6 +4,7 @@ use Rattle.std.specs.List.{list_all}
 use Rattle.bake_definitions.specs.Baked.{Annotated, baked, is_inserted, taken_out, without_insertions}
 use Rattle.bake_definitions.specs.Grown.{IsGrown, at_end, kept, tag_opened}
 use Rattle.bake_definitions.specs.Insertions.{Insertion, inserted_attrs, inserted_name, captioned_names, names_without_span, parent_names, takes_span, text_names, void_names}
+use Rattle.bake_definitions.specs.Places.{left_out, placed}
 use Rattle.bake_definitions.specs.Pieces.{Piece, characters_of, mark_of, piece}
 use Rattle.bake_definitions.specs.Woven.{at_tags, insertion_text, woven}
 use Rattle.forest.specs.Forest.{Forest, Empty, Tree}
@@ -125,4 +126,17 @@ not_ours = refl
 -- A tag that is opened, as characters alone.
 opened_tag : IsGrown (codes "<p/>") (codes "<p><span class=\"baked-after\">x</span></p>")
 unfolding span
-opened_tag = kept 60 (kept 112 (tag_opened (codes "p") (codes "p", put After (codes "x")) [] at_end))
+opened_tag = kept 60 (kept 112 (tag_opened (codes "p") refl (codes "p", put After (codes "x")) [] (refl, tt) at_end))
+
+-- A list takes no `span`: its text is left out, and that of its item stays.
+
+abbrev list_with_text : Forest Annotated
+list_with_text = Tree (element (codes "ul") (put Before (codes "x") ∷ []) []) (Tree (element (codes "li") (put Marker (codes "y") ∷ []) []) Empty Empty) Empty
+
+list_placed : placed list_with_text ≡ Tree (element (codes "ul") [] []) (Tree (element (codes "li") (put Marker (codes "y") ∷ []) []) Empty Empty) Empty
+unfolding names_without_span void_names text_names parent_names captioned_names
+list_placed = refl
+
+list_left_out : left_out list_with_text ≡ 1
+unfolding names_without_span void_names text_names parent_names captioned_names
+list_left_out = refl

@@ -9,6 +9,8 @@
 //! |---|---|
 //! | `Insertions.antt` | what is put into an element: its name, its class, its characters, and which elements take none |
 //! | `Baked.antt` | the tree with the insertions, `baked`, and the tree without them, `taken_out` |
+//! | `Places.antt` | which insertions have a place, and how many are left out |
+//! | `Tags.antt` | the tags of a document, with what is put in at each |
 //! | `Pieces.antt` | a text as the pieces of which it is made, each as it stands in the file |
 //! | `Woven.antt` | the pieces with the insertions between them, `woven`, and the text that a text bakes to, `IsBaked` |
 //! | `Grown.antt` | that a text is another one with elements put in, `IsGrown` |

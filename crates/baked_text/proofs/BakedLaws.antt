@@ -5,12 +5,13 @@ use Rattle.std.proofs.lemmas.List.{append_cancel_right, map-append}
 use Rattle.std.proofs.lemmas.List.Folds.{list_all-append}
 use Rattle.std.specs.List.{flat_map, list_all}
 use Rattle.bake_definitions.specs.Baked.{Annotated, baked, filled, is_bare, without_insertions}
+use Rattle.bake_definitions.specs.Grown.{IsGrown}
 use Rattle.bake_definitions.specs.Insertions.{Insertion}
 use Rattle.bake_definitions.specs.Pieces.{AreSpelled, IsMadeOf, Piece, characters_of, items_of, mark_of, read_of}
 use Rattle.bake_definitions.specs.Woven.{IsBaked, at_next, at_node, at_piece, at_tags, insertion_pieces, opened, tags_in, woven}
 use Rattle.baked_text.proofs.Apart.{Joins}
 use Rattle.baked_text.proofs.Content.{is_empty}
-use Rattle.baked_text.proofs.Growing.{mark_parts}
+use Rattle.baked_text.proofs.Growing.{grown_front, mark_parts, woven_grows}
 use Rattle.baked_text.proofs.PieceLaws.{parted, spelled_parts}
 use Rattle.baked_text.proofs.Puts.{AllPlaced, placed_append}
 use Rattle.baked_text.proofs.SplitLaws.{Passed, passed_all, passed_more, passed_none}
@@ -116,7 +117,7 @@ woven_document (document {before} {root} after {name} {attrs} {children} prolog 
 
 -- What it reads as.
 
-are_pieces : (pieces : List Piece) → AreSpelled pieces → ArePieces Spells (flat_map read_of pieces) (items_of pieces)
+pub are_pieces : (pieces : List Piece) → AreSpelled pieces → ArePieces Spells (flat_map read_of pieces) (items_of pieces)
 are_pieces [] s = refl
 are_pieces (p ∷ pieces) s = (read_of p, flat_map read_of pieces, s.0, are_pieces pieces s.1, refl)
 
@@ -137,13 +138,27 @@ without_output_mark (first ∷ rest) out h = go (eqb first 0xfeff) refl h
     go false e (inl k) = unmarked out (λ c f. ap (λ d. eqb d 0xfeff) (same_some c first (head_of out) f k) ∙ e)
     go false e (inr k) = unmarked out (λ c f. ap (λ d. eqb d 0xfeff) (same_some c 60 (head_of out) f k))
 
-pub baked_reads : (text output : List ℕ) (annotated : Forest Annotated) → IsDocumentText text (without_insertions annotated) → IsBaked text annotated output → IsDocumentText output (baked annotated)
-baked_reads text output annotated text_is baked_is =
+-- the pieces of a document's text, woven
+pieces_woven : (text output : List ℕ) (annotated : Forest Annotated) → IsDocumentText text (without_insertions annotated) → (baked_is : IsBaked text annotated output) → WovenDocument baked_is.pieces annotated
+pieces_woven text output annotated text_is baked_is =
     let made = baked_is.made_of in
     let pieces = baked_is.pieces in
     let read = subst (λ t. ArePieces Spells t (items_of pieces)) (sym made.apart) (are_pieces pieces made.spelled) in
     let same : text_is.items ≡ items_of pieces = only_items text_is.items (items_of pieces) (normalized text) text_is.spelled read in
-    let w = woven_document text_is.allowed pieces (sym same) made.spelled annotated refl in
+    woven_document text_is.allowed pieces (sym same) made.spelled annotated refl
+
+pub baked_grows : (text output : List ℕ) (annotated : Forest Annotated) → IsDocumentText text (without_insertions annotated) → IsBaked text annotated output → IsGrown text output
+baked_grows text output annotated text_is baked_is =
+    let out = characters_of (woven baked_is.pieces (at_tags annotated)) in
+    let grown = woven_grows baked_is.pieces (at_tags annotated) (pieces_woven text output annotated text_is baked_is).placed baked_is.made_of.spelled in
+    let rest = subst (λ t. IsGrown t out) baked_is.made_of.text_is grown in
+    subst (λ t. IsGrown t output) (sym (mark_parts text)) (subst (λ t. IsGrown (mark_of text ++ without_mark text) t) (sym baked_is.output_is) (grown_front (mark_of text) rest))
+
+pub baked_reads : (text output : List ℕ) (annotated : Forest Annotated) → IsDocumentText text (without_insertions annotated) → IsBaked text annotated output → IsDocumentText output (baked annotated)
+baked_reads text output annotated text_is baked_is =
+    let made = baked_is.made_of in
+    let pieces = baked_is.pieces in
+    let w = pieces_woven text output annotated text_is baked_is in
     let out = woven pieces (at_tags annotated) in
     let apart : with_line_feeds (characters_of pieces) ≡ flat_map read_of pieces = ap with_line_feeds made.text_is ∙ made.apart in
     let reads = woven_reads pieces (at_tags annotated) w.placed made.spelled apart in

@@ -16,3 +16,4 @@ mod Clean
 mod WovenLaws
 mod BakedLaws
 mod SomeBaked
+mod ShownLaws

@@ -1,10 +1,12 @@
 //! What is true of all baked texts. No function here has anything to do: its contract is the law.
 
-ghost use Rattle.std.specs.Prelude.{◌≡◌, ℕ, IsTrue, List, not};
+ghost use Rattle.std.specs.Prelude.{◌≡◌, ℕ, ◌+◌, IsTrue, List, not};
 ghost use Rattle.std.specs.List.{list_all};
 ghost use Rattle.bake_definitions.specs.Baked.{Annotated, baked, is_bare, is_inserted, taken_out, without_insertions};
 ghost use Rattle.bake_definitions.specs.Grown.{IsGrown};
+ghost use Rattle.bake_definitions.specs.Places.{left_out, placed};
 ghost use Rattle.bake_definitions.specs.Woven.{IsBaked};
+ghost use Rattle.baked_text.specs.Shown.{characters_in, insertion_count, shown_characters};
 ghost use Rattle.forest.specs.Forest.{Forest, labels};
 ghost use Rattle.plain_types.specs.declared.node.Node.{Node};
 ghost use Rattle.xml_definitions.specs.Texts.{IsDocumentText};
@@ -20,10 +22,21 @@ pub fn taken_out_again()
         → taken_out (baked document) ≡ without_insertions document }
 {}
 
-/// What a text bakes to is that text, character for character, with insertions between its characters, and with those
-/// empty-element tags opened that have some.
+/// What the text of a document bakes to is that text, character for character, with insertions between its characters,
+/// and with those empty-element tags opened that have some.
 pub fn grows_only()
-    ensures { (text output : List ℕ) (document : Forest Annotated) → IsBaked text document output → IsGrown text output }
+    ensures { (text output : List ℕ) (document : Forest Annotated) → IsDocumentText text (without_insertions document) → IsBaked text document output → IsGrown text output }
+{}
+
+/// The characters of the baked tree are those of the document, with each insertion's before or behind those of its
+/// element.
+pub fn keeps_order()
+    ensures { (document : Forest Annotated) → characters_in (baked document) ≡ shown_characters document }
+{}
+
+/// The insertions that have a place and those that are left out are all that there are.
+pub fn none_lost()
+    ensures { (document : Forest Annotated) → insertion_count (placed document) + left_out document ≡ insertion_count document }
 {}
 
 /// Each document bakes to a text.

@@ -6,7 +6,8 @@
 //!
 //! [`laws`] says what is true of all baked texts: a document bakes to one text, that text is a document again, its tree
 //! is the baked tree, and the text has grown by insertions alone, but for the tags that were opened. Without the insertions
-//! the tree is that of the document again, where no element of its own could be one of them.
+//! the tree is that of the document again, where no element of its own could be one of them. No character is lost, and no
+//! insertion but those that find no place.
 //!
 //! The form is this project's own: a `span` with the prefix of the element that it is put into, and with one class,
 //! `baked-marker`, `baked-before` or `baked-after` (`baked-element` would be that of a text of the element itself, which has

@@ -10,19 +10,12 @@ ghost use Rattle.ports.specs.Causes.{HasCause};
 ghost use Rattle.ports.specs.Grown.{grown, GrowsByFront};
 ghost use Rattle.reading.specs.Reading.{span};
 ghost use Rattle.xhtml_items.specs.Tokens.{two_texts};
-ghost use Rattle.xml_definitions.specs.Spelling.{is_legal};
 
 use plain_types::box_kind::BoxKind;
 use ports::failed::Failed;
 use ports::sink::{Sink, put_all};
 use reading::characters::first_char;
-
-/// Whether a document may have the character, raw or by reference (XML 1.0, 2.2).
-fn is_legal(c: char) -> bool
-    ensures { result ≡ is_legal c }
-{
-    matches!(c, '\t' | '\n' | '\r' | ' '..='\u{d7ff}' | '\u{e000}'..='\u{fffd}' | '\u{10000}'..='\u{10ffff}')
-}
+use xhtml_items::characters::is_legal;
 
 /// Whether the character is written as it is.
 fn is_straight(c: char) -> bool
