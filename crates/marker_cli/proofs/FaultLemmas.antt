@@ -5,7 +5,7 @@ use Rattle.std.specs.Result.{IsErr, IsErrAnd}
 use Rattle.edit_script.specs.Faults.{IsFault as IsScriptFault}
 use Rattle.edit_script.specs.Scripts.{FailsAsScript, ReadsAsScript}
 use Rattle.edit_script.specs.declared.command.Command.{Command}
-use Rattle.edit_script.specs.declared.script_kind.ScriptKind.TheVariants.{Edits}
+use Rattle.edit_script.specs.declared.script_kind.ScriptKind.{ScriptKind}
 use Rattle.edit_script.specs.declared.fault.ScriptFault.{ScriptFault}
 use Rattle.edit_script.specs.declared.fault.ScriptFault.TheVariants as script
 use Rattle.forest.specs.Forest.{Forest}
@@ -36,11 +36,11 @@ no_tree text reading (Malformed line column) (Err error) is one fails = inr (ap 
 no_tree text reading Memory (Err error) is one fails = inl is.1
 
 -- a script that wasn't read
-pub no_commands : (text : List ℕ) (reading : Result (List Command) ℕ) (fault : ScriptFault) (commands : Result (List Command) Status) → HandsOn commands (script_status fault)
-    → ((number : ℕ) → ReadsAsScript Edits text (Err number) → reading ≡ Err number) → IsScriptFault (FailsAsScript Edits text) fault → Gives (commands_of reading) commands
-no_commands text reading fault (Ok x) is one fails = absurd is.1
-no_commands text reading (script.BadLine number) (Err error) is one fails = inr (ap commands_of (one number fails) ∙ ap Err (sym is.1))
-no_commands text reading script.Memory (Err error) is one fails = inl is.1
+pub no_commands : (kind : ScriptKind) (text : List ℕ) (reading : Result (List Command) ℕ) (fault : ScriptFault) (commands : Result (List Command) Status) → HandsOn commands (script_status fault)
+    → ((number : ℕ) → ReadsAsScript kind text (Err number) → reading ≡ Err number) → IsScriptFault (FailsAsScript kind text) fault → Gives (commands_of reading) commands
+no_commands kind text reading fault (Ok x) is one fails = absurd is.1
+no_commands kind text reading (script.BadLine number) (Err error) is one fails = inr (ap commands_of (one number fails) ∙ ap Err (sym is.1))
+no_commands kind text reading script.Memory (Err error) is one fails = inl is.1
 
 module _ {A : Type 0} where
   -- what such a status is about

@@ -14,7 +14,7 @@ use Rattle.std.specs.Str.{IsAscii, IsUtf8, bytes_eq, chars}
 use Rattle.std.proofs.lemmas.Bool.Decides.{Decides-at, Decides-like}
 use Rattle.std.proofs.lemmas.Slice.Eq.{bytes_eq-Decides}
 use Rattle.marker_cli.specs.declared.form.Form.{Form as ReadForm}
-use Rattle.marker_cli.specs.Words.{Form, IsCount, IsForm, IsRun, IsTable, IsWithin, ReadsAsForm, dump, edit, gen, read_form_of, table, word, words_of}
+use Rattle.marker_cli.specs.Words.{Form, IsCount, IsDepth, IsForm, IsRun, IsTable, IsWithin, ReadsAsForm, dump, edit, gen, read_form_of, table, word, words_of}
 
 -- what `==` of two texts says of their characters
 pub same_text : (answer : Bool) (xs ys cs : List ℕ) → IsUtf8 ys → xs ≡ encode_utf8_all cs → chars xs ≡ cs → answer ≡ bytes_eq xs ys
@@ -57,16 +57,30 @@ one_natural digits number other fits fits_too first second = decimal_injective o
 one_written : (form other : Form) → IsWithin form → IsWithin other → words_of form ≡ words_of other → other ≡ form
 one_written (dump document sheet) (dump first second) within fits same =
     let one : first ≡ document = cc same in let two : second ≡ sheet = cc same in λ i. dump (one i) (two i)
-one_written (dump document sheet) (edit first second third) within fits same = absurd (cc same)
+one_written (dump document sheet) (edit first second third None) within fits same = absurd (cc same)
+one_written (dump document sheet) (edit first second third (Some depth)) within fits same = absurd (cc same)
 one_written (dump document sheet) (table first second from to) within fits same = absurd (cc same)
 one_written (dump document sheet) (gen seed count) within fits same = absurd (cc same)
-one_written (edit document sheet script) (dump first second) within fits same = absurd (cc same)
-one_written (edit document sheet script) (edit first second third) within fits same =
-    let one : first ≡ document = cc same in let two : second ≡ sheet = cc same in let three : third ≡ script = cc same in λ i. edit (one i) (two i) (three i)
-one_written (edit document sheet script) (table first second from to) within fits same = absurd (cc same)
-one_written (edit document sheet script) (gen seed count) within fits same = absurd (cc same)
+one_written (edit document sheet script None) (dump first second) within fits same = absurd (cc same)
+one_written (edit document sheet script None) (edit first second third None) within fits same =
+    let one : first ≡ document = cc same in let two : second ≡ sheet = cc same in let three : third ≡ script = cc same in λ i. edit (one i) (two i) (three i) None
+one_written (edit document sheet script None) (edit first second third (Some depth)) within fits same = absurd (cc same)
+one_written (edit document sheet script None) (table first second from to) within fits same = absurd (cc same)
+one_written (edit document sheet script None) (gen seed count) within fits same = absurd (cc same)
+one_written (edit document sheet script (Some depth)) (dump first second) within fits same = absurd (cc same)
+one_written (edit document sheet script (Some depth)) (edit first second third None) within fits same = absurd (cc same)
+one_written (edit document sheet script (Some depth)) (edit first second third (Some deep)) within fits same =
+    let one : first ≡ document = cc same in
+    let two : second ≡ sheet = cc same in
+    let three : third ≡ script = cc same in
+    let depth_same : decimal depth ≡ decimal deep = cc same in
+    let four : deep ≡ depth = one_natural _ depth deep (omega (arith, within.1)) (omega (arith, fits.1)) (λ i. decimal depth) depth_same in
+    λ i. edit (one i) (two i) (three i) (Some (four i))
+one_written (edit document sheet script (Some depth)) (table first second from to) within fits same = absurd (cc same)
+one_written (edit document sheet script (Some depth)) (gen seed count) within fits same = absurd (cc same)
 one_written (table sheet style from to) (dump first second) within fits same = absurd (cc same)
-one_written (table sheet style from to) (edit first second third) within fits same = absurd (cc same)
+one_written (table sheet style from to) (edit first second third None) within fits same = absurd (cc same)
+one_written (table sheet style from to) (edit first second third (Some depth)) within fits same = absurd (cc same)
 one_written (table sheet style from to) (table first second low high) within fits same =
     let one : first ≡ sheet = cc same in
     let two : second ≡ style = cc same in
@@ -77,7 +91,8 @@ one_written (table sheet style from to) (table first second low high) within fit
     λ i. table (one i) (two i) (three i) (four i)
 one_written (table sheet style from to) (gen seed count) within fits same = absurd (cc same)
 one_written (gen seed count) (dump first second) within fits same = absurd (cc same)
-one_written (gen seed count) (edit first second third) within fits same = absurd (cc same)
+one_written (gen seed count) (edit first second third None) within fits same = absurd (cc same)
+one_written (gen seed count) (edit first second third (Some depth)) within fits same = absurd (cc same)
 one_written (gen seed count) (table first second from to) within fits same = absurd (cc same)
 one_written (gen seed count) (gen start edits) within fits same =
     let seed_same : decimal seed ≡ decimal start = cc same in
@@ -121,36 +136,45 @@ five_words (a ∷ b ∷ c ∷ d ∷ e ∷ f ∷ rest) name first second third fo
 pub none_read : (words : List (List ℕ)) (answer : Option ReadForm) → answer ≡ None → ((form : Form) → IsForm words form → ⊥) → ReadsAsForm words (read_form_of answer)
 none_read words answer is none = rw is none
 
-pub table_none : (words : List (List ℕ)) (sheet style from to : List ℕ) → words ≡ codes "table" ∷ sheet ∷ style ∷ from ∷ to ∷ []
+pub table_none : (words : List (List ℕ)) (from to : List ℕ) → word words 0 ≡ codes "table" → from ≡ get_or words 3 from → to ≡ get_or words 4 to
     → ((first last : ℤ) → from ≡ signed_decimal first → to ≡ signed_decimal last → IsTable first last → ⊥) → (form : Form) → IsForm words form → ⊥
-table_none words sheet style from to written none (dump document other) is = cc (sym written ∙ is.written)
-table_none words sheet style from to written none (edit document other script) is = cc (sym written ∙ is.written)
-table_none words sheet style from to written none (table other another first last) is =
-    let one : from ≡ signed_decimal first = cc (sym written ∙ is.written) in
-    let two : to ≡ signed_decimal last = cc (sym written ∙ is.written) in
-    none first last one two is.within
-table_none words sheet style from to written none (gen seed count) is = cc (sym written ∙ is.written)
+table_none words from to begins third fourth none (dump document sheet) is = cc (sym begins ∙ ap (λ ws. word ws 0) is.written)
+table_none words from to begins third fourth none (edit document sheet script None) is = cc (sym begins ∙ ap (λ ws. word ws 0) is.written)
+table_none words from to begins third fourth none (edit document sheet script (Some depth)) is = cc (sym begins ∙ ap (λ ws. word ws 0) is.written)
+table_none words from to begins third fourth none (table sheet style first last) is =
+    none first last (third ∙ ap (λ ws. get_or ws 3 from) is.written) (fourth ∙ ap (λ ws. get_or ws 4 to) is.written) is.within
+table_none words from to begins third fourth none (gen seed count) is = cc (sym begins ∙ ap (λ ws. word ws 0) is.written)
 
 pub gen_none : (words : List (List ℕ)) (seed count : List ℕ) → words ≡ codes "gen" ∷ seed ∷ count ∷ []
     → ((start edits : ℕ) → seed ≡ decimal start → count ≡ decimal edits → IsRun start edits → ⊥) → (form : Form) → IsForm words form → ⊥
 gen_none words seed count written none (dump document sheet) is = cc (sym written ∙ is.written)
-gen_none words seed count written none (edit document sheet script) is = cc (sym written ∙ is.written)
+gen_none words seed count written none (edit document sheet script None) is = cc (sym written ∙ is.written)
+gen_none words seed count written none (edit document sheet script (Some depth)) is = cc (sym written ∙ is.written)
 gen_none words seed count written none (table sheet style from to) is = cc (sym written ∙ is.written)
 gen_none words seed count written none (gen start edits) is =
     let one : seed ≡ decimal start = cc (sym written ∙ is.written) in
     let two : count ≡ decimal edits = cc (sym written ∙ is.written) in
     none start edits one two is.within
 
+pub history_none : (words : List (List ℕ)) (depth : List ℕ) → word words 0 ≡ codes "history" → depth ≡ get_or words 4 depth
+    → ((deep : ℕ) → depth ≡ decimal deep → IsDepth deep → ⊥) → (form : Form) → IsForm words form → ⊥
+history_none words depth begins fourth none (dump document sheet) is = cc (sym begins ∙ ap (λ ws. word ws 0) is.written)
+history_none words depth begins fourth none (edit document sheet script None) is = cc (sym begins ∙ ap (λ ws. word ws 0) is.written)
+history_none words depth begins fourth none (edit document sheet script (Some deep)) is = none deep (fourth ∙ ap (λ ws. get_or ws 4 depth) is.written) is.within
+history_none words depth begins fourth none (table sheet style from to) is = cc (sym begins ∙ ap (λ ws. word ws 0) is.written)
+history_none words depth begins fourth none (gen seed count) is = cc (sym begins ∙ ap (λ ws. word ws 0) is.written)
+
 -- the words are so many, and the first one is this
 abbrev Begins : List (List ℕ) → ℕ → List ℕ → Type 0
 Begins words count name = (length words ≡ count) × (word words 0 ≡ name)
 
 pub no_command : (words : List (List ℕ)) → (Begins words 3 (codes "dump") → ⊥) → (Begins words 4 (codes "edit") → ⊥) → (Begins words 5 (codes "table") → ⊥)
-    → (Begins words 3 (codes "gen") → ⊥) → (form : Form) → IsForm words form → ⊥
-no_command words first second third fourth (dump document sheet) is = first (ap length is.written, ap (λ ws. word ws 0) is.written)
-no_command words first second third fourth (edit document sheet script) is = second (ap length is.written, ap (λ ws. word ws 0) is.written)
-no_command words first second third fourth (table sheet style from to) is = third (ap length is.written, ap (λ ws. word ws 0) is.written)
-no_command words first second third fourth (gen seed count) is = fourth (ap length is.written, ap (λ ws. word ws 0) is.written)
+    → (Begins words 3 (codes "gen") → ⊥) → (Begins words 5 (codes "history") → ⊥) → (form : Form) → IsForm words form → ⊥
+no_command words first second third fourth fifth (dump document sheet) is = first (ap length is.written, ap (λ ws. word ws 0) is.written)
+no_command words first second third fourth fifth (edit document sheet script None) is = second (ap length is.written, ap (λ ws. word ws 0) is.written)
+no_command words first second third fourth fifth (edit document sheet script (Some depth)) is = fifth (ap length is.written, ap (λ ws. word ws 0) is.written)
+no_command words first second third fourth fifth (table sheet style from to) is = third (ap length is.written, ap (λ ws. word ws 0) is.written)
+no_command words first second third fourth fifth (gen seed count) is = fourth (ap length is.written, ap (λ ws. word ws 0) is.written)
 
 -- the names of the commands are in ASCII
 ascii : (bytes : List ℕ) → list_all (λ b. nat_lt b 128) bytes ≡ true → IsAscii bytes
@@ -169,3 +193,6 @@ table_name = chars-IsAscii (codes "table") (ascii (codes "table") refl)
 
 pub gen_name : chars (codes "gen") ≡ codes "gen"
 gen_name = chars-IsAscii (codes "gen") (ascii (codes "gen") refl)
+
+pub history_name : chars (codes "history") ≡ codes "history"
+history_name = chars-IsAscii (codes "history") (ascii (codes "history") refl)

@@ -8,6 +8,8 @@ mod TreeLemmas
 mod TurnLemmas
 mod GeneratedLemmas
 mod PlayLemmas
+mod SameLemmas
+mod EditorLemmas
 mod FaultLemmas
 mod ReadLemmas
 mod PlainTrees

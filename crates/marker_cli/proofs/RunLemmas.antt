@@ -3,7 +3,7 @@ use Rattle.std.proofs.Common.{◌≡◌, ◌∙◌, ℕ, List, Option, Result, s
 use Rattle.std.specs.Prelude.{Some, None, Ok, Err}
 use Rattle.edit_script.specs.Scripts.{ReadsAsScript}
 use Rattle.edit_script.specs.declared.command.Command.{Command}
-use Rattle.edit_script.specs.declared.script_kind.ScriptKind.TheVariants.{Edits}
+use Rattle.edit_script.specs.declared.script_kind.ScriptKind.{ScriptKind}
 use Rattle.edit_script.proofs.TotalLaws.{some_reading}
 use Rattle.ports.specs.Files.{Files}
 use Rattle.xhtml_reader.specs.Readings.{ReadsAsDocument}
@@ -13,7 +13,7 @@ use Rattle.marker_cli.specs.declared.status.Status.{Status}
 use Rattle.marker_cli.specs.declared.status.Status.TheVariants.{Usage, WriteFault}
 use Rattle.marker_cli.specs.declared.status.Status.TheVariants as status
 use Rattle.marker_cli.specs.Dump.{DocumentReadsAs, Reading}
-use Rattle.marker_cli.specs.Edit.{ScriptReadsAs}
+use Rattle.marker_cli.specs.Edit.{ScriptReadsAs, kind_of}
 use Rattle.marker_cli.specs.Ends.{IsCaused}
 use Rattle.marker_cli.specs.Lines.{message}
 use Rattle.marker_cli.specs.Names.{TellsOfLine}
@@ -49,13 +49,13 @@ some_tree files document sheet = by (text_in (Word 1) (files document)) refl
         (found.0, λ other style same there. let known : text ≡ other = cc (sym is ∙ same) in subst (λ t. ReadsAsDocument t found.0) known found.1)
     by (Err refusal) is = (Err (1, 1), λ other style same there. absurd (cc (sym is ∙ same)))
 
-some_script : (files : Files) (document sheet script : List ℕ) → (reading : Result (List Command) ℕ) × ScriptReadsAs files document sheet script reading
-some_script files document sheet script = by (text_in (Word 3) (files script)) refl
+some_script : (files : Files) (document sheet script : List ℕ) (kind : ScriptKind) → (reading : Result (List Command) ℕ) × ScriptReadsAs files document sheet script kind reading
+some_script files document sheet script kind = by (text_in (Word 3) (files script)) refl
   where
-    by : (given : Result (List ℕ) Status) → text_in (Word 3) (files script) ≡ given → (reading : Result (List Command) ℕ) × ScriptReadsAs files document sheet script reading
+    by : (given : Result (List ℕ) Status) → text_in (Word 3) (files script) ≡ given → (reading : Result (List Command) ℕ) × ScriptReadsAs files document sheet script kind reading
     by (Ok text) is =
-        let found = some_reading Edits text in
-        (found.0, λ other style lines first second third. let known : text ≡ lines = cc (sym is ∙ third) in subst (λ t. ReadsAsScript Edits t found.0) known found.1)
+        let found = some_reading kind text in
+        (found.0, λ other style lines first second third. let known : text ≡ lines = cc (sym is ∙ third) in subst (λ t. ReadsAsScript kind t found.0) known found.1)
     by (Err refusal) is = (Err 1, λ other style lines first second third. absurd (cc (sym is ∙ third)))
 
 pub some_readings : (words : List (List ℕ)) (files : Files) (form : Option Form) → ReadsAsForm words form → (readings : Readings) × AreReadings words files readings
@@ -63,10 +63,10 @@ some_readings words files None is = (record { form = None; document = Err (1, 1)
 some_readings words files (Some (dump document sheet)) is =
     let tree = some_tree files document sheet in
     (record { form = Some (dump document sheet); document = tree.0; script = Err 1 }, record { form = is; texts = tree.1 })
-some_readings words files (Some (edit document sheet script)) is =
+some_readings words files (Some (edit document sheet script depth)) is =
     let tree = some_tree files document sheet in
-    let commands = some_script files document sheet script in
-    (record { form = Some (edit document sheet script); document = tree.0; script = commands.0 }, record { form = is; texts = (tree.1, commands.1) })
+    let commands = some_script files document sheet script (kind_of depth) in
+    (record { form = Some (edit document sheet script depth); document = tree.0; script = commands.0 }, record { form = is; texts = (tree.1, commands.1) })
 some_readings words files (Some (table sheet style from to)) is =
     (record { form = Some (table sheet style from to); document = Err (1, 1); script = Err 1 }, record { form = is; texts = tt })
 some_readings words files (Some (gen seed count)) is =

@@ -9,12 +9,11 @@ use Rattle.edit_script.specs.declared.action.Action.{Action}
 use Rattle.edit_script.specs.declared.action.Action.TheVariants.{Change, SheetFile, Show, Undo, Redo}
 use Rattle.edit_script.specs.declared.command.Command.{Command}
 use Rattle.edit_script.specs.declared.script_kind.ScriptKind.{ScriptKind}
-use Rattle.edit_script.specs.declared.script_kind.ScriptKind.TheVariants.{Edits}
 use Rattle.forest.specs.Forest.{Forest}
 use Rattle.generated_texts.specs.Lines.{fresh_dump}
-use Rattle.marker_engine.specs.Edited.{edited}
-use Rattle.marker_engine.specs.Engines.{Source}
+use Rattle.node_arena.specs.Edits.{place_fault}
 use Rattle.node_arena.specs.declared.place_fault.PlaceFault.{PlaceFault}
+use Rattle.plain_types.specs.declared.edit.Edit.{Edit}
 use Rattle.plain_types.specs.declared.node.Node.{Node}
 use Rattle.ports.specs.Files.{Files}
 use Rattle.marker_cli.specs.declared.status.FileAt.{FileAt}
@@ -23,13 +22,14 @@ use Rattle.marker_cli.specs.declared.status.Status.{Status}
 use Rattle.marker_cli.specs.declared.status.Status.TheVariants.{Memory, NotUtf8, ReadFault, TooLarge, WriteFault}
 use Rattle.marker_cli.specs.declared.status.Status.TheVariants as status
 use Rattle.marker_cli.specs.Dump.{Reading, dump_output, tree_of}
-use Rattle.marker_cli.specs.Edit.{ScriptReadsAs, action_output, after_edit, commands_of, edit_output, play}
+use Rattle.marker_cli.specs.Edit.{ScriptReadsAs, action_output, after_edit, after_step, commands_of, edit_output, kept_edits, kind_of, play}
 use Rattle.marker_cli.specs.Ends.{EndsAs, ReadsFailed, no_memory, not_read, not_written, whole}
 use Rattle.marker_cli.specs.Names.{file_of, name_at, sheet_name}
 use Rattle.marker_cli.specs.Output.{ComesAfter, Output, ends, goes_on, status_of, turn, writes}
 use Rattle.marker_cli.specs.Run.{AreReadings, HasTurn, Readings, TextsReadAs, commands_in, form_output, name_in, output}
 use Rattle.marker_cli.specs.Table.{table_output}
 use Rattle.marker_cli.specs.Turns.{text_in, text_of, with_text}
+use Rattle.marker_cli.specs.Versions.{Versions, begun, redone, undone}
 use Rattle.marker_cli.specs.Words.{Form, ReadsAsForm, dump, edit, gen, table, word}
 
 -- a file that is held doesn't end a run as one that isn't
@@ -74,23 +74,30 @@ abbrev AreNamed : (FileAt → List ℕ) → List Command → Type 0
 AreNamed name [] = Unit {0}
 AreNamed name (command ∷ commands) = (name (Line command.line) ≡ file_of command.action) × AreNamed name commands
 
-turns_edit : (files : Files) (name : FileAt → List ℕ) (number : ℕ) (source : Source) (answer : Result Source PlaceFault) (next : Source → Output)
-    → ((now : Source) → AreTurns files name (next now)) → AreTurns files name (after_edit number source answer next)
-turns_edit files name number source (Ok now) next follows = follows now
-turns_edit files name number source (Err fault) next follows = at_bytes _ (follows source)
+turns_edit : (files : Files) (name : FileAt → List ℕ) (depth number : ℕ) (change : Edit) (versions : Versions) (place : Option PlaceFault) (next : Versions → Output)
+    → ((now : Versions) → AreTurns files name (next now)) → AreTurns files name (after_edit depth number change versions place next)
+turns_edit files name depth number change versions None next follows = follows _
+turns_edit files name depth number change versions (Some fault) next follows = at_bytes _ (follows versions)
 
-turns_action : (files : Files) (name : FileAt → List ℕ) (number : ℕ) (action : Action) (source : Source) (next : Source → Output) → name (Line number) ≡ file_of action
-    → ((now : Source) → AreTurns files name (next now)) → AreTurns files name (action_output files number action source next)
-turns_action files name number (Change change) source next is follows = turns_edit files name number source (edited source change) next follows
-turns_action files name number (SheetFile file) source next is follows = turns_text files name (Line number) _ file is (λ text found. follows _)
-turns_action files name number Show source next is follows = at_bytes _ (follows source)
-turns_action files name number Undo source next is follows = at_bytes _ (follows source)
-turns_action files name number Redo source next is follows = at_bytes _ (follows source)
+turns_step : (files : Files) (name : FileAt → List ℕ) (number : ℕ) (versions : Versions) (step : Option Versions) (next : Versions → Output)
+    → ((now : Versions) → AreTurns files name (next now)) → AreTurns files name (after_step number versions step next)
+turns_step files name number versions (Some led) next follows = follows led
+turns_step files name number versions None next follows = at_bytes _ (follows versions)
 
-turns_play : (files : Files) (name : FileAt → List ℕ) (commands : List Command) (source : Source) → AreNamed name commands → AreTurns files name (play files commands source)
-turns_play files name [] source named = at_end _ (λ file fault. cc fault)
-turns_play files name (command ∷ commands) source named =
-    turns_action files name command.line command.action source (play files commands) named.0 (λ now. turns_play files name commands now named.1)
+turns_action : (files : Files) (name : FileAt → List ℕ) (depth number : ℕ) (action : Action) (versions : Versions) (next : Versions → Output) → name (Line number) ≡ file_of action
+    → ((now : Versions) → AreTurns files name (next now)) → AreTurns files name (action_output files depth number action versions next)
+turns_action files name depth number (Change change) versions next is follows =
+    turns_edit files name depth number change versions (place_fault change versions.present.document) next follows
+turns_action files name depth number (SheetFile file) versions next is follows = turns_text files name (Line number) _ file is (λ text found. follows _)
+turns_action files name depth number Show versions next is follows = at_bytes _ (follows versions)
+turns_action files name depth number Undo versions next is follows = turns_step files name number versions (undone versions) next follows
+turns_action files name depth number Redo versions next is follows = turns_step files name number versions (redone versions) next follows
+
+turns_play : (files : Files) (name : FileAt → List ℕ) (depth : ℕ) (commands : List Command) (versions : Versions) → AreNamed name commands
+    → AreTurns files name (play files depth commands versions)
+turns_play files name depth [] versions named = at_end _ (λ file fault. cc fault)
+turns_play files name depth (command ∷ commands) versions named =
+    turns_action files name depth command.line command.action versions (play files depth commands) named.0 (λ now. turns_play files name depth commands now named.1)
 
 -- the lines of a script differ, so each command has the name of its own file
 other_line : (number other : ℕ) → number + 1 ≤ other → (number == other) ≡ false
@@ -122,27 +129,28 @@ module _ (files : Files) (name : FileAt → List ℕ) where
   turns_table : (sheet style : List ℕ) (from to : ℤ) → name (Word 1) ≡ sheet → AreTurns files name (table_output files sheet style from to)
   turns_table sheet style from to first = turns_text files name (Word 1) _ sheet first (λ text found. at_bytes _ (at_end _ (λ file fault. cc fault)))
 
-  turns_commands : (lines : List ℕ) (style : List ℕ) (tree : Forest Node) (read : Result (List Command) ℕ) → ReadsAsScript Edits lines read
-      → ((line : ℕ) → name (Line line) ≡ sheet_name (commands_in read) line)
-      → AreTurns files name (goes_on (commands_of read) (λ commands. play files commands (record { tree = tree; sheet = style })))
-  turns_commands lines style tree (Ok commands) reads named = turns_play files name commands _ (named_from name reads (λ line more. named line))
-  turns_commands lines style tree (Err number) reads named = at_end _ (λ file fault. cc fault)
+  module _ (depth : Option ℕ) where
+    turns_commands : (lines : List ℕ) (style : List ℕ) (tree : Forest Node) (read : Result (List Command) ℕ) → ReadsAsScript (kind_of depth) lines read
+        → ((line : ℕ) → name (Line line) ≡ sheet_name (commands_in read) line)
+        → AreTurns files name (goes_on (commands_of read) (λ commands. play files (kept_edits depth) commands (begun (record { document = tree; sheet = style }))))
+    turns_commands lines style tree (Ok commands) reads named = turns_play files name (kept_edits depth) commands _ (named_from name reads (λ line more. named line))
+    turns_commands lines style tree (Err number) reads named = at_end _ (λ file fault. cc fault)
 
-  turns_tree : (lines : List ℕ) (style : List ℕ) (reading : Reading) (read : Result (List Command) ℕ) → ReadsAsScript Edits lines read
-      → ((line : ℕ) → name (Line line) ≡ sheet_name (commands_in read) line)
-      → AreTurns files name (goes_on (tree_of reading) (λ tree.
-      goes_on (commands_of read) (λ commands. play files commands (record { tree = tree; sheet = style }))))
-  turns_tree lines style (Ok tree) read reads named = turns_commands lines style tree read reads named
-  turns_tree lines style (Err place) read reads named = at_end _ (λ file fault. cc fault)
+    turns_tree : (lines : List ℕ) (style : List ℕ) (reading : Reading) (read : Result (List Command) ℕ) → ReadsAsScript (kind_of depth) lines read
+        → ((line : ℕ) → name (Line line) ≡ sheet_name (commands_in read) line)
+        → AreTurns files name (goes_on (tree_of reading) (λ tree.
+        goes_on (commands_of read) (λ commands. play files (kept_edits depth) commands (begun (record { document = tree; sheet = style })))))
+    turns_tree lines style (Ok tree) read reads named = turns_commands lines style tree read reads named
+    turns_tree lines style (Err place) read reads named = at_end _ (λ file fault. cc fault)
 
-  turns_script : (document sheet script : List ℕ) (reading : Reading) (read : Result (List Command) ℕ) → name (Word 1) ≡ document → name (Word 2) ≡ sheet
-      → name (Word 3) ≡ script → ScriptReadsAs files document sheet script read → ((line : ℕ) → name (Line line) ≡ sheet_name (commands_in read) line)
-      → AreTurns files name (edit_output files document sheet script reading read)
-  turns_script document sheet script reading read first second third reads named =
-      turns_text files name (Word 1) _ document first (λ text found.
-      turns_text files name (Word 2) _ sheet second (λ style held.
-      turns_text files name (Word 3) _ script third (λ lines there.
-      turns_tree lines style reading read (reads text style lines found held there) named)))
+    turns_script : (document sheet script : List ℕ) (reading : Reading) (read : Result (List Command) ℕ) → name (Word 1) ≡ document → name (Word 2) ≡ sheet
+        → name (Word 3) ≡ script → ScriptReadsAs files document sheet script (kind_of depth) read → ((line : ℕ) → name (Line line) ≡ sheet_name (commands_in read) line)
+        → AreTurns files name (edit_output files document sheet script depth reading read)
+    turns_script document sheet script reading read first second third reads named =
+        turns_text files name (Word 1) _ document first (λ text found.
+        turns_text files name (Word 2) _ sheet second (λ style held.
+        turns_text files name (Word 3) _ script third (λ lines there.
+        turns_tree lines style reading read (reads text style lines found held there) named)))
 
 -- the turns of a run
 turns_form : (words : List (List ℕ)) (files : Files) (document : Reading) (script : Result (List Command) ℕ) (form : Option Form) → ReadsAsForm words form
@@ -150,8 +158,11 @@ turns_form : (words : List (List ℕ)) (files : Files) (document : Reading) (scr
 turns_form words files document script None is reads = at_end _ (λ file fault. cc fault)
 turns_form words files document script (Some (dump doc sheet)) is reads =
     turns_dump files _ doc sheet document (ap (λ ws. word ws 1) is.written) (ap (λ ws. word ws 2) is.written)
-turns_form words files document script (Some (edit doc sheet commands)) is reads =
-    turns_script files _ doc sheet commands document script (ap (λ ws. word ws 1) is.written) (ap (λ ws. word ws 2) is.written) (ap (λ ws. word ws 3) is.written)
+turns_form words files document script (Some (edit doc sheet commands None)) is reads =
+    turns_script files _ None doc sheet commands document script (ap (λ ws. word ws 1) is.written) (ap (λ ws. word ws 2) is.written) (ap (λ ws. word ws 3) is.written)
+    reads.1 (λ line. refl)
+turns_form words files document script (Some (edit doc sheet commands (Some depth))) is reads =
+    turns_script files _ (Some depth) doc sheet commands document script (ap (λ ws. word ws 1) is.written) (ap (λ ws. word ws 2) is.written) (ap (λ ws. word ws 3) is.written)
     reads.1 (λ line. refl)
 turns_form words files document script (Some (table sheet style from to)) is reads = turns_table files _ sheet style from to (ap (λ ws. word ws 1) is.written)
 turns_form words files document script (Some (gen seed count)) is reads = at_bytes _ (at_end _ (λ file fault. cc fault))

@@ -1,5 +1,6 @@
 pub mod Dump
 pub mod Edit
+pub mod Editors
 pub mod Ends
 pub mod Generated
 pub mod Lines
@@ -11,4 +12,5 @@ pub mod Statuses
 pub mod Table
 pub mod Tallies
 pub mod Turns
+pub mod Versions
 pub mod Words

@@ -8,7 +8,7 @@ use Rattle.ports.specs.Files.{Files}
 use Rattle.marker_cli.specs.declared.status.FileAt.{FileAt}
 use Rattle.marker_cli.specs.declared.status.Status.TheVariants.{Usage}
 use Rattle.marker_cli.specs.Dump.{DocumentReadsAs, Reading, dump_output}
-use Rattle.marker_cli.specs.Edit.{ScriptReadsAs, edit_output}
+use Rattle.marker_cli.specs.Edit.{ScriptReadsAs, edit_output, kind_of}
 use Rattle.marker_cli.specs.Generated.{generated_output}
 use Rattle.marker_cli.specs.Names.{name_at}
 use Rattle.marker_cli.specs.Output.{ComesAfter, Output, ends}
@@ -25,7 +25,7 @@ pub record Readings : Type 0 where
 abbrev pub TextsReadAs : Files → Reading → Result (List Command) ℕ → Option Form → Type 0
 TextsReadAs files document script None = Unit {0}
 TextsReadAs files document script (Some (dump doc sheet)) = DocumentReadsAs files doc sheet document
-TextsReadAs files document script (Some (edit doc sheet commands)) = DocumentReadsAs files doc sheet document × ScriptReadsAs files doc sheet commands script
+TextsReadAs files document script (Some (edit doc sheet commands depth)) = DocumentReadsAs files doc sheet document × ScriptReadsAs files doc sheet commands (kind_of depth) script
 TextsReadAs files document script (Some (table sheet style from to)) = Unit {0}
 TextsReadAs files document script (Some (gen seed count)) = Unit {0}
 
@@ -42,7 +42,7 @@ OverTold held words Holds = (files : Files) (readings : Readings) → held ≡ S
 abbrev pub form_output : Files → Reading → Result (List Command) ℕ → Option Form → Output
 form_output files document script None = ends Usage
 form_output files document script (Some (dump doc sheet)) = dump_output files doc sheet document
-form_output files document script (Some (edit doc sheet commands)) = edit_output files doc sheet commands document script
+form_output files document script (Some (edit doc sheet commands depth)) = edit_output files doc sheet commands depth document script
 form_output files document script (Some (table sheet style from to)) = table_output files sheet style from to
 form_output files document script (Some (gen seed count)) = generated_output seed count
 
@@ -86,7 +86,7 @@ commands_size files (command ∷ commands) = action_size files command.action + 
 abbrev pub form_size : Files → Result (List Command) ℕ → Option Form → ℕ
 form_size files script None = 0
 form_size files script (Some (dump doc sheet)) = size_of files doc + size_of files sheet
-form_size files script (Some (edit doc sheet commands)) = size_of files doc + (size_of files sheet + (size_of files commands + commands_size files (commands_in script)))
+form_size files script (Some (edit doc sheet commands depth)) = size_of files doc + (size_of files sheet + (size_of files commands + commands_size files (commands_in script)))
 form_size files script (Some (table sheet style from to)) = size_of files sheet
 form_size files script (Some (gen seed count)) = 0
 

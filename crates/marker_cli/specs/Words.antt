@@ -5,17 +5,19 @@ use Rattle.plain_types.specs.declared.count.TheConstants.{COUNT_LOW, COUNT_HIGH}
 use Rattle.marker_cli.specs.declared.form.Form.{Form as ReadForm}
 use Rattle.marker_cli.specs.declared.form.Form.TheVariants as read
 
--- what words ask for: a command with its operands
+-- what words ask for: a command with its operands. The commands of a script are done with a depth, so that as many edits can
+-- be undone, or without one.
 pub data Form : Type 0 where
   dump : (document sheet : List ℕ) → Form
-  edit : (document sheet script : List ℕ) → Form
+  edit : (document sheet script : List ℕ) (depth : Option ℕ) → Form
   table : (sheet style : List ℕ) (from to : ℤ) → Form
   gen : (seed count : ℕ) → Form
 
 -- the words of it; numbers are in decimal
 abbrev pub words_of : Form → List (List ℕ)
 words_of (dump document sheet) = codes "dump" ∷ document ∷ sheet ∷ []
-words_of (edit document sheet script) = codes "edit" ∷ document ∷ sheet ∷ script ∷ []
+words_of (edit document sheet script None) = codes "edit" ∷ document ∷ sheet ∷ script ∷ []
+words_of (edit document sheet script (Some depth)) = codes "history" ∷ document ∷ sheet ∷ script ∷ decimal depth ∷ []
 words_of (table sheet style from to) = codes "table" ∷ sheet ∷ style ∷ signed_decimal from ∷ signed_decimal to ∷ []
 words_of (gen seed count) = codes "gen" ∷ decimal seed ∷ decimal count ∷ []
 
@@ -38,10 +40,15 @@ pub record IsTable (from to : ℤ) : Type 0 where
 abbrev pub IsRun : ℕ → ℕ → Type 0
 IsRun seed count = (seed ≤ 2147483647) × (1 ≤ count) × (count ≤ 100000)
 
+-- of a script's edits 1 to 1000 can be undone
+abbrev pub IsDepth : ℕ → Type 0
+IsDepth depth = (1 ≤ depth) × (depth ≤ 1000)
+
 -- its numbers are as large as they may be
 abbrev pub IsWithin : Form → Type 0
 IsWithin (dump document sheet) = Unit {0}
-IsWithin (edit document sheet script) = Unit {0}
+IsWithin (edit document sheet script None) = Unit {0}
+IsWithin (edit document sheet script (Some depth)) = IsDepth depth
 IsWithin (table sheet style from to) = IsTable from to
 IsWithin (gen seed count) = IsRun seed count
 
@@ -58,7 +65,7 @@ ReadsAsForm words None = (form : Form) → IsForm words form → ⊥
 -- what the code read of words
 abbrev pub form_of : ReadForm → Form
 form_of (read.Dump document sheet) = dump document.now sheet.now
-form_of (read.Edit document sheet script) = edit document.now sheet.now script.now
+form_of (read.Script document sheet script depth) = edit document.now sheet.now script.now depth
 form_of (read.Table sheet style from to) = table sheet.now style.now from to
 form_of (read.Gen seed count) = gen seed count
 

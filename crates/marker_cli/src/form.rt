@@ -3,7 +3,7 @@
 ghost use Rattle.std.specs.Prelude.{◌≡◌, ◌<◌, ◌↔◌, ℤ, ℕ, ◌≤ℤ◌, IfNone, IfSome, IsTrue, length};
 ghost use Rattle.std.specs.Fmt.{decimal, signed_decimal};
 ghost use Rattle.std.specs.Str.{chars};
-ghost use Rattle.marker_cli.specs.Words.{IsCount, IsRun, IsSpan, IsTable, ReadsAsForm, read_form_of, word};
+ghost use Rattle.marker_cli.specs.Words.{IsCount, IsDepth, IsRun, IsSpan, IsTable, ReadsAsForm, read_form_of, word};
 
 use edit_script::words::read_natural;
 use itoa::Buffer;
@@ -18,11 +18,12 @@ pub enum Form<'a> {
         document: &'a Text,
         sheet: &'a Text,
     },
-    /// `edit DOC SHEET SCRIPT`
-    Edit {
+    /// `edit DOC SHEET SCRIPT`, or with a depth `history DOC SHEET SCRIPT DEPTH`
+    Script {
         document: &'a Text,
         sheet: &'a Text,
         script: &'a Text,
+        depth: Option<u32>,
     },
     /// `table SHEET STYLE FROM TO`
     Table {
@@ -110,6 +111,22 @@ fn read_run(seed: &Text, count: &Text) -> Option<(u32, u32)>
     }
 }
 
+/// Whether so many edits may be kept to be undone.
+fn is_depth(depth: u32) -> bool
+    ensures { IsTrue result ↔ IsDepth depth }
+{
+    1 <= depth && depth <= 1000
+}
+
+/// The number of edits that can be undone, of its operand DEPTH.
+fn read_depth(text: &Text) -> Option<u32>
+    ensures found { IfSome result (λ depth. (text.now ≡ decimal depth) × IsDepth depth) }
+    ensures none { IfNone result ((depth : ℕ) → text.now ≡ decimal depth → IsDepth depth → ⊥) }
+{
+    let depth = read_natural(text.as_str())?;
+    if is_depth(depth) { Some(depth) } else { None }
+}
+
 /// The form that the words are of, if they are of one. It takes no memory.
 pub fn read_form(words: &[Text]) -> Option<Form<'_>>
     ensures form { ReadsAsForm words.now (read_form_of result) }
@@ -120,10 +137,11 @@ pub fn read_form(words: &[Text]) -> Option<Form<'_>>
             sheet: &words[2],
         })
     } else if is_command("edit", 4, words) {
-        Some(Form::Edit {
+        Some(Form::Script {
             document: &words[1],
             sheet: &words[2],
             script: &words[3],
+            depth: None,
         })
     } else if is_command("table", 5, words) {
         let (from, to) = read_values(&words[3], &words[4])?;
@@ -136,6 +154,14 @@ pub fn read_form(words: &[Text]) -> Option<Form<'_>>
     } else if is_command("gen", 3, words) {
         let (seed, count) = read_run(&words[1], &words[2])?;
         Some(Form::Gen { seed, count })
+    } else if is_command("history", 5, words) {
+        let depth = read_depth(&words[4])?;
+        Some(Form::Script {
+            document: &words[1],
+            sheet: &words[2],
+            script: &words[3],
+            depth: Some(depth),
+        })
     } else {
         None
     }

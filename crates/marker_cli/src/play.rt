@@ -2,20 +2,24 @@
 
 ghost use Rattle.std.specs.Prelude.{◌≡◌, ◌≤◌, ◌⊎◌, ℕ, List, Option, Some, IfErr, OnOk, OnErr};
 ghost use Rattle.std.specs.Str.{chars};
-ghost use Rattle.marker_engine.specs.Edited.{edited};
-ghost use Rattle.marker_engine.specs.Engines.{Source, source_of};
+ghost use Rattle.plain_types.specs.declared.edit.Edit.TheVariants as edits;
+ghost use Rattle.node_arena.specs.Edits.{place_fault};
 ghost use Rattle.ports.specs.Causes.{Raises, Rose, RoseAbove};
 ghost use Rattle.ports.specs.Files.{Files};
 ghost use Rattle.ports.specs.Grown.{grown, GrowsByFront};
+ghost use Rattle.undo_ring.specs.Histories.{version_of};
 ghost use Rattle.marker_cli.specs.declared.status.FileAt.TheVariants.{Line};
 ghost use Rattle.marker_cli.specs.declared.status.Status.TheVariants as status;
-ghost use Rattle.marker_cli.specs.Edit.{action_output, after_edit, nothing, play, shown, with_sheet};
+ghost use Rattle.marker_cli.specs.Edit.{action_output, after_edit, after_step, nothing, play, shown};
+ghost use Rattle.marker_cli.specs.Editors.{AnswersStep, AreSameHistories, TellsNoneApart, depth_of, versions_of};
 ghost use Rattle.marker_cli.specs.Ends.{EndsAs, IsCaused, IsPutCaused, IsStop, ReadsFailed, part_status};
 ghost use Rattle.marker_cli.specs.Output.{Output};
 ghost use Rattle.marker_cli.specs.Run.{action_size, commands_size, size_of};
 ghost use Rattle.marker_cli.specs.Stands.{Goes};
 ghost use Rattle.marker_cli.specs.Turns.{with_text};
+ghost use Rattle.marker_cli.specs.Versions.{Versions, edited};
 
+use crate::editor::Editor;
 use crate::fetch_text::fetch_text;
 use crate::put_number::put_numbered;
 use crate::show::show;
@@ -31,23 +35,26 @@ use ports::sink::{Sink, put_all};
 use std::alloc::Global;
 use std::sync::ledger::Ledger;
 use steps::Steps;
+use undo_ring::undo_fault::UndoFault;
 
 /// Does the edit of the line of this number, or tells that it is refused.
 fn play_edit<O: Sink, L: Ledger>(
     alloc: Global,
     number: usize,
     edit: &Edit,
-    engine: &mut Engine,
+    editor: &mut Editor,
     out: &mut O,
     steps: &mut Steps<L>,
 ) -> Result<(), Status>
-    ensures told { (next : Source → Output) → Goes ⊥ (Rose (O.faults out.old) (O.faults out.new))
-        (after_edit number (source_of engine.old) (edited (source_of engine.old) edit.now) next) (O.out out.old) (O.out out.new) (next (source_of engine.new)) result }
+    ensures told { (next : Versions → Output) → TellsNoneApart next → Goes ⊥ (Rose (O.faults out.old) (O.faults out.new))
+        (after_edit (depth_of editor.old) number edit.now (versions_of editor.old) (place_fault edit.now (versions_of editor.old).present.document) next)
+        (O.out out.old) (O.out out.new) (next (versions_of editor.new)) result }
+    ensures depth { depth_of editor.new ≡ depth_of editor.old }
     ensures cause { IsCaused ⊥ ⊥ ⊥ (Rose (O.faults out.old) (O.faults out.new)) (part_status result) }
     ensures stops { IfErr result IsStop }
     ensures faults { O.faults out.old ≤ O.faults out.new }
 {
-    match engine.apply(alloc, edit, steps) {
+    match editor.apply(alloc, edit, steps) {
         Ok(()) => Ok(()),
         Err(EditFault::NoPlace) => Ok(put_numbered(b"refused ", number, b" no-place\n", out)?),
         Err(EditFault::IntoItself) => Ok(put_numbered(
@@ -64,13 +71,14 @@ fn play_edit<O: Sink, L: Ledger>(
 fn replace_sheet<L: Ledger>(
     alloc: Global,
     text: Text,
-    engine: &mut Engine,
+    editor: &mut Editor,
     steps: &mut Steps<L>,
 ) -> Result<(), Status>
-    ensures ok { OnOk result (source_of engine.new ≡ with_sheet text (source_of engine.old)) }
+    ensures ok { OnOk result (AreSameHistories (versions_of editor.new) (edited (depth_of editor.old) (edits.ReplaceSheet text) (versions_of editor.old))) }
+    ensures depth { depth_of editor.new ≡ depth_of editor.old }
     ensures cause { IfErr result (λ error. error ≡ status.Memory) }
 {
-    match engine.apply(alloc, &Edit::ReplaceSheet { text }, steps) {
+    match editor.apply(alloc, &Edit::ReplaceSheet { text }, steps) {
         Ok(()) => Ok(()),
         Err(_) => Err(Status::Memory),
     }
@@ -81,13 +89,15 @@ fn play_sheet<S: Shelf, L: Ledger>(
     alloc: Global,
     number: usize,
     name: &str,
-    engine: &mut Engine,
+    editor: &mut Editor,
     shelf: &mut S,
     steps: &mut Steps<L>,
 ) -> Result<(), Status>
-    ensures told { (files : Files) (before : Option (List ℕ)) (next : Source → Output) → S.held shelf.old ≡ Some files
+    ensures told { (files : Files) (before : Option (List ℕ)) (next : Versions → Output) → TellsNoneApart next → S.held shelf.old ≡ Some files
         → Goes (ReadsFailed (S.honest shelf.old) (S.faults shelf.old) (S.faults shelf.new)) ⊥
-        (with_text files (Line number) (chars name.now) (λ text. next (with_sheet text (source_of engine.old)))) before before (next (source_of engine.new)) result }
+        (with_text files (Line number) (chars name.now) (λ text. next (edited (depth_of editor.old) (edits.ReplaceSheet text) (versions_of editor.old))))
+        before before (next (versions_of editor.new)) result }
+    ensures depth { depth_of editor.new ≡ depth_of editor.old }
     ensures cause { IsCaused ⊥ (Rose (S.faults shelf.old) (S.faults shelf.new)) (RoseAbove 16777216 (S.taken shelf.old) (S.taken shelf.new)) ⊥ (part_status result) }
     ensures stops { IfErr result IsStop }
     ensures faults { S.faults shelf.old ≤ S.faults shelf.new }
@@ -97,7 +107,7 @@ fn play_sheet<S: Shelf, L: Ledger>(
     ensures reads { (files : Files) → S.held shelf.old ≡ Some files → OnOk result (Raises (S.taken shelf.old) (S.taken shelf.new) (size_of files (chars name.now))) }
 {
     let text = fetch_text(alloc, shelf, FileAt::Line(number), name)?;
-    replace_sheet(alloc, text, engine, steps)
+    replace_sheet(alloc, text, editor, steps)
 }
 
 /// Puts what the `show` of the line of this number shows.
@@ -108,8 +118,8 @@ fn put_shown<O: Sink, L: Ledger>(
     out: &mut O,
     steps: &mut Steps<L>,
 ) -> Result<(), Status>
-    ensures ok { OnOk result (O.out out.new ≡ grown (O.out out.old) (shown number (source_of engine.now))) }
-    ensures failed { OnErr result (GrowsByFront (O.out out.old) (O.out out.new) (shown number (source_of engine.now))) }
+    ensures ok { OnOk result (O.out out.new ≡ grown (O.out out.old) (shown number (version_of engine.now))) }
+    ensures failed { OnErr result (GrowsByFront (O.out out.old) (O.out out.new) (shown number (version_of engine.now))) }
     ensures cause { IsPutCaused (Rose (O.faults out.old) (O.faults out.new)) result }
     ensures faults { O.faults out.old ≤ O.faults out.new }
 {
@@ -118,28 +128,38 @@ fn put_shown<O: Sink, L: Ledger>(
     Ok(put_all(out, b"end\n")?)
 }
 
-/// Tells that the `undo` or `redo` of the line of this number finds nothing.
-fn put_nothing<O: Sink>(number: usize, out: &mut O) -> Result<(), Status>
-    ensures ok { OnOk result (O.out out.new ≡ grown (O.out out.old) (nothing number)) }
-    ensures failed { OnErr result (GrowsByFront (O.out out.old) (O.out out.new) (nothing number)) }
-    ensures cause { IsPutCaused (Rose (O.faults out.old) (O.faults out.new)) result }
+/// Tells that the `undo` or the `redo` of the line of this number finds nothing, where that is what it was answered.
+fn put_step<O: Sink>(
+    number: usize,
+    outcome: Result<(), UndoFault>,
+    out: &mut O,
+) -> Result<(), Status>
+    ensures told { (versions left : Versions) (step : Option Versions) (next : Versions → Output) → TellsNoneApart next → AnswersStep outcome versions left step
+        → Goes ⊥ (Rose (O.faults out.old) (O.faults out.new)) (after_step number versions step next) (O.out out.old) (O.out out.new) (next left) result }
+    ensures cause { IsCaused ⊥ ⊥ ⊥ (Rose (O.faults out.old) (O.faults out.new)) (part_status result) }
+    ensures stops { IfErr result IsStop }
     ensures faults { O.faults out.old ≤ O.faults out.new }
 {
-    Ok(put_numbered(b"refused ", number, b" nothing\n", out)?)
+    match outcome {
+        Ok(()) => Ok(()),
+        Err(UndoFault::Nothing) => Ok(put_numbered(b"refused ", number, b" nothing\n", out)?),
+        Err(UndoFault::Memory) => Err(Status::Memory),
+    }
 }
 
 /// Does one command.
 fn play_command<S: Shelf, O: Sink, L: Ledger>(
     alloc: Global,
     command: &Command,
-    engine: &mut Engine,
+    editor: &mut Editor,
     shelf: &mut S,
     out: &mut O,
     steps: &mut Steps<L>,
 ) -> Result<(), Status>
-    ensures told { (files : Files) (next : Source → Output) → S.held shelf.old ≡ Some files
+    ensures told { (files : Files) (next : Versions → Output) → TellsNoneApart next → S.held shelf.old ≡ Some files
         → Goes (ReadsFailed (S.honest shelf.old) (S.faults shelf.old) (S.faults shelf.new)) (Rose (O.faults out.old) (O.faults out.new))
-        (action_output files command.now.line command.now.action (source_of engine.old) next) (O.out out.old) (O.out out.new) (next (source_of engine.new)) result }
+        (action_output files (depth_of editor.old) command.now.line command.now.action (versions_of editor.old) next) (O.out out.old) (O.out out.new) (next (versions_of editor.new)) result }
+    ensures depth { depth_of editor.new ≡ depth_of editor.old }
     ensures cause { IsCaused ⊥ (Rose (S.faults shelf.old) (S.faults shelf.new)) (RoseAbove 16777216 (S.taken shelf.old) (S.taken shelf.new))
         (Rose (O.faults out.old) (O.faults out.new)) (part_status result) }
     ensures stops { IfErr result IsStop }
@@ -152,27 +172,26 @@ fn play_command<S: Shelf, O: Sink, L: Ledger>(
 {
     let number = command.line;
     match &command.action {
-        Action::Change(edit) => play_edit(alloc, number, edit, engine, out, steps),
-        Action::SheetFile(name) => play_sheet(alloc, number, name.as_str(), engine, shelf, steps),
-        Action::Show => put_shown(alloc, number, engine, out, steps),
-        Action::Undo => put_nothing(number, out),
-        Action::Redo => put_nothing(number, out),
+        Action::Change(edit) => play_edit(alloc, number, edit, editor, out, steps),
+        Action::SheetFile(name) => play_sheet(alloc, number, name.as_str(), editor, shelf, steps),
+        Action::Show => put_shown(alloc, number, editor.engine(), out, steps),
+        Action::Undo => put_step(number, editor.undo(alloc, steps), out),
+        Action::Redo => put_step(number, editor.redo(alloc, steps), out),
     }
 }
 
-/// Does the commands in their order. A refused edit is told and ends nothing; the first file that cannot be
-/// used, and the first write that fails, end the run.
+/// Does the commands, in their order.
 pub fn play<S: Shelf, O: Sink, L: Ledger>(
     alloc: Global,
     commands: &[Command],
-    engine: &mut Engine,
+    editor: &mut Editor,
     shelf: &mut S,
     out: &mut O,
     steps: &mut Steps<L>,
 ) -> Result<(), Status>
     ensures told { (files : Files) → S.held shelf.old ≡ Some files
         → EndsAs (ReadsFailed (S.honest shelf.old) (S.faults shelf.old) (S.faults shelf.new)) (Rose (O.faults out.old) (O.faults out.new))
-        (play files commands.now (source_of engine.old)) (O.out out.old) (O.out out.new) (part_status result) }
+        (play files (depth_of editor.old) commands.now (versions_of editor.old)) (O.out out.old) (O.out out.new) (part_status result) }
     ensures cause { IsCaused ⊥ (Rose (S.faults shelf.old) (S.faults shelf.new)) (RoseAbove 16777216 (S.taken shelf.old) (S.taken shelf.new))
         (Rose (O.faults out.old) (O.faults out.new)) (part_status result) }
     ensures stops { IfErr result IsStop }
@@ -180,7 +199,7 @@ pub fn play<S: Shelf, O: Sink, L: Ledger>(
     ensures reads { (files : Files) → S.held shelf.old ≡ Some files → OnOk result (Raises (S.taken shelf.old) (S.taken shelf.new) (commands_size files commands.now)) }
 {
     for command in commands {
-        play_command(alloc, command, engine, shelf, out, steps)?;
+        play_command(alloc, command, editor, shelf, out, steps)?;
     }
     Ok(())
 }

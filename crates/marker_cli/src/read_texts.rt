@@ -2,20 +2,21 @@
 
 ghost use Rattle.std.specs.Prelude.{◌≡◌, ℕ, IfErr, IfOk, List, Result};
 ghost use Rattle.std.specs.Str.{chars};
-ghost use Rattle.edit_script.specs.Scripts.{ReadsAsScript};
-ghost use Rattle.edit_script.specs.declared.script_kind.ScriptKind.TheVariants.{Edits};
+ghost use Rattle.edit_script.specs.Faults.{IsFault};
+ghost use Rattle.edit_script.specs.Scripts.{FailsAsScript, IsScript, ReadsAsScript};
 ghost use Rattle.edit_script.specs.declared.command.Command as command;
 ghost use Rattle.node_arena.specs.Document.{HasElementRoot};
 ghost use Rattle.xhtml_reader.specs.Readings.{ReadsAsDocument};
 ghost use Rattle.marker_cli.specs.Dump.{Reading, tree_of};
-ghost use Rattle.marker_cli.specs.Edit.{commands_of};
+ghost use Rattle.marker_cli.specs.Edit.{commands_of, kind_of};
 ghost use Rattle.marker_cli.specs.Ends.{Gives, IsCaused, IsStop, part_status};
 ghost use Rattle.marker_cli.specs.Names.{TellsOfLine};
 
 use crate::status::Status;
 use edit_script::command::Command;
+use edit_script::fault::ScriptFault;
 use edit_script::laws::one_reading;
-use edit_script::read_script;
+use edit_script::{read_history_script, read_script};
 use plain_types::list::List;
 use plain_types::tree::Tree;
 use std::alloc::Global;
@@ -35,14 +36,25 @@ pub fn read_tree(alloc: Global, text: &str) -> Result<Tree, Status>
     Ok(read_document(alloc, text)?)
 }
 
-/// The commands of a script.
-pub fn read_commands(alloc: Global, text: &str) -> Result<List<Command>, Status>
-    ensures commands { (reading : Result (List command.Command) ℕ) → ReadsAsScript Edits (chars text.now) reading → Gives (commands_of reading) result }
+/// The commands of a script of edits, or with a depth those of one with a history.
+fn read_lines(alloc: Global, depth: Option<u32>, text: &str) -> Result<List<Command>, ScriptFault>
+    ensures found { IfOk result (IsScript (kind_of depth) (chars text.now)) }
+    ensures fault { IfErr result (IsFault (FailsAsScript (kind_of depth) (chars text.now))) }
+{
+    match depth {
+        None => read_script(alloc, text),
+        Some(_) => read_history_script(alloc, text),
+    }
+}
+
+/// The commands of a script, which may undo and redo edits where there is a depth.
+pub fn read_commands(alloc: Global, depth: Option<u32>, text: &str) -> Result<List<Command>, Status>
+    ensures commands { (reading : Result (List command.Command) ℕ) → ReadsAsScript (kind_of depth) (chars text.now) reading → Gives (commands_of reading) result }
     ensures cause { IsCaused ⊥ ⊥ ⊥ ⊥ (part_status result) }
     ensures file { ¬ (TellsOfLine (part_status result)) }
     ensures stops { IfErr result IsStop }
 {
     // A text reads in one way: so the outcome is the one that the text has.
     one_reading();
-    Ok(read_script(alloc, text)?)
+    Ok(read_lines(alloc, depth, text)?)
 }

@@ -76,16 +76,18 @@ fn perform<S: Shelf, O: Sink, L: Ledger>(
             steps,
         )),
         Some(
-            Form::Edit {
+            Form::Script {
                 document,
                 sheet,
                 script,
+                depth,
             },
         ) => status_of(edit(
             alloc,
             document.as_str(),
             sheet.as_str(),
             script.as_str(),
+            depth,
             commands,
             shelf,
             out,

@@ -5,6 +5,7 @@ use Rattle.marker_cli.specs.declared.status.FileAt.TheVariants.{Word}
 use Rattle.marker_cli.specs.Edit.{play}
 use Rattle.marker_cli.specs.Ends.{part_status}
 use Rattle.marker_cli.specs.Turns.{text_in}
+use Rattle.marker_cli.specs.Versions.{begun}
 use Rattle.marker_cli.proofs.EndsLemmas.{at_same, at_start, at_text, at_value, caused_more, ends_no_memory, ends_no_text, ends_not_given, ends_part, ends_stopped, reads_after}
 use Rattle.marker_cli.proofs.PlayLemmas.{given_commands}
 use Rattle.std.proofs.lemmas.Result.{on_ok_weaker}
@@ -53,12 +54,12 @@ returns-in_err-commands-clause-told g c files reading read told reads reads_scri
     (c.in_ok-tree.ensures.tree reading (rw c.as_str.ensures.characters (reads c.in_ok-text.text c.in_ok-style.style text style))))
     (c.in_err-commands.ensures.commands read (rw c.as_str-2.ensures.characters (reads_script c.in_ok-text.text c.in_ok-style.style c.in_ok-lines.lines text style lines))))
 
-pub returns-in_err-engine-clause-told : goal.returns-in_err-engine-clause-told
-returns-in_err-engine-clause-told g c files reading read told reads reads_script =
+pub returns-in_err-editor-clause-told : goal.returns-in_err-editor-clause-told
+returns-in_err-editor-clause-told g c files reading read told reads reads_script =
     let text : text_in (Word 1) (files (chars c.args.document.now)) ≡ Ok c.in_ok-text.text = c.in_ok-text.ensures.told files told in
     let style : text_in (Word 2) (files (chars c.args.sheet.now)) ≡ Ok c.in_ok-style.style = c.in_ok-style.ensures.told files (c.in_ok-text.ensures.held ∙ told) in
     let lines : text_in (Word 3) (files (chars c.args.script.now)) ≡ Ok c.in_ok-lines.lines = c.in_ok-lines.ensures.told files (c.in_ok-style.ensures.held ∙ c.in_ok-text.ensures.held ∙ told) in
-    ends_stopped c.from_residual-in_err-engine.result c.from_residual-in_err-engine.ensures
+    ends_stopped c.from_residual-in_err-editor.result c.from_residual-in_err-editor.ensures
     (ends_no_memory (at_value _ (at_value _ (at_text files _ _ _ (at_text files _ _ _ (at_text files _ _ _ (at_start _ _) text) style) lines)
     (c.in_ok-tree.ensures.tree reading (rw c.as_str.ensures.characters (reads c.in_ok-text.text c.in_ok-style.style text style))))
     (c.in_ok-commands.ensures.commands read (rw c.as_str-2.ensures.characters (reads_script c.in_ok-text.text c.in_ok-style.style c.in_ok-lines.lines text style lines)))) refl)
@@ -69,7 +70,8 @@ returns-clause-told g c files reading read told reads reads_script =
     let style : text_in (Word 2) (files (chars c.args.sheet.now)) ≡ Ok c.in_ok-style.style = c.in_ok-style.ensures.told files (c.in_ok-text.ensures.held ∙ told) in
     let lines : text_in (Word 3) (files (chars c.args.script.now)) ≡ Ok c.in_ok-lines.lines = c.in_ok-lines.ensures.told files (c.in_ok-style.ensures.held ∙ c.in_ok-text.ensures.held ∙ told) in
     ends_part _ _
-    (at_same (λ i. play files (sym c.as_slice.ensures.items i) (record { tree = sym c.in_ok-engine.ensures.tree i; sheet = sym (c.in_ok-engine.ensures.sheet ∙ c.as_str-3.ensures.characters) i }))
+    (at_same (λ i. play files (sym c.in_ok-editor.ensures.depth i) (sym c.as_slice.ensures.items i)
+    (sym (c.in_ok-editor.ensures.versions ∙ ap (λ sheet. begun (record { document = c.in_ok-tree.tree; sheet = sheet })) c.as_str-3.ensures.characters) i))
     (at_value _ (at_value _ (at_text files _ _ _ (at_text files _ _ _ (at_text files _ _ _ (at_start _ _) text) style) lines)
     (c.in_ok-tree.ensures.tree reading (rw c.as_str.ensures.characters (reads c.in_ok-text.text c.in_ok-style.style text style))))
     (c.in_ok-commands.ensures.commands read (rw c.as_str-2.ensures.characters (reads_script c.in_ok-text.text c.in_ok-style.style c.in_ok-lines.lines text style lines)))))

@@ -1,17 +1,27 @@
-use Rattle.std.proofs.Common.{◌+◌, ◌∙◌, arith, drop, refl}
+use Rattle.std.proofs.Common.{◌+◌, ◌∙◌, ap, arith, drop, refl, sym}
 use Rattle.ports.proofs.CauseLemmas.{raises_none, rose_after}
-use Rattle.marker_cli.specs.Edit.{play}
+use Rattle.marker_cli.specs.Edit.{action_output, play}
+use Rattle.marker_cli.specs.Editors.{depth_of, versions_of}
 use Rattle.marker_cli.proofs.EndsLemmas.{at_part, at_same, at_start, ends_part, ends_stopped, reads_after}
 use Rattle.marker_cli.proofs.PlayLemmas.{play_next}
 use Rattle.marker_cli.proofs.ReadLemmas.{read_all, read_more}
+use Rattle.marker_cli.proofs.SameLemmas.{play_same}
 use Rattle.marker_cli.proofs.play.play.Goals as goal
 
 pub loop-command-preserved : goal.loop-command-preserved
 loop-command-preserved g c =
     let now = c.loop-command.invariant in
+    let depth = depth_of c.args.editor.now in
     record {
-      told = λ files told. at_part (at_same (play_next files _ _ c.command-item.result _ c.loop-command-test.true c.command-item.is) (now.told files told))
-          (c.in_ok-play_command.ensures.told files (play files (drop (c.loop-command.command-index + 1) c.args.commands.now)) (now.held ∙ told)).on;
+      told = λ files told.
+          let rest = play files depth (drop (c.loop-command.command-index + 1) c.args.commands.now) in
+          at_part
+          (at_same
+          (play_next files depth _ _ c.command-item.result _ c.loop-command-test.true c.command-item.is
+          ∙ ap (λ d. action_output files d c.command-item.result.line c.command-item.result.action (versions_of c.loop-command.editor) rest) (sym now.depth))
+          (now.told files told))
+          (c.in_ok-play_command.ensures.told files rest (play_same files depth (drop (c.loop-command.command-index + 1) c.args.commands.now)) (now.held ∙ told)).on;
+      depth = c.in_ok-play_command.ensures.depth ∙ now.depth;
       held = c.in_ok-play_command.ensures.held ∙ now.held;
       honest = c.in_ok-play_command.ensures.honest ∙ now.honest;
       faults = omega (arith, now.faults, c.in_ok-play_command.ensures.faults);
@@ -24,14 +34,21 @@ loop-command-preserved g c =
 pub returns-in_err-play_command-clause-told : goal.returns-in_err-play_command-clause-told
 returns-in_err-play_command-clause-told g c files told =
     let now = c.loop-command.invariant in
+    let depth = depth_of c.args.editor.now in
+    let rest = play files depth (drop (c.loop-command.command-index + 1) c.args.commands.now) in
     ends_stopped c.from_residual.result c.from_residual.ensures
-    (ends_part _ _ (at_same (play_next files _ _ c.command-item.result _ c.loop-command-test.true c.command-item.is) (now.told files told))
-    (c.in_err-play_command.ensures.told files (play files (drop (c.loop-command.command-index + 1) c.args.commands.now)) (now.held ∙ told)).stops
+    (ends_part _ _
+    (at_same
+    (play_next files depth _ _ c.command-item.result _ c.loop-command-test.true c.command-item.is
+    ∙ ap (λ d. action_output files d c.command-item.result.line c.command-item.result.action (versions_of c.loop-command.editor) rest) (sym now.depth))
+    (now.told files told))
+    (c.in_err-play_command.ensures.told files rest (play_same files depth (drop (c.loop-command.command-index + 1) c.args.commands.now)) (now.held ∙ told)).stops
     (λ failed. reads_after now.honest now.faults failed) (λ rose. rose_after _ _ _ now.put_faults rose))
 
 pub loop-command-init : goal.loop-command-init
 loop-command-init g c = record {
   told = λ files told. at_start _ _;
+  depth = refl;
   held = refl;
   honest = refl;
   faults = omega arith;

@@ -1,8 +1,8 @@
 use Rattle.std.proofs.Common.{◌≡◌, ◌≤◌, drop}
 use Rattle.std.specs.Prelude.{Some}
-use Rattle.marker_engine.specs.Engines.{source_of}
 use Rattle.ports.specs.Files.{Files}
 use Rattle.marker_cli.specs.Edit.{play}
+use Rattle.marker_cli.specs.Editors.{depth_of, versions_of}
 use Rattle.marker_cli.specs.Stands.{IsAt}
 use Rattle.marker_cli.proofs.ReadLemmas.{HaveRead}
 use Rattle.marker_cli.proofs.play.play.Given as goal
@@ -10,7 +10,9 @@ use Rattle.marker_cli.proofs.play.play.Given as goal
 abbrev pub invariant-loop-command : goal.invariant-loop-command
 invariant-loop-command g l = record {
   told : (files : Files) → g.S.Shelf.held l.initial.shelf ≡ Some files
-      → IsAt (play files l.commands (source_of l.initial.engine)) (g.O.Sink.out l.initial.out) (g.O.Sink.out l.out) (play files (drop l.command-index l.commands) (source_of l.engine));
+      → IsAt (play files (depth_of l.initial.editor) l.commands (versions_of l.initial.editor)) (g.O.Sink.out l.initial.out) (g.O.Sink.out l.out)
+      (play files (depth_of l.initial.editor) (drop l.command-index l.commands) (versions_of l.editor));
+  depth : depth_of l.editor ≡ depth_of l.initial.editor;
   held : g.S.Shelf.held l.shelf ≡ g.S.Shelf.held l.initial.shelf;
   honest : g.S.Shelf.honest l.shelf ≡ g.S.Shelf.honest l.initial.shelf;
   faults : g.S.Shelf.faults l.initial.shelf ≤ g.S.Shelf.faults l.shelf;

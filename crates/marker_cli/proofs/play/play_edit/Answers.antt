@@ -1,21 +1,26 @@
 use Rattle.std.proofs.Common.{◌≡◌, refl}
-use Rattle.std.specs.Prelude.{Err}
-use Rattle.marker_engine.specs.Edited.{edited}
-use Rattle.marker_engine.specs.Engines.{source_of}
+use Rattle.std.specs.Prelude.{Some}
+use Rattle.node_arena.specs.Edits.{place_fault}
 use Rattle.node_arena.specs.declared.place_fault.PlaceFault.TheVariants.{NoPlace, IntoItself}
-use Rattle.marker_cli.proofs.PlayLemmas.{edit_untold, goes_stopped, refused_so}
+use Rattle.marker_cli.specs.Editors.{depth_of, versions_of}
+use Rattle.marker_cli.proofs.PlayLemmas.{edit_done, edit_untold, goes_on_so, goes_stopped, refused_so, where_ok}
 use Rattle.marker_cli.proofs.play.play_edit.Goals as goal
 
+pub returns-in-Ok-clause-told : goal.returns-in-Ok-clause-told
+returns-in-Ok-clause-told g c next alike =
+    goes_on_so _ refl
+    (edit_done (depth_of c.args.editor.now) _ c.args.edit.now (versions_of c.args.editor.now) _ next _ alike (where_ok c.apply.result c.in-Ok.is c.apply.ensures.answer.place) (where_ok c.apply.result c.in-Ok.is c.apply.ensures.answer.done))
+
 pub returns-in_err-put_numbered-in-Err-NoPlace-clause-told : goal.returns-in_err-put_numbered-in-Err-NoPlace-clause-told
-returns-in_err-put_numbered-in-Err-NoPlace-clause-told g c next =
-    let is : edited (source_of c.args.engine.now) c.args.edit.now ≡ Err NoPlace =
-    refused_so _ c.apply.result _ NoPlace c.in-Err-NoPlace.is c.in-Err-NoPlace.field-0-is c.apply.ensures.refused c.apply.ensures.memory in
+returns-in_err-put_numbered-in-Err-NoPlace-clause-told g c next alike =
+    let is : place_fault c.args.edit.now (versions_of c.args.editor.now).present.document ≡ Some NoPlace =
+    refused_so _ c.apply.result _ NoPlace c.in-Err-NoPlace.is c.in-Err-NoPlace.field-0-is c.apply.ensures.answer.refused c.apply.ensures.answer.memory in
     goes_stopped c.from_residual.result c.from_residual.ensures
-    (edit_untold _ _ _ next _ is refl c.in_err-put_numbered-in-Err-NoPlace.ensures.cause.failed c.in_err-put_numbered-in-Err-NoPlace.ensures.failed)
+    (edit_untold (depth_of c.args.editor.now) _ c.args.edit.now (versions_of c.args.editor.now) _ next _ is refl c.in_err-put_numbered-in-Err-NoPlace.ensures.cause.failed c.in_err-put_numbered-in-Err-NoPlace.ensures.failed)
 
 pub returns-in_err-put_numbered-in-Err-IntoItself-clause-told : goal.returns-in_err-put_numbered-in-Err-IntoItself-clause-told
-returns-in_err-put_numbered-in-Err-IntoItself-clause-told g c next =
-    let is : edited (source_of c.args.engine.now) c.args.edit.now ≡ Err IntoItself =
-    refused_so _ c.apply.result _ IntoItself c.in-Err-IntoItself.is c.in-Err-IntoItself.field-0-is c.apply.ensures.refused c.apply.ensures.memory in
+returns-in_err-put_numbered-in-Err-IntoItself-clause-told g c next alike =
+    let is : place_fault c.args.edit.now (versions_of c.args.editor.now).present.document ≡ Some IntoItself =
+    refused_so _ c.apply.result _ IntoItself c.in-Err-IntoItself.is c.in-Err-IntoItself.field-0-is c.apply.ensures.answer.refused c.apply.ensures.answer.memory in
     goes_stopped c.from_residual-in_err-put_numbered-in-Err-IntoItself.result c.from_residual-in_err-put_numbered-in-Err-IntoItself.ensures
-    (edit_untold _ _ _ next _ is refl c.in_err-put_numbered-in-Err-IntoItself.ensures.cause.failed c.in_err-put_numbered-in-Err-IntoItself.ensures.failed)
+    (edit_untold (depth_of c.args.editor.now) _ c.args.edit.now (versions_of c.args.editor.now) _ next _ is refl c.in_err-put_numbered-in-Err-IntoItself.ensures.cause.failed c.in_err-put_numbered-in-Err-IntoItself.ensures.failed)

@@ -4,13 +4,13 @@ use Rattle.marker_cli.proofs.ReadLemmas.{on_ok}
 use Rattle.marker_cli.proofs.play.play_sheet.Goals as goal
 
 pub returns-in_err-text-clause-told : goal.returns-in_err-text-clause-told
-returns-in_err-text-clause-told g c files before next told =
+returns-in_err-text-clause-told g c files before next alike told =
     goes_stopped c.from_residual.result c.from_residual.ensures
     (ends_no_text files _ _ _ (at_start _ _) (c.in_err-text.ensures.told files told) (λ failed. failed))
 
 pub returns-clause-told : goal.returns-clause-told
-returns-clause-told g c files before next told =
-    goes_replaced next c.replace_sheet.result (at_text files _ _ _ (at_start _ _) (c.in_ok-text.ensures.told files told))
+returns-clause-told g c files before next alike told =
+    goes_replaced next c.replace_sheet.result alike (at_text files _ _ _ (at_start _ _) (c.in_ok-text.ensures.told files told))
     c.replace_sheet.ensures.ok c.replace_sheet.ensures.cause
 
 pub returns-clause-reads : goal.returns-clause-reads

@@ -16,8 +16,8 @@ use Rattle.marker_cli.proofs.run.perform.Goals as goal
 pub returns-in-Some-Dump-clause-readings : goal.returns-in-Some-Dump-clause-readings
 returns-in-Some-Dump-clause-readings g c files = some_readings c.args.words.now files (read_form_of c.read_form.result) c.read_form.ensures.form
 
-pub returns-in-Some-Edit-clause-readings : goal.returns-in-Some-Edit-clause-readings
-returns-in-Some-Edit-clause-readings g c files = some_readings c.args.words.now files (read_form_of c.read_form.result) c.read_form.ensures.form
+pub returns-in-Some-Script-clause-readings : goal.returns-in-Some-Script-clause-readings
+returns-in-Some-Script-clause-readings g c files = some_readings c.args.words.now files (read_form_of c.read_form.result) c.read_form.ensures.form
 
 pub returns-in-Some-Table-clause-readings : goal.returns-in-Some-Table-clause-readings
 returns-in-Some-Table-clause-readings g c files = some_readings c.args.words.now files (read_form_of c.read_form.result) c.read_form.ensures.form
@@ -60,47 +60,47 @@ returns-in-Some-Dump-clause-reads g c files readings told reads ok =
 pub returns-in-Some-Dump-clause-commands : goal.returns-in-Some-Dump-clause-commands
 returns-in-Some-Dump-clause-commands g c files readings told reads tells = absurd (c.dump.ensures.file (subst TellsOfLine c.status_of.ensures tells))
 
-pub returns-in-Some-Edit-clause-told : goal.returns-in-Some-Edit-clause-told
-returns-in-Some-Edit-clause-told g c files readings told reads =
-    let is : IsForm c.args.words.now (edit c.in-Some-Edit.document.now c.in-Some-Edit.sheet.now c.in-Some-Edit.script.now) = rw c.in-Some-Edit.field-0-is at c.in-Some-Edit.ensures.form in
-    let document = c.as_str-in-Some-Edit.ensures.characters in
-    let sheet = c.as_str-in-Some-Edit-2.ensures.characters in
-    let script = c.as_str-in-Some-Edit-3.ensures.characters in
+pub returns-in-Some-Script-clause-told : goal.returns-in-Some-Script-clause-told
+returns-in-Some-Script-clause-told g c files readings told reads =
+    let is : IsForm c.args.words.now (edit c.in-Some-Script.document.now c.in-Some-Script.sheet.now c.in-Some-Script.script.now c.in-Some-Script.depth) = rw c.in-Some-Script.field-0-is at c.in-Some-Script.ensures.form in
+    let document = c.as_str-in-Some-Script.ensures.characters in
+    let sheet = c.as_str-in-Some-Script-2.ensures.characters in
+    let script = c.as_str-in-Some-Script-3.ensures.characters in
     let texts = texts_of c.args.words.now files readings _ is reads in
-    ends_same ((λ i. edit_output files (document i) (sheet i) (script i) readings.document readings.script) ∙ output_of c.args.words.now files readings _ is reads.form)
-    c.status_of-in-Some-Edit.ensures
+    ends_same ((λ i. edit_output files (document i) (sheet i) (script i) c.in-Some-Script.depth readings.document readings.script) ∙ output_of c.args.words.now files readings _ is reads.form)
+    c.status_of-in-Some-Script.ensures
     (c.edit.ensures.told files readings.document readings.script told (rw (document, sheet) texts.0) (rw (document, sheet, script) texts.1))
 
-pub returns-in-Some-Edit-clause-commands : goal.returns-in-Some-Edit-clause-commands
-returns-in-Some-Edit-clause-commands g c files readings told reads tells =
-    let is : IsForm c.args.words.now (edit c.in-Some-Edit.document.now c.in-Some-Edit.sheet.now c.in-Some-Edit.script.now) = rw c.in-Some-Edit.field-0-is at c.in-Some-Edit.ensures.form in
-    let document = c.as_str-in-Some-Edit.ensures.characters in
-    let sheet = c.as_str-in-Some-Edit-2.ensures.characters in
-    let script = c.as_str-in-Some-Edit-3.ensures.characters in
+pub returns-in-Some-Script-clause-commands : goal.returns-in-Some-Script-clause-commands
+returns-in-Some-Script-clause-commands g c files readings told reads tells =
+    let is : IsForm c.args.words.now (edit c.in-Some-Script.document.now c.in-Some-Script.sheet.now c.in-Some-Script.script.now c.in-Some-Script.depth) = rw c.in-Some-Script.field-0-is at c.in-Some-Script.ensures.form in
+    let document = c.as_str-in-Some-Script.ensures.characters in
+    let sheet = c.as_str-in-Some-Script-2.ensures.characters in
+    let script = c.as_str-in-Some-Script-3.ensures.characters in
     let texts = texts_of c.args.words.now files readings _ is reads in
-    c.edit.ensures.commands files readings.script told (rw (document, sheet, script) texts.1) (subst TellsOfLine c.status_of-in-Some-Edit.ensures tells)
+    c.edit.ensures.commands files readings.script told (rw (document, sheet, script) texts.1) (subst TellsOfLine c.status_of-in-Some-Script.ensures tells)
 
-pub returns-in-Some-Edit-clause-reads : goal.returns-in-Some-Edit-clause-reads
-returns-in-Some-Edit-clause-reads g c files readings told reads ok =
-    let is : IsForm c.args.words.now (edit c.in-Some-Edit.document.now c.in-Some-Edit.sheet.now c.in-Some-Edit.script.now) = rw c.in-Some-Edit.field-0-is at c.in-Some-Edit.ensures.form in
-    let document = c.as_str-in-Some-Edit.ensures.characters in
-    let sheet = c.as_str-in-Some-Edit-2.ensures.characters in
-    let script = c.as_str-in-Some-Edit-3.ensures.characters in
+pub returns-in-Some-Script-clause-reads : goal.returns-in-Some-Script-clause-reads
+returns-in-Some-Script-clause-reads g c files readings told reads ok =
+    let is : IsForm c.args.words.now (edit c.in-Some-Script.document.now c.in-Some-Script.sheet.now c.in-Some-Script.script.now c.in-Some-Script.depth) = rw c.in-Some-Script.field-0-is at c.in-Some-Script.ensures.form in
+    let document = c.as_str-in-Some-Script.ensures.characters in
+    let sheet = c.as_str-in-Some-Script-2.ensures.characters in
+    let script = c.as_str-in-Some-Script-3.ensures.characters in
     let texts = texts_of c.args.words.now files readings _ is reads in
     raised_as
     (sym ((λ i. size_of files (document i) + (size_of files (sheet i) + (size_of files (script i) + commands_size files (commands_in readings.script))))
     ∙ size_same c.args.words.now files readings _ is reads.form))
-    (of_ok c.edit.result c.edit.ensures.stops c.status_of-in-Some-Edit.ensures ok (c.edit.ensures.reads files readings.script told (rw (document, sheet, script) texts.1)))
+    (of_ok c.edit.result c.edit.ensures.stops c.status_of-in-Some-Script.ensures ok (c.edit.ensures.reads files readings.script told (rw (document, sheet, script) texts.1)))
 
-pub returns-in-Some-Edit-clause-no_steps : goal.returns-in-Some-Edit-clause-no_steps
-returns-in-Some-Edit-clause-no_steps g c (inl none) = absurd (none _ (rw (c.in-Some-Edit.field-0-is) at c.in-Some-Edit.ensures.form))
-returns-in-Some-Edit-clause-no_steps g c (inr other) =
-    let is : IsForm c.args.words.now (edit c.in-Some-Edit.document.now c.in-Some-Edit.sheet.now c.in-Some-Edit.script.now) = rw c.in-Some-Edit.field-0-is at c.in-Some-Edit.ensures.form in
+pub returns-in-Some-Script-clause-no_steps : goal.returns-in-Some-Script-clause-no_steps
+returns-in-Some-Script-clause-no_steps g c (inl none) = absurd (none _ (rw (c.in-Some-Script.field-0-is) at c.in-Some-Script.ensures.form))
+returns-in-Some-Script-clause-no_steps g c (inr other) =
+    let is : IsForm c.args.words.now (edit c.in-Some-Script.document.now c.in-Some-Script.sheet.now c.in-Some-Script.script.now c.in-Some-Script.depth) = rw c.in-Some-Script.field-0-is at c.in-Some-Script.ensures.form in
     not_both c.args.words.now _ (table other.0 other.1 other.2 other.3) is other.4 (λ e. cc e)
 
-pub returns-in-Some-Edit-clause-steps : goal.returns-in-Some-Edit-clause-steps
-returns-in-Some-Edit-clause-steps g c files readings told reads first second other =
-    let is : IsForm c.args.words.now (edit c.in-Some-Edit.document.now c.in-Some-Edit.sheet.now c.in-Some-Edit.script.now) = rw c.in-Some-Edit.field-0-is at c.in-Some-Edit.ensures.form in
+pub returns-in-Some-Script-clause-steps : goal.returns-in-Some-Script-clause-steps
+returns-in-Some-Script-clause-steps g c files readings told reads first second other =
+    let is : IsForm c.args.words.now (edit c.in-Some-Script.document.now c.in-Some-Script.sheet.now c.in-Some-Script.script.now c.in-Some-Script.depth) = rw c.in-Some-Script.field-0-is at c.in-Some-Script.ensures.form in
     not_both c.args.words.now _ (dump first second) is other (λ e. cc e)
 
 pub returns-in-Some-Table-clause-told : goal.returns-in-Some-Table-clause-told
