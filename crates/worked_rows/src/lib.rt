@@ -5,6 +5,7 @@
 //! | `tests` | runs of `marker_cli::run` that end with a fault; and `comes_out`, by which each row of a run is tried |
 //! | `dumps` | runs of `dump DOC SHEET`, and prefixes of sheets and deep documents |
 //! | `scripts` | runs of `edit DOC SHEET SCRIPT` and of `gen SEED COUNT` |
+//! | `histories` | runs of `history DOC SHEET SCRIPT DEPTH` |
 //! | `style_elements`, `style_attributes` | runs of both over documents that have these |
 //! | `tables` | runs of `table SHEET STYLE FROM TO`, with the author's styles |
 //! | `predefined` | the same with the predefined styles, at the ends of their ranges |
@@ -16,6 +17,8 @@
 
 #[cfg(test)]
 mod dumps;
+#[cfg(test)]
+mod histories;
 #[cfg(test)]
 mod predefined;
 #[cfg(test)]

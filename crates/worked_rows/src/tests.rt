@@ -10,7 +10,7 @@ use std::sync::ledger::Blank;
 use std::test::Fail;
 
 const USAGE: &str =
-    "marker: usage: dump DOC SHEET | edit DOC SHEET SCRIPT | table SHEET STYLE FROM TO | gen SEED COUNT\n";
+    "marker: usage: dump DOC SHEET | edit DOC SHEET SCRIPT | table SHEET STYLE FROM TO | gen SEED COUNT | history DOC SHEET SCRIPT DEPTH\n";
 
 /// Whether the row comes out as it is to.
 pub fn comes_out(rt: &HostRuntime, row: &Row<'_>) -> Result<bool, Memory> {
@@ -57,6 +57,25 @@ fn bad_words(rt: HostRuntime) -> Result<(), Fail> {
         ended(&["gen", "1", "100001"], USAGE, 2),
         ended(&["gen", "2147483648", "1"], USAGE, 2),
         ended(&["gen", "+1", "1"], USAGE, 2),
+        // as many edits as 1 to 1000 can be undone
+        ended(&["history", "d.xhtml", "s.css", "t.txt"], USAGE, 2),
+        ended(&["history", "d.xhtml", "s.css", "t.txt", "0"], USAGE, 2),
+        ended(&["history", "d.xhtml", "s.css", "t.txt", "1001"], USAGE, 2),
+        ended(&["history", "d.xhtml", "s.css", "t.txt", "01"], USAGE, 2),
+        ended(&["history", "d.xhtml", "s.css", "t.txt", "+1"], USAGE, 2),
+        ended(&["history", "d.xhtml", "s.css", "t.txt", ""], USAGE, 2),
+        ended(
+            &[
+                "history",
+                "d.xhtml",
+                "s.css",
+                "t.txt",
+                "18446744073709551617",
+            ],
+            USAGE,
+            2,
+        ),
+        ended(&["edit", "d.xhtml", "s.css", "t.txt", "1"], USAGE, 2),
     ]
     .iter()
     .enumerate()
