@@ -3,6 +3,7 @@
     sh              a call `./marker WORDS`, as it is written at the top of the repository
     xml, css        a document, and a sheet for it (an empty one where there is none); they hold until the next ones
     script          edits of them
+    history DEPTH   edits of them, which may be undone
 
 and then the block `dump`, with what is printed. Each row of the tables that `TABLES` names makes one too, and the table
 of statuses says which form the line of each status has.
@@ -13,7 +14,7 @@ import shlex
 
 from rows import Case
 
-BLOCK = re.compile(r"^```(\w+)\n(.*?)^```$", re.MULTILINE | re.DOTALL)
+BLOCK = re.compile(r"^```(\w+(?: \d+)?)\n(.*?)^```$", re.MULTILINE | re.DOTALL)
 LIST = "<ol><li>a</li><li>b</li></ol>"
 
 
@@ -29,7 +30,7 @@ def examples_of(page, text):
         if kind == "dump":
             name = f"{page}, line {text.count(chr(10), 0, block.start()) + 1}"
             found.append(example_of(name, parts, body, f"{page}-{len(found)}"))
-            parts.pop("script", None)
+            parts = {kind: body for kind, body in parts.items() if kind in ("sh", "xml", "css")}
         elif kind in ("xml", "sh"):
             parts = {kind: body}
         else:
@@ -48,6 +49,10 @@ def example_of(name, parts, output, stem):
     if "script" in parts:
         files[f"{stem}.txt"] = parts["script"]
         words = ["edit", *files]
+    for kind in parts:
+        if kind.startswith("history "):
+            files[f"{stem}.txt"] = parts[kind]
+            words = ["history", *files, kind.removeprefix("history ")]
     return Case(name, words, output=output, files=files)
 
 
@@ -149,4 +154,4 @@ def form_of_line(cell):
         return re.compile("")
     form = re.sub("NAME", ".+", re.escape(code(cell)))
     form = re.sub("LINE|COLUMN|NUMBER|OFFSET", "[0-9]+", form)
-    return re.compile(form + (".+\n" if cell.endswith("and the four forms") else "\n"))
+    return re.compile(form + (".+\n" if cell.endswith("and the five forms") else "\n"))

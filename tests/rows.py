@@ -8,7 +8,7 @@ from collections import namedtuple
 # output and the standard error that are wanted.
 Case = namedtuple("Case", "name words status output line files", defaults=(0, "", "", {}))
 
-USAGE = "marker: usage: dump DOC SHEET | edit DOC SHEET SCRIPT | table SHEET STYLE FROM TO | gen SEED COUNT\n"
+USAGE = "marker: usage: dump DOC SHEET | edit DOC SHEET SCRIPT | table SHEET STYLE FROM TO | gen SEED COUNT | history DOC SHEET SCRIPT DEPTH\n"
 LIST = '/0 marker "1. "\n/1 marker "2. "\n'
 FILES = {
     "empty.css": "",
@@ -20,6 +20,7 @@ FILES = {
     "plain.txt": "remove /0/1\nshow\n",
     "missing.txt": "show\nremove /9\nsheet none.css\nshow\n",
     "bad.txt": "show\n\nremove 0\n",
+    "undo.txt": "remove /0\nundo\nshow\nundo\n",
 }
 FIGURES = '/1/1 after " (Fig. 2)"\n/3/0 before "Fig. 1: "\n/5/0 before "Fig. 2: "\n'
 ARTICLE = """\
@@ -85,6 +86,9 @@ def small(here):
         ("a sheet that is not UTF-8", "dump list.xhtml bytes.css", 5, "", "marker: bytes.css: not UTF-8 at 0\n"),
         ("a run that is made up", "gen 1 2", 0, gen, ""),
         ("no file of a line", "edit list.xhtml empty.css missing.txt", 3, told, "marker: none.css: read failed\n"),
+        ("an edit that is undone", "history list.xhtml empty.css undo.txt 1", 0, f"show 3\n{LIST}end\nrefused 4 nothing\n", ""),
+        ("no depth", "history list.xhtml empty.css undo.txt 0", 2, "", USAGE),
+        ("no history", "edit list.xhtml empty.css undo.txt", 7, "", "marker: undo.txt:2: bad line\n"),
         ("a script that is none", "edit list.xhtml empty.css bad.txt", 7, "", "marker: bad.txt:3: bad line\n"),
         ("a table", "table empty.css lower-roman 3 4", 0, '3 "iii"\n4 "iv"\n', ""),
         ("the example of years", "table examples/styles.css year -1 1", 0, '-1 "1 BCE"\n0 "—"\n1 "1"\n', ""),
