@@ -4,7 +4,8 @@
 # the number of edits; and how many times as long an edit takes as at the size before. Under a plain sheet no link is a
 # reference, so that an edit is evaluated from its place; in another plain one selectors look at siblings, so that an
 # edit reaches the list that it changes and what is beside that. With two programs, also how many times as long the
-# second takes as the first, so that a change can be compared with what was before.
+# second takes as the first, so that a change can be compared with what was before. Under the plain sheet also the mean time
+# of an undo or a redo, by `marker history`, and how many times as long it takes as an edit in the same history.
 #   bench/edits.sh [--plain] [PROGRAM [OTHER]] [ELEMENTS..]      the repository's program where none is named
 set -eu
 here=$(cd "$(dirname "$0")/.." && pwd)
@@ -93,6 +94,20 @@ def measure(kind, size, before):
     return taken
 
 
+def measure_undo(size):
+    """Says what an undo or a redo takes at this size, beside an edit in the same history: 10,000 edits are done, and then
+    the last 1,000 are undone and redone five times over."""
+    count, depth = 10_000, 1_000
+    script = edits(size, count).removesuffix("show\n")
+    put("edits.txt", script + "show\n")
+    put("undone.txt", script + ("undo\n" * depth + "redo\n" * depth) * 5 + "show\n")
+    program = (programs[0], "history", "document.xhtml", "sheet.css")
+    none, done, undone = (seconds(*program, name, str(depth)) for name in ("none.txt", "edits.txt", "undone.txt"))
+    an_edit, a_step = (max(taken, 0.001) / count for taken in (done - none, undone - done))
+    line = f"plain, {size} elements, with a history: {an_edit * 1e6:.0f} µs an edit"
+    print(f"{line}, {a_step * 1e6:.0f} µs an undo or a redo, {a_step / an_edit:.2f} times as long", flush=True)
+
+
 put("none.txt", "show\n")
 before = {}
 for size in sizes:
@@ -100,4 +115,6 @@ for size in sizes:
     for kind, sheet in SHEETS.items():
         put("sheet.css", sheet)
         before[kind] = measure(kind, size, before.get(kind))
+    put("sheet.css", PLAIN)
+    measure_undo(size)
 PY
