@@ -1,0 +1,8 @@
+use Rattle.std.proofs.Common.{rules, tests}
+use Rattle.std.proofs.lemmas.Iterator.{YieldsList-from_slice, YieldsList-from_zip, same_from_all}
+use Rattle.box_pieces.proofs.same_pieces.are_same.Goals as goal
+
+pub returns-then-pieces-others : goal.returns-then-pieces-others
+returns-then-pieces-others c = record {
+  test = same_from_all c.all.new.self _ _ _ _ c.all.ensures.ran (YieldsList-from_zip (YieldsList-from_slice c.args.pieces.now cc) (YieldsList-from_slice c.args.others.now cc)) (search rules) (λ x q k. search (rules, tests)) (λ x q k. search (rules, tests));
+}
