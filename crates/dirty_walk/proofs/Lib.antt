@@ -16,6 +16,7 @@ pub mod PlaceLemmas
 pub mod PlainLemmas
 pub mod PlanLemmas
 pub mod RecordLemmas
+pub mod ReferenceLemmas
 pub mod RenewalLemmas
 pub mod SaidLemmas
 pub mod SettlingLemmas

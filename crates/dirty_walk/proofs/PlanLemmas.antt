@@ -20,10 +20,11 @@ use Rattle.dirty_walk.specs.declared.document_styles.DocumentStyles.{DocumentSty
 use Rattle.dirty_walk.specs.DocumentStyles.{document_styles, read_styles}
 use Rattle.snapshot_board.specs.Records.{Records}
 use Rattle.target_index.specs.declared.index.Index.{Index}
-use Rattle.target_index.specs.Holders.{is_holder}
+use Rattle.target_index.specs.Holders.{is_holder, is_reference}
 use Rattle.referring_elements.specs.Indexes.{IsIndexOf, holds_id}
 use Rattle.dirty_walk.specs.Plain.{is_plain}
 use Rattle.dirty_walk.specs.Books.{StyledDocument, fresh_kept, HasRoomFor, IsBook, KeepsAll, UsesItsKeys}
+use Rattle.dirty_walk.proofs.ReferenceLemmas.{refers_where}
 
 -- the value behind a reference that may be there, or else behind another
 pub now-unwrap_or : {A : Type 0} (given : Option (Bor A)) (other : Bor A) → (unwrap_or given other).now ≡ unwrap_or (option_copied given) other.now
@@ -105,15 +106,17 @@ room_where tree other room more same grown has key named =
 pub same_document : (old new : Document) (agent : Sheet) (styles : DocumentStyles) (planned : Option Reversal) (board other : Records Kept) (index changed : Index) (plain : Bool)
     → is_none planned ≡ true → new.tree ≡ old.tree → (IsSettled old → IsSettled new)
     → other.held ≡ board.held → board.room ≤ other.room → ((id : List ℕ) (key : ℕ) → is_holder changed id key ≡ is_holder index id key)
+    → ((id : List ℕ) (key : ℕ) → is_reference changed id key ≡ is_reference index id key)
     → IsBook old agent styles board index plain planned (stands old.tree styles.sheet planned board.held)
     → IsBook new agent styles other changed plain planned (stands new.tree styles.sheet planned other.held)
-same_document old new agent styles (Some reversal) board other index changed plain none same still held grown answers book = cc
-same_document old new agent styles None board other index changed plain none same still held grown answers book = record {
+same_document old new agent styles (Some reversal) board other index changed plain none same still held grown answers references book = cc
+same_document old new agent styles None board other index changed plain none same still held grown answers references book = record {
   agent_is = book.agent_is;
   styles_are = book.styles_are ∙ ap (λ (tree : Forest (Keyed Node)). document_styles styles.sheet tree) (sym same);
   kept = λ settled. kept_where old.tree new.tree styles.sheet styles.sheet board.held other.held true true same refl held (book.kept settled);
   room = room_where old.tree new.tree board.room other.room same grown book.room;
   indexed = index_where old.tree new.tree index changed same answers book.indexed;
+  refers = refers_where old.tree new.tree styles.sheet index changed same references book.refers;
   plain_is = plain_where old.tree new.tree styles.sheet plain same book.plain_is;
   back = tt;
   keys = still book.keys;

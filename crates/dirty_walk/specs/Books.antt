@@ -21,8 +21,8 @@ use Rattle.target_index.specs.declared.index.Index.{Index}
 use Rattle.dirty_walk.specs.declared.document_styles.DocumentStyles.{DocumentStyles}
 use Rattle.dirty_walk.specs.declared.kept.Kept.{Kept}
 use Rattle.dirty_walk.specs.DocumentStyles.{document_styles}
-use Rattle.dirty_walk.specs.Evaluations.{document_kept}
-use Rattle.referring_elements.specs.Indexes.{IsIndexOf}
+use Rattle.dirty_walk.specs.Evaluations.{document_kept, evaluated_document}
+use Rattle.referring_elements.specs.Indexes.{IsIndexOf, TellsReferences}
 use Rattle.dirty_walk.specs.Plain.{is_plain}
 
 -- a document whose nodes have keys, the text of its style sheet, whether they are settled, which is that no edit is
@@ -72,8 +72,8 @@ abbrev pub HasRoomFor : ℕ → Forest (Keyed Node) → Type 0
 HasRoomFor room document = (key : ℕ) → IsSome (name_of document key) → key < room
 
 -- A book stands for its arena's tree, its sheet's text, what its board holds, and whether no edit is planned. It has the
--- user agent's sheet, that document's styles and the index of its ids, room for what is kept of its elements, and knows
--- whether they rest on more than what they are handed. A settled one keeps what a fresh evaluation does, and uses the keys of
+-- user agent's sheet, that document's styles and the index of its ids and references, room for what is kept of its elements,
+-- and knows whether they rest on more than what they are handed. A settled one keeps what a fresh evaluation does, and uses the keys of
 -- its nodes alone; an edit that is planned can be taken back.
 pub record IsBook (arena : Document) (agent : Sheet) (styles : DocumentStyles) (board : Records Kept) (index : Index) (plain : Bool) (planned : Option Reversal) (styled : StyledDocument) : Type 0 where
   pub agent_is : agent ≡ agent_sheet
@@ -81,6 +81,7 @@ pub record IsBook (arena : Document) (agent : Sheet) (styles : DocumentStyles) (
   pub kept : styled.settled ≡ true → KeepsAll styled
   pub room : HasRoomFor board.room styled.tree
   pub indexed : IsIndexOf index styled.tree
+  pub refers : TellsReferences index (evaluated_document (author_sheet styled.sheet styled.tree) styled.tree)
   pub plain_is : plain ≡ is_plain (author_sheet styled.sheet styled.tree) styled.tree
   pub back : IfSome planned (λ reversal. IsReversal arena reversal)
   pub keys : UsesItsKeys arena planned

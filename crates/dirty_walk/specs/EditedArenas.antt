@@ -7,7 +7,8 @@ use Rattle.dirty_walk.specs.declared.document_styles.DocumentStyles.{DocumentSty
 use Rattle.dirty_walk.specs.declared.edited_arena.EditedArena.{EditedArena}
 use Rattle.dirty_walk.specs.declared.kept.Kept.{Kept}
 use Rattle.dirty_walk.specs.DocumentStyles.{document_styles}
-use Rattle.dirty_walk.specs.Evaluations.{document_kept}
+use Rattle.dirty_walk.specs.Evaluations.{document_kept, evaluated_document}
+use Rattle.reference_reach.specs.ChangedTargets.{Evaluated}
 use Rattle.dirty_walk.specs.Plain.{is_plain}
 
 module _ (document : EditedArena) where
@@ -24,6 +25,10 @@ module _ (document : EditedArena) where
   -- what a fresh evaluation keeps of the elements
   abbrev pub kept_after : List (ℕ × Kept)
   kept_after = document_kept author_after document.arena.now.tree
+
+  -- and what it says of them
+  abbrev pub evaluated_after : Evaluated
+  evaluated_after = evaluated_document author_after document.arena.now.tree
 
   -- none of them rests on more than what it is handed
   abbrev pub is_plain_after : Bool

@@ -10,12 +10,14 @@ use Rattle.plain_types.specs.declared.style.Style.{Style}
 use Rattle.content_eval.specs.Targets.{Known}
 use Rattle.box_eval.specs.declared.element_record.ElementRecord.{ElementRecord}
 use Rattle.box_eval.specs.Starts.{started}
+use Rattle.box_pieces.specs.BoxPieces.{referring_pieces}
 use Rattle.generated_texts.specs.Documents.{counter_styles, document_style}
 use Rattle.generated_texts.specs.Entries.{node_entry}
 use Rattle.generated_texts.specs.References.{known_targets}
 use Rattle.merged_walk.specs.Evaluators.{told_all}
 use Rattle.surroundings.specs.declared.told.Told.{Told}
 use Rattle.surroundings.specs.StyledEvaluators.{root_surroundings, styled_evaluator}
+use Rattle.reference_reach.specs.ChangedTargets.{Evaluated}
 use Rattle.dirty_walk.specs.declared.kept.Kept.{Kept}
 
 -- what the evaluation tells of a document's elements, under their keys
@@ -29,10 +31,14 @@ document_told author document = told_of (counter_styles author) (document_style 
 abbrev pub said_of : List (ℕ × Told) → List (ℕ × ElementRecord)
 said_of told = map (λ (element : ℕ × Told). (element.0, element.1.said)) told
 
+-- a document, with what a fresh evaluation under the author's sheet says of its elements
+abbrev pub evaluated_document : Sheet → Forest (Keyed Node) → Evaluated
+evaluated_document author document = record { tree = document; said = said_of (document_told author document) }
+
 module _ (table : List CounterStyle) (known : Known) where
   -- what is kept of an element of which this is told
   abbrev pub kept_of : Told → Kept
-  kept_of told = record { entry = node_entry table known told.said; walked = told.walked }
+  kept_of told = record { entry = node_entry table known told.said; walked = told.walked; pieces = referring_pieces told.said }
 
   abbrev pub all_kept_of : List (ℕ × Told) → List (ℕ × Kept)
   all_kept_of told = map (λ (element : ℕ × Told). (element.0, kept_of element.1)) told

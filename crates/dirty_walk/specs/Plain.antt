@@ -1,29 +1,14 @@
 -- Documents whose elements are told by what they are handed alone (our own): no box asks for the start of a reversed
 -- counter, and none holds a reference to an id.
-use Rattle.std.specs.Prelude.{ℕ, Bool, false, ◌||◌, List, Option, is_some, not}
+use Rattle.std.specs.Prelude.{ℕ, Bool, ◌||◌, List, not}
 use Rattle.std.specs.List.{list_any}
-use Rattle.std.specs.Option.{option_map_or}
 use Rattle.forest.specs.Forest.{Forest}
 use Rattle.forest.specs.Keys.{Keyed}
 use Rattle.plain_types.specs.declared.node.Node.{Node}
 use Rattle.plain_types.specs.declared.sheet.Sheet.{Sheet}
-use Rattle.content_eval.specs.Targets.{reference}
-use Rattle.content_eval.specs.declared.generated.Piece.{Piece}
-use Rattle.box_eval.specs.declared.element_record.ElementRecord.{ElementRecord}
-use Rattle.box_eval.specs.declared.made.Made.{Made}
+use Rattle.box_pieces.specs.BoxPieces.{refers}
 use Rattle.surroundings.specs.declared.told.Told.{Told}
 use Rattle.dirty_walk.specs.Evaluations.{document_told}
-
--- some piece refers to an id, whether an element has it or not
-abbrev pub some_refers : List Piece → Bool
-some_refers pieces = list_any (λ piece. is_some (reference piece)) pieces
-
-abbrev pub refers_in : Option Made → Bool
-refers_in made = option_map_or (λ (box : Made). some_refers box.pieces) made false
-
--- a box of an element refers to one
-abbrev pub refers : ElementRecord → Bool
-refers element = refers_in element.marker || (refers_in element.before || refers_in element.after)
 
 -- an element rests on more than what it is handed
 abbrev pub rests_on_others : Told → Bool

@@ -25,8 +25,7 @@ use crate::board::{put_changes, take_entries};
 use crate::document_styles::DocumentStyles;
 use crate::edited_arena::EditedArena;
 use crate::exchange::{ElementId, inserts_one_tree, leaving_elements, taken_keys};
-use crate::fresh::{agent_sheet, fresh_board};
-use crate::index::index_of;
+use crate::fresh::{Fresh, agent_sheet, fresh_board};
 use crate::kept::Kept;
 use crate::local_stops::LocalStops;
 use crate::places::stops_at_place;
@@ -62,6 +61,7 @@ pub struct Book {
     styles: DocumentStyles,
     /// What is kept of the elements. While an edit is planned it is what was kept before.
     board: Board<Kept>,
+    /// The index of the ids and the references of its elements.
     index: Index,
     /// Whether no element of the document rests on more than what it is handed: no box asks for the start of a reversed
     /// counter, and none holds a reference to an id.
@@ -102,6 +102,14 @@ fn replace_styles(styles: &mut DocumentStyles, new: Option<DocumentStyles>)
     }
 }
 
+fn replace_index(index: &mut Index, new: Option<Index>)
+    ensures { index.new ≡ unwrap_or new index.old }
+{
+    if let Some(new) = new {
+        *index = new;
+    }
+}
+
 /// What is read of a document before an edit of it is done.
 #[derive(Drop)]
 struct Ahead {
@@ -135,9 +143,12 @@ impl Book {
         let arena = Arena::from_tree(alloc, document)?;
         let styles = first_styles(alloc, &arena, sheet)?;
         let agent = agent_sheet(alloc)?;
-        let index = index_of(alloc, &arena)?;
         arena_holds_document(&arena);
-        let (board, is_plain) = fresh_board(alloc, &arena, &agent, &styles, &index, steps)?;
+        let Fresh {
+            kept: board,
+            index,
+            is_plain,
+        } = fresh_board(alloc, &arena, &agent, &styles, steps)?;
         Ok(Book {
             arena,
             agent,
@@ -221,10 +232,12 @@ impl Book {
             Ok(made) => {
                 let Renewal {
                     styles,
+                    index,
                     changes,
                     is_plain,
                 } = made;
                 replace_styles(&mut self.styles, styles);
+                replace_index(&mut self.index, index);
                 self.is_plain = is_plain;
                 self.planned = Some(reversal);
                 Ok(Plan {

@@ -8,7 +8,7 @@ ghost use Rattle.node_arena.specs.Changes.{alone};
 ghost use Rattle.node_arena.specs.Nodes.{attr_of};
 ghost use Rattle.edit_merge.specs.Laws.{InsertsOneTree};
 ghost use Rattle.target_index.specs.Changes.{AreReserved, holds_after_all};
-ghost use Rattle.target_index.specs.Holders.{is_holder};
+ghost use Rattle.target_index.specs.Holders.{is_holder, is_reference};
 ghost use Rattle.dirty_walk.specs.Exchanges.{coming, element_of, elements_in, exchanges, first_node, held, leaving, taken_keys, unheld};
 
 use node_arena::arena::Arena;
@@ -248,6 +248,7 @@ fn exchange(
     ensures back { IfOk result (λ back. back ≡ exchanges coming.now leaving.now) }
     ensures reserved { IfOk result (λ back. AreReserved index.new back) }
     ensures err { OnErr result ((id : List ℕ) (key : ℕ) → is_holder index.new id key ≡ is_holder index.old id key) }
+    ensures references { (id : List ℕ) (key : ℕ) → is_reference index.new id key ≡ is_reference index.old id key }
 {
     let mut changes = List::new(alloc);
     put_exchange(alloc, leaving, coming, &mut changes)?;
@@ -277,6 +278,7 @@ pub(crate) fn exchange_ids(
     ensures back { IfOk result (λ back. back ≡ exchanges (elements_in (coming edit.now arena.now.tree)) leaving.now) }
     ensures reserved { IfOk result (λ back. AreReserved index.new back) }
     ensures err { OnErr result ((id : List ℕ) (key : ℕ) → is_holder index.new id key ≡ is_holder index.old id key) }
+    ensures references { (id : List ℕ) (key : ℕ) → is_reference index.new id key ≡ is_reference index.old id key }
 {
     let coming = coming_elements(alloc, arena, edit)?;
     exchange(alloc, index, leaving, coming.as_slice())

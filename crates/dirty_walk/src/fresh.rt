@@ -8,13 +8,14 @@ ghost use Rattle.document_walk.specs.Elements.{element_count};
 ghost use Rattle.dirty_walk.specs.Books.{HasRoomFor, KeepsAll};
 ghost use Rattle.dirty_walk.specs.Changes.{AreBelow, Renews};
 ghost use Rattle.dirty_walk.specs.DocumentStyles.{document_styles};
-ghost use Rattle.dirty_walk.specs.Evaluations.{document_kept, document_told};
-ghost use Rattle.referring_elements.specs.Indexes.{IsIndexOf};
+ghost use Rattle.dirty_walk.specs.Evaluations.{document_kept, document_told, evaluated_document};
+ghost use Rattle.referring_elements.specs.Indexes.{IsIndexOf, TellsReferences};
 ghost use Rattle.dirty_walk.specs.Plain.{is_plain};
 
 use crate::board::room_for;
 use crate::document_styles::DocumentStyles;
 use crate::evaluation::{document_changes, document_told, put_document_entries};
+use crate::index::index_with;
 use crate::kept::Kept;
 use crate::plain::are_plain;
 use crate::styled_arena::StyledArena;
@@ -61,22 +62,34 @@ fn told_of<L: Ledger>(
     )
 }
 
-/// A board with what is kept of a document's elements, and whether none of them rests on more than what it is handed. One walk evaluates it, and where a box creates a reversed
-/// counter without a number a second one, with the starts that the first one tells. Then it is a step for each element.
+/// What a fresh evaluation of a document makes.
+#[derive(Drop)]
+pub(crate) struct Fresh<K> {
+    /// What is kept of its elements.
+    pub(crate) kept: K,
+    /// The index of their ids and references.
+    pub(crate) index: Index,
+    /// Whether none of them rests on more than what it is handed.
+    pub(crate) is_plain: bool,
+}
+
+/// A board with what is kept of a document's elements, and the index. One walk evaluates the document, and where a box
+/// creates a reversed counter without a number a second one, with the starts that the first one tells. Then it is a step
+/// for each element.
 pub(crate) fn fresh_board<L: Ledger>(
     alloc: Global,
     arena: &Arena,
     agent: &Sheet,
     styles: &DocumentStyles,
-    index: &Index,
     steps: &mut Steps<L>,
-) -> Result<(Board<Kept>, bool), Memory>
+) -> Result<Fresh<Board<Kept>>, Memory>
     requires agent { agent.now ≡ agent_sheet }
     requires styles { styles.now ≡ document_styles styles.now.sheet arena.now.tree }
-    requires indexed { IsIndexOf index.now arena.now.tree }
-    ensures keeps { IfOk result (λ made. KeepsAll (record { tree = arena.now.tree; sheet = styles.now.sheet; settled = true; kept = made.0.held })) }
-    ensures room { IfOk result (λ made. HasRoomFor made.0.room arena.now.tree) }
-    ensures plain { IfOk result (λ made. made.1 ≡ is_plain (author_sheet styles.now.sheet arena.now.tree) arena.now.tree) }
+    ensures keeps { IfOk result (λ made. KeepsAll (record { tree = arena.now.tree; sheet = styles.now.sheet; settled = true; kept = made.kept.held })) }
+    ensures room { IfOk result (λ made. HasRoomFor made.kept.room arena.now.tree) }
+    ensures indexed { IfOk result (λ made. IsIndexOf made.index arena.now.tree) }
+    ensures refers { IfOk result (λ made. TellsReferences made.index (evaluated_document (author_sheet styles.now.sheet arena.now.tree) arena.now.tree)) }
+    ensures plain { IfOk result (λ made. made.is_plain ≡ is_plain (author_sheet styles.now.sheet arena.now.tree) arena.now.tree) }
     ensures steps { steps.new ≤ steps.old + 7 * element_count (without_keys arena.now.tree) }
 {
     arena_holds_document(arena);
@@ -87,45 +100,51 @@ pub(crate) fn fresh_board<L: Ledger>(
     };
     let told = told_of(alloc, &document, steps)?;
     let records = told.as_slice();
+    let index = index_with(alloc, arena, records)?;
     let room = room_for(records)?;
     let mut board = Board::new(alloc);
     board.reserve(room)?;
     put_document_entries(
         alloc,
         arena,
-        index,
+        &index,
         &styles.table,
         records,
         &mut board,
         steps,
     )?;
-    Ok((board, are_plain(records)))
+    Ok(Fresh {
+        kept: board,
+        index,
+        is_plain: are_plain(records),
+    })
 }
 
-/// What is kept of a document's elements and is not on a board, which is given room for it, and whether none of the
-/// elements rests on more than what it is handed. The document is evaluated
-/// as for `fresh_board`, and then it is a step for each element.
+/// What is kept of a document's elements and is not on a board, which is given room for it, and the index. The document is
+/// evaluated as for `fresh_board`, and then it is a step for each element.
 pub(crate) fn fresh_changes<L: Ledger>(
     alloc: Global,
     document: &StyledArena,
-    index: &Index,
     board: &mut Board<Kept>,
     steps: &mut Steps<L>,
-) -> Result<(Vec<(usize, Kept)>, bool), Memory>
-    requires indexed { IsIndexOf index.now document.now.arena.now.tree }
-    ensures changes { IfOk result (λ made. Renews board.old.held (document_kept (author_sheet document.now.styles.now.sheet document.now.arena.now.tree) document.now.arena.now.tree) made.0.items) }
-    ensures plain { IfOk result (λ made. made.1 ≡ is_plain (author_sheet document.now.styles.now.sheet document.now.arena.now.tree) document.now.arena.now.tree) }
-    ensures room { IfOk result (λ made. AreBelow board.new.room made.0.items) }
+) -> Result<Fresh<Vec<(usize, Kept)>>, Memory>
+    ensures changes { IfOk result (λ made. Renews board.old.held (document_kept (author_sheet document.now.styles.now.sheet document.now.arena.now.tree) document.now.arena.now.tree) made.kept.items) }
+    ensures indexed { IfOk result (λ made. IsIndexOf made.index document.now.arena.now.tree) }
+    ensures refers { IfOk result (λ made. TellsReferences made.index (evaluated_document (author_sheet document.now.styles.now.sheet document.now.arena.now.tree) document.now.arena.now.tree)) }
+    ensures plain { IfOk result (λ made. made.is_plain ≡ is_plain (author_sheet document.now.styles.now.sheet document.now.arena.now.tree) document.now.arena.now.tree) }
+    ensures room { IfOk result (λ made. AreBelow board.new.room made.kept.items) }
     ensures held { board.new.held ≡ board.old.held }
     ensures grown { board.old.room ≤ board.new.room }
     ensures steps { steps.new ≤ steps.old + 7 * element_count (without_keys document.now.arena.now.tree) }
 {
+    arena_holds_document(document.arena);
     let told = told_of(alloc, document, steps)?;
     let records = told.as_slice();
+    let index = index_with(alloc, document.arena, records)?;
     let changes = document_changes(
         alloc,
         document.arena,
-        index,
+        &index,
         &document.styles.table,
         records,
         board,
@@ -133,5 +152,9 @@ pub(crate) fn fresh_changes<L: Ledger>(
     )?;
     let room = room_for(changes.as_slice())?;
     board.reserve(room)?;
-    Ok((changes, are_plain(records)))
+    Ok(Fresh {
+        kept: changes,
+        index,
+        is_plain: are_plain(records),
+    })
 }

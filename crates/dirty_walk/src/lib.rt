@@ -2,13 +2,15 @@
 //!
 //! A [`book::Book`] is made from a tree and the text of a style sheet, and tells the [`NodeEntry`] of each element: its
 //! counters, its depths, and the texts of its boxes. What that is is said by `generated_texts`. With its entry what an
-//! element was handed is kept, and what was handed on behind its children ([`kept::Kept`]). It lies on a board of
-//! `snapshot_board`, under the key of the element: each element has it, and a text has not.
+//! element was handed is kept, and what was handed on behind its children, and the pieces of its boxes where one of them
+//! refers to an id ([`kept::Kept`]). It lies on a board of `snapshot_board`, under the key of the element: each element has
+//! it, and a text has not.
 //!
 //! The author's sheet is that of the text, and behind it those of the document's style elements. A book keeps it read:
 //! an edit that leaves these texts as they are reads none, one that changes some reads all of them anew, and the user
 //! agent's sheet is read when the book begins. It keeps the index of the document's ids too, of which an edit changes
-//! those of the elements that come and go.
+//! those of the elements that come and go, and of the references to them. Where a document is evaluated whole its index is
+//! made anew.
 //!
 //! An edit is planned and then committed. `plan` evaluates the edited document, and compares what is to be kept of each
 //! element with what the board keeps; the [`plan::Plan`] has what is new, and the keys of the elements that are gone. It

@@ -8,9 +8,9 @@ ghost use Rattle.generated_texts.specs.References.{first_holder};
 ghost use Rattle.surroundings.specs.declared.told.Told.{Told};
 ghost use Rattle.referring_elements.specs.Indexes.{IsIndexOf};
 ghost use Rattle.dirty_walk.specs.NamedElements.{AreHoldersOf};
-ghost use Rattle.dirty_walk.specs.Plain.{refers};
+ghost use Rattle.box_pieces.specs.BoxPieces.{refers};
 
-use crate::plain::refers;
+use box_pieces::box_pieces::refers;
 use node_arena::arena::Arena;
 use node_arena::laws::arena_holds_document;
 use plain_types::memory::Memory;

@@ -10,6 +10,7 @@ ghost use Rattle.dirty_walk.specs.Evaluations.{all_kept_of, kept_of};
 use crate::kept::Kept;
 use box_eval::element_record::ElementRecord;
 use box_eval::made::Made;
+use box_pieces::box_pieces::BoxPieces;
 use content_eval::targets::Targets;
 use content_eval::texts::{flat_text, full_text};
 use generated_texts::entry::{BoxText, NodeEntry};
@@ -71,6 +72,7 @@ fn kept_of<T: Targets>(
     Ok(Kept {
         entry: node_entry(alloc, table, &told.said, targets)?,
         walked: told.walked.share(alloc)?,
+        pieces: BoxPieces::of(alloc, &told.said)?,
     })
 }
 

@@ -1,23 +1,23 @@
 //! What an edit makes of a book, once its document is the edited one.
 
-ghost use Rattle.std.specs.Prelude.{◌≡◌, ◌≤◌, ◌+◌, ◌*◌, ℕ, List, false, is_some, length, unwrap_or, IfNone, IfOk, IfSome, OnErr, OnOk};
+ghost use Rattle.std.specs.Prelude.{◌≡◌, ◌≤◌, ◌+◌, ◌*◌, ℕ, List, None, false, true, is_some, length, unwrap_or, IfNone, IfOk, IfSome, OnErr, OnOk};
 ghost use Rattle.forest.specs.Forest.{Forest};
 ghost use Rattle.forest.specs.Keys.{Keyed, without_keys};
 ghost use Rattle.plain_types.specs.declared.node.Node.{Node};
 ghost use Rattle.node_arena.specs.Edits.{edited_sheet};
 ghost use Rattle.document_walk.specs.Elements.{element_count};
-ghost use Rattle.target_index.specs.Holders.{is_holder};
+ghost use Rattle.target_index.specs.Holders.{is_holder, is_reference};
 ghost use Rattle.dirty_walk.specs.Changes.{AreBelow, Renews};
 ghost use Rattle.dirty_walk.specs.DocumentStyles.{document_styles, read_styles};
-ghost use Rattle.dirty_walk.specs.EditedArenas.{is_plain_after, kept_after, styles_after};
+ghost use Rattle.dirty_walk.specs.EditedArenas.{evaluated_after, is_plain_after, kept_after, styles_after};
 ghost use Rattle.dirty_walk.specs.Exchanges.{IsIndexBefore};
-ghost use Rattle.referring_elements.specs.Indexes.{IsIndexOf};
+ghost use Rattle.referring_elements.specs.Indexes.{IsIndexOf, TellsReferences};
 ghost use Rattle.dirty_walk.specs.PlaceStyles.{IsWithinPlaceOf, StandsBefore};
 
 use crate::document_styles::DocumentStyles;
 use crate::edited_arena::EditedArena;
 use crate::exchange::{ElementId, exchange_ids};
-use crate::fresh::fresh_changes;
+use crate::fresh::{Fresh, fresh_changes};
 use crate::kept::Kept;
 use crate::local_stops::LocalStops;
 use crate::places::changes_from_place;
@@ -66,6 +66,8 @@ fn renewed_styles(
 pub(crate) struct Renewal {
     /// The styles, where they are others.
     pub(crate) styles: Option<DocumentStyles>,
+    /// The index, where it is made anew.
+    pub(crate) index: Option<Index>,
     /// What comes to the board.
     pub(crate) changes: Vec<(usize, Kept)>,
     /// Whether no element rests on more than what it is handed.
@@ -85,6 +87,8 @@ fn from_place<L: Ledger>(
     ensures styles { IfOk result (λ found. IfSome found (λ made. unwrap_or made.styles document.now.styles.now ≡ styles_after document.now)) }
     ensures changes { IfOk result (λ found. IfSome found (λ made. Renews board.old.held (kept_after document.now) made.changes.items)) }
     ensures plain { IfOk result (λ found. IfSome found (λ made. made.is_plain ≡ is_plain_after document.now)) }
+    ensures index { IfOk result (λ found. IfSome found (λ made. made.index ≡ None)) }
+    ensures walked { IfOk result (λ found. IfSome found (λ made. (is_some stops ≡ true) × (is_plain_after document.now ≡ true))) }
     ensures none { IfOk result (λ found. IfNone found (IfSome stops (λ _. is_plain_after document.now ≡ false))) }
     ensures room { IfOk result (λ found. IfSome found (λ made. AreBelow board.new.room made.changes.items)) }
     ensures held { board.new.held ≡ board.old.held }
@@ -105,6 +109,7 @@ fn from_place<L: Ledger>(
     match changes_from_place(alloc, &styled, board, stops, steps)? {
         Some(changes) => Ok(Some(Renewal {
             styles: None,
+            index: None,
             changes,
             is_plain: true,
         })),
@@ -116,14 +121,14 @@ fn from_place<L: Ledger>(
 fn from_whole<L: Ledger>(
     alloc: Global,
     document: &EditedArena,
-    index: &Index,
     board: &mut Board<Kept>,
     steps: &mut Steps<L>,
 ) -> Result<Renewal, Memory>
-    requires indexed { IsIndexOf index.now document.now.arena.now.tree }
     ensures styles { IfOk result (λ made. unwrap_or made.styles document.now.styles.now ≡ styles_after document.now) }
     ensures changes { IfOk result (λ made. Renews board.old.held (kept_after document.now) made.changes.items) }
     ensures plain { IfOk result (λ made. made.is_plain ≡ is_plain_after document.now) }
+    ensures index { IfOk result (λ made. IfSome made.index (λ index. IsIndexOf index document.now.arena.now.tree × TellsReferences index (evaluated_after document.now))) }
+    ensures some { IfOk result (λ made. is_some made.index ≡ true) }
     ensures room { IfOk result (λ made. AreBelow board.new.room made.changes.items) }
     ensures held { board.new.held ≡ board.old.held }
     ensures grown { board.old.room ≤ board.new.room }
@@ -135,10 +140,15 @@ fn from_whole<L: Ledger>(
         agent: document.agent,
         styles: new.as_ref().unwrap_or(document.styles),
     };
-    let (changes, is_plain) = fresh_changes(alloc, &styled, index, board, steps)?;
+    let Fresh {
+        kept,
+        index,
+        is_plain,
+    } = fresh_changes(alloc, &styled, board, steps)?;
     Ok(Renewal {
         styles: new,
-        changes,
+        index: Some(index),
+        changes: kept,
         is_plain,
     })
 }
@@ -147,16 +157,16 @@ fn from_whole<L: Ledger>(
 fn renewed<L: Ledger>(
     alloc: Global,
     document: &EditedArena,
-    index: &Index,
     board: &mut Board<Kept>,
     stops: Option<LocalStops>,
     steps: &mut Steps<L>,
 ) -> Result<Renewal, Memory>
-    requires indexed { IsIndexOf index.now document.now.arena.now.tree }
     requires place { IfSome stops (λ local. StandsBefore document.now.edit.now document.now.styles.now board.old.held local document.now.arena.now.tree) }
     ensures styles { IfOk result (λ made. unwrap_or made.styles document.now.styles.now ≡ styles_after document.now) }
     ensures changes { IfOk result (λ made. Renews board.old.held (kept_after document.now) made.changes.items) }
     ensures plain { IfOk result (λ made. made.is_plain ≡ is_plain_after document.now) }
+    ensures index { IfOk result (λ made. IfSome made.index (λ index. IsIndexOf index document.now.arena.now.tree × TellsReferences index (evaluated_after document.now))) }
+    ensures walked { IfOk result (λ made. IfNone made.index ((is_some stops ≡ true) × (is_plain_after document.now ≡ true))) }
     ensures room { IfOk result (λ made. AreBelow board.new.room made.changes.items) }
     ensures held { board.new.held ≡ board.old.held }
     ensures grown { board.old.room ≤ board.new.room }
@@ -166,12 +176,13 @@ fn renewed<L: Ledger>(
 {
     match from_place(alloc, document, board, stops, steps)? {
         Some(made) => Ok(made),
-        None => from_whole(alloc, document, index, board, steps),
+        None => from_whole(alloc, document, board, steps),
     }
 }
 
-/// What an edit makes of a book where the elements of its document that go are these. The index becomes that of the edited
-/// document; where memory is wanting it stays as it was.
+/// What an edit makes of a book where the elements of its document that go are these. The index has the holders of the edited
+/// document then, and what refers to them as before; where memory is wanting it stays as it was. Of a plain document no
+/// element refers to an id.
 pub(crate) fn evaluated<L: Ledger>(
     alloc: Global,
     document: &EditedArena,
@@ -182,12 +193,15 @@ pub(crate) fn evaluated<L: Ledger>(
     steps: &mut Steps<L>,
 ) -> Result<Renewal, Memory>
     requires before { IsIndexBefore document.now.edit.now gone.now index.old document.now.arena.now.tree }
+    requires none { IfSome stops (λ _. (id : List ℕ) (key : ℕ) → is_reference index.old id key ≡ false) }
     requires place { IfSome stops (λ local. StandsBefore document.now.edit.now document.now.styles.now board.old.held local document.now.arena.now.tree) }
     ensures styles { IfOk result (λ made. unwrap_or made.styles document.now.styles.now ≡ styles_after document.now) }
     ensures changes { IfOk result (λ made. Renews board.old.held (kept_after document.now) made.changes.items) }
     ensures plain { IfOk result (λ made. made.is_plain ≡ is_plain_after document.now) }
-    ensures indexed { OnOk result (IsIndexOf index.new document.now.arena.now.tree) }
+    ensures indexed { IfOk result (λ made. IsIndexOf (unwrap_or made.index index.new) document.now.arena.now.tree) }
+    ensures refers { IfOk result (λ made. TellsReferences (unwrap_or made.index index.new) (evaluated_after document.now)) }
     ensures err { OnErr result ((id : List ℕ) (key : ℕ) → is_holder index.new id key ≡ is_holder index.old id key) }
+    ensures references { (id : List ℕ) (key : ℕ) → is_reference index.new id key ≡ is_reference index.old id key }
     ensures room { IfOk result (λ made. AreBelow board.new.room made.changes.items) }
     ensures held { board.new.held ≡ board.old.held }
     ensures grown { board.old.room ≤ board.new.room }
@@ -196,7 +210,7 @@ pub(crate) fn evaluated<L: Ledger>(
     ensures steps { steps.new ≤ steps.old + 12 * element_count (without_keys document.now.arena.now.tree) }
 {
     let back = exchange_ids(alloc, index, document.arena, document.edit, gone)?;
-    match renewed(alloc, document, index, board, stops, steps) {
+    match renewed(alloc, document, board, stops, steps) {
         Ok(made) => Ok(made),
         Err(memory) => {
             index.commit(back);

@@ -1,4 +1,4 @@
-use Rattle.std.proofs.Common.{◌≡◌, ◌<◌, ◌∙◌, ℕ, List, None, ap, sym, arith}
+use Rattle.std.proofs.Common.{◌≡◌, ◌<◌, ◌∙◌, ℕ, List, None, ap, sym, subst, arith}
 use Rattle.std.specs.FinMap.{FinMap, get, get-empty}
 use Rattle.std.specs.Ordering.{nat_cmp}
 use Rattle.generated_texts.specs.Documents.{counter_styles}
@@ -6,12 +6,16 @@ use Rattle.generated_texts.specs.References.{known_targets}
 use Rattle.generated_texts.specs.StyleElements.{author_sheet}
 use Rattle.snapshot_board.specs.Records.{put_all}
 use Rattle.dirty_walk.specs.declared.kept.Kept.{Kept}
+use Rattle.referring_elements.specs.Indexes.{TellsReferences}
+use Rattle.referring_elements.specs.References.{AreOnce}
+use Rattle.surroundings.specs.declared.told.Told.{Told}
 use Rattle.dirty_walk.specs.Evaluations.{document_kept, document_told, kept_of, said_of}
 use Rattle.dirty_walk.specs.Plain.{are_plain}
 use Rattle.dirty_walk.proofs.BookLemmas.{kept_are}
 use Rattle.dirty_walk.proofs.ChangeLemmas.{has_key, key_of, put_whole, some-kept}
 use Rattle.dirty_walk.proofs.RecordLemmas.{has_key-mapped}
-use Rattle.dirty_walk.proofs.ToldLemmas.{kept_keys, kept_once}
+use Rattle.dirty_walk.proofs.ReferenceLemmas.{are_once}
+use Rattle.dirty_walk.proofs.ToldLemmas.{kept_keys, kept_once, told_once}
 use Rattle.dirty_walk.proofs.fresh.fresh_board.Goals as goal
 
 pub returns-clause-keeps : goal.returns-clause-keeps
@@ -45,3 +49,18 @@ returns-clause-room g c = λ key named.
 
 pub returns-clause-plain : goal.returns-clause-plain
 returns-clause-plain g c = c.are_plain.ensures ∙ ap are_plain (c.as_slice-records.ensures.items ∙ c.in_ok-told.ensures.told)
+
+pub index_with-requires : goal.index_with-requires
+index_with-requires g c =
+    let tree = c.args.arena.now.tree in
+    let author = author_sheet c.args.styles.now.sheet tree in
+    record {
+      once = subst AreOnce (sym (c.as_slice-records.ensures.items ∙ c.in_ok-told.ensures.told)) (are_once (document_told author tree) (told_once author tree c.arena_holds_document.ensures.document.distinct));
+    }
+
+pub returns-clause-refers : goal.returns-clause-refers
+returns-clause-refers g c =
+    let tree = c.args.arena.now.tree in
+    subst (λ (told : List (ℕ × Told)). TellsReferences c.in_ok-index.index (record { tree = tree; said = said_of told }))
+    (c.as_slice-records.ensures.items ∙ c.in_ok-told.ensures.told)
+    (c.in_ok-index.ensures.references tree)

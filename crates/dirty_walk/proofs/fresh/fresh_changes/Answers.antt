@@ -1,11 +1,16 @@
-use Rattle.std.proofs.Common.{◌∙◌, ℕ, List, ap, subst}
+use Rattle.std.proofs.Common.{◌∙◌, ℕ, List, ap, subst, sym}
 use Rattle.dirty_walk.specs.declared.kept.Kept.{Kept}
 use Rattle.generated_texts.specs.StyleElements.{author_sheet}
 use Rattle.dirty_walk.specs.Changes.{AreChanges}
-use Rattle.dirty_walk.specs.Evaluations.{document_kept}
+use Rattle.referring_elements.specs.Indexes.{TellsReferences}
+use Rattle.referring_elements.specs.References.{AreOnce}
+use Rattle.surroundings.specs.declared.told.Told.{Told}
+use Rattle.dirty_walk.specs.Evaluations.{document_kept, document_told, said_of}
 use Rattle.dirty_walk.specs.Plain.{are_plain}
 use Rattle.dirty_walk.proofs.BookLemmas.{kept_are}
+use Rattle.dirty_walk.proofs.ReferenceLemmas.{are_once}
 use Rattle.dirty_walk.proofs.RenewalLemmas.{renews}
+use Rattle.dirty_walk.proofs.ToldLemmas.{told_once}
 use Rattle.dirty_walk.proofs.fresh.fresh_changes.Goals as goal
 
 pub returns-clause-changes : goal.returns-clause-changes
@@ -20,3 +25,18 @@ returns-clause-changes g c =
 
 pub returns-clause-plain : goal.returns-clause-plain
 returns-clause-plain g c = c.are_plain.ensures ∙ ap are_plain (c.as_slice-records.ensures.items ∙ c.in_ok-told.ensures.told)
+
+pub index_with-requires : goal.index_with-requires
+index_with-requires g c =
+    let tree = c.args.document.now.arena.now.tree in
+    let author = author_sheet c.args.document.now.styles.now.sheet tree in
+    record {
+      once = subst AreOnce (sym (c.as_slice-records.ensures.items ∙ c.in_ok-told.ensures.told)) (are_once (document_told author tree) (told_once author tree c.arena_holds_document.ensures.document.distinct));
+    }
+
+pub returns-clause-refers : goal.returns-clause-refers
+returns-clause-refers g c =
+    let tree = c.args.document.now.arena.now.tree in
+    subst (λ (told : List (ℕ × Told)). TellsReferences c.in_ok-index.index (record { tree = tree; said = said_of told }))
+    (c.as_slice-records.ensures.items ∙ c.in_ok-told.ensures.told)
+    (c.in_ok-index.ensures.references tree)

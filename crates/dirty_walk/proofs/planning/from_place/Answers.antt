@@ -1,5 +1,5 @@
 use Rattle.std.proofs.Common.{◌≡◌, ◌∙◌, IfNone, IfSome, List, Option, Some, None, Global, true, false, ℕ, ap, refl, subst, sym}
-use Rattle.std.specs.Prelude.{Vec}
+use Rattle.std.specs.Prelude.{Vec, is_some}
 use Rattle.std.specs.FinMap.{FinMap}
 use Rattle.std.specs.Ordering.{nat_cmp}
 use Rattle.forest.specs.Forest.{Forest}
@@ -122,3 +122,15 @@ returns-in-None-clause-most g c =
     let document = c.args.document.now in
     within document.edit.now document.styles.now c.args.board.now.held document.arena.now.tree c.args.stops (c.in-Some.field-0) c.name_inserted_root.new.stops.items
     c.args.steps.now c.changes_from_place.new.steps c.in-Some.is c.name_inserted_root.ensures.stops c.changes_from_place.ensures.most
+
+pub returns-in-Some-2-clause-walked : goal.returns-in-Some-2-clause-walked
+returns-in-Some-2-clause-walked g c =
+    let document = c.args.document.now in
+    let tree = document.arena.now.tree in
+    let local : LocalStops = c.in-Some.field-0 in
+    let place = there document.edit.now document.styles.now c.args.board.now.held tree c.args.stops local c.in-Some.is c.requires.place in (
+      ap (λ (o : Option LocalStops). is_some o) c.in-Some.is,
+      ap (λ (text : List ℕ). is_plain (author_sheet text tree) tree)
+          (sheet_now document.edit.now document.styles.now c.args.board.now.held local tree place c.name_inserted_root.new.stops.items c.name_inserted_root.ensures.stops)
+          ∙ of_found (λ _. is_plain (author_sheet document.styles.now.sheet tree) tree ≡ true) c.in_ok-changes.field-0 c.in-Some-2.changes c.in-Some-2.is c.in_ok-changes.ensures.plain,
+    )

@@ -8,7 +8,8 @@ use Rattle.node_arena.specs.Edits.{edited_sheet}
 use Rattle.dirty_walk.specs.declared.document_styles.DocumentStyles.{DocumentStyles}
 use Rattle.dirty_walk.specs.Changes.{Renews}
 use Rattle.dirty_walk.specs.DocumentStyles.{document_styles}
-use Rattle.dirty_walk.specs.Evaluations.{document_kept}
+use Rattle.referring_elements.specs.Indexes.{TellsReferences}
+use Rattle.dirty_walk.specs.Evaluations.{document_kept, evaluated_document}
 use Rattle.dirty_walk.specs.Plain.{is_plain}
 use Rattle.dirty_walk.proofs.PlanLemmas.{its_text, now-unwrap_or, under_its_text}
 use Rattle.dirty_walk.proofs.planning.from_whole.Goals as goal
@@ -32,13 +33,24 @@ returns-clause-changes g c =
     let text = edited_sheet c.args.document.now.edit.now c.args.document.now.styles.now.sheet in
     let tree = c.args.document.now.arena.now.tree in
     let are = chosen c.in_ok-new.new c.as_ref.result c.args.document.now.styles c.unwrap_or.result text tree c.unwrap_or.ensures c.as_ref.ensures.value c.in_ok-new.ensures.styles in
-    subst (λ (text : List ℕ). Renews c.args.board.now.held (document_kept (author_sheet text tree) tree) c.in_ok-changes.changes.items)
+    subst (λ (text : List ℕ). Renews c.args.board.now.held (document_kept (author_sheet text tree) tree) c.in_ok-kept.field-0.kept.items)
     (its_text c.unwrap_or.result.now text (style_texts tree) are)
-    c.in_ok-changes.ensures.changes
+    c.in_ok-kept.ensures.changes
 
 pub returns-clause-plain : goal.returns-clause-plain
 returns-clause-plain g c =
     let text = edited_sheet c.args.document.now.edit.now c.args.document.now.styles.now.sheet in
     let tree = c.args.document.now.arena.now.tree in
     let are = chosen c.in_ok-new.new c.as_ref.result c.args.document.now.styles c.unwrap_or.result text tree c.unwrap_or.ensures c.as_ref.ensures.value c.in_ok-new.ensures.styles in
-    c.in_ok-changes.ensures.plain ∙ ap (λ (text : List ℕ). is_plain (author_sheet text tree) tree) (its_text c.unwrap_or.result.now text (style_texts tree) are)
+    c.in_ok-kept.ensures.plain ∙ ap (λ (text : List ℕ). is_plain (author_sheet text tree) tree) (its_text c.unwrap_or.result.now text (style_texts tree) are)
+
+pub returns-clause-index : goal.returns-clause-index
+returns-clause-index g c =
+    let text = edited_sheet c.args.document.now.edit.now c.args.document.now.styles.now.sheet in
+    let tree = c.args.document.now.arena.now.tree in
+    let are = chosen c.in_ok-new.new c.as_ref.result c.args.document.now.styles c.unwrap_or.result text tree c.unwrap_or.ensures c.as_ref.ensures.value c.in_ok-new.ensures.styles in (
+      c.in_ok-kept.ensures.indexed,
+      subst (λ (text : List ℕ). TellsReferences c.in_ok-kept.field-0.index (evaluated_document (author_sheet text tree) tree))
+          (its_text c.unwrap_or.result.now text (style_texts tree) are)
+          c.in_ok-kept.ensures.refers,
+    )

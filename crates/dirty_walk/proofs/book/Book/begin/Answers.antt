@@ -4,6 +4,7 @@ use Rattle.forest.specs.Keys.{without_keys}
 use Rattle.document_walk.specs.Elements.{element_count}
 use Rattle.generated_texts.specs.StyleElements.{style_texts}
 use Rattle.dirty_walk.proofs.PlanLemmas.{its_text, kept_where, plain_where, under_its_text}
+use Rattle.dirty_walk.proofs.ReferenceLemmas.{refers_where}
 use Rattle.dirty_walk.proofs.ToldLemmas.{keeps_entries}
 use Rattle.dirty_walk.proofs.book.Book.begin.Goals as goal
 
@@ -20,10 +21,12 @@ invariant_of-result g c = record {
   agent_is = c.in_ok-agent.ensures.sheet;
   styles_are = under_its_text c.in_ok-styles.styles (chars c.args.sheet.now) c.in_ok-arena.arena.tree c.in_ok-styles.ensures.styles;
   kept = λ _.
-      kept_where c.in_ok-arena.arena.tree c.in_ok-arena.arena.tree c.in_ok-styles.styles.sheet c.in_ok-styles.styles.sheet c.in_ok-board.board.held c.in_ok-board.board.held true true refl refl refl c.in_ok-board.ensures.keeps;
+      kept_where c.in_ok-arena.arena.tree c.in_ok-arena.arena.tree c.in_ok-styles.styles.sheet c.in_ok-styles.styles.sheet c.in_ok-board.field-0.kept.held c.in_ok-board.field-0.kept.held true true refl refl refl c.in_ok-board.ensures.keeps;
   room = c.in_ok-board.ensures.room;
-  indexed = c.in_ok-index.ensures.index;
-  plain_is = plain_where c.in_ok-arena.arena.tree c.in_ok-arena.arena.tree c.in_ok-styles.styles.sheet c.in_ok-board.is_plain refl c.in_ok-board.ensures.plain;
+  indexed = c.in_ok-board.ensures.indexed;
+  refers =
+      refers_where c.in_ok-arena.arena.tree c.in_ok-arena.arena.tree c.in_ok-styles.styles.sheet c.in_ok-board.field-0.index c.in_ok-board.field-0.index refl (λ id key. refl) c.in_ok-board.ensures.refers;
+  plain_is = plain_where c.in_ok-arena.arena.tree c.in_ok-arena.arena.tree c.in_ok-styles.styles.sheet c.in_ok-board.field-0.is_plain refl c.in_ok-board.ensures.plain;
   back = tt;
   keys = c.in_ok-arena.ensures.settled;
 }
@@ -33,7 +36,7 @@ returns-clause-sheet g c = its_text c.in_ok-styles.styles (chars c.args.sheet.no
 
 pub returns-clause-keeps : goal.returns-clause-keeps
 returns-clause-keeps g c =
-    keeps_entries (record { tree = c.in_ok-arena.arena.tree; sheet = c.in_ok-styles.styles.sheet; settled = true; kept = c.in_ok-board.board.held })
+    keeps_entries (record { tree = c.in_ok-arena.arena.tree; sheet = c.in_ok-styles.styles.sheet; settled = true; kept = c.in_ok-board.field-0.kept.held })
     c.arena_holds_document.ensures.document.distinct c.in_ok-board.ensures.keeps
 
 pub returns-clause-steps : goal.returns-clause-steps

@@ -11,6 +11,7 @@ use Rattle.dirty_walk.specs.Books.{StyledDocument, HasRoomFor, UsesItsKeys}
 use Rattle.dirty_walk.specs.DocumentStyles.{document_styles}
 use Rattle.dirty_walk.specs.Plans.{IsPlannedBy, settled_after}
 use Rattle.dirty_walk.proofs.PlanLemmas.{index_where, is_settled, kept_where, plain_where, room_where}
+use Rattle.dirty_walk.proofs.ReferenceLemmas.{refers_where}
 use Rattle.dirty_walk.proofs.SettlingLemmas.{below_of}
 use Rattle.dirty_walk.proofs.ToldLemmas.{keeps_entries}
 use Rattle.dirty_walk.proofs.book.Book.commit.Goals as goal
@@ -45,6 +46,7 @@ invariant_of-self g c =
           let grown : c.self.inside.board.room ≤ c.put_changes.new.board.room = omega (arith, c.put_changes.ensures.room, c.take_entries.ensures.room) in
           room_where c.self.inside.arena.tree c.settle.new.self.tree c.self.inside.board.room c.put_changes.new.board.room same grown c.self.invariant.room;
       indexed = index_where c.self.inside.arena.tree c.settle.new.self.tree c.self.inside.index c.self.inside.index same (λ id key. refl) c.self.invariant.indexed;
+      refers = refers_where c.self.inside.arena.tree c.settle.new.self.tree c.self.inside.styles.sheet c.self.inside.index c.self.inside.index same (λ id key. refl) c.self.invariant.refers;
       plain_is = plain_where c.self.inside.arena.tree c.settle.new.self.tree c.self.inside.styles.sheet c.self.inside.is_plain same c.self.invariant.plain_is;
       back = subst (λ (planned : Option Reversal). IfSome planned (λ reversal. IsReversal c.settle.new.self reversal)) (sym c.take.ensures.after) tt;
       keys =
@@ -75,6 +77,7 @@ invariant_of-self-in_default g c =
           let grown : c.self.inside.board.room ≤ c.put_changes.new.board.room = omega (arith, c.put_changes.ensures.room, c.take_entries.ensures.room) in
           room_where c.self.inside.arena.tree c.self.inside.arena.tree c.self.inside.board.room c.put_changes.new.board.room refl grown c.self.invariant.room;
       indexed = c.self.invariant.indexed;
+      refers = c.self.invariant.refers;
       plain_is = c.self.invariant.plain_is;
       back = subst (λ (planned : Option Reversal). IfSome planned (λ reversal. IsReversal c.self.inside.arena reversal)) (sym c.take.ensures.after) tt;
       keys =

@@ -1,4 +1,4 @@
-use Rattle.std.proofs.Common.{◌≡◌, ◌⊎◌, ◌∙◌, ◌≤◌, ◌+◌, true, false, None, IfSome, refl, ap, sym, subst, arith, inr, length, List, ℕ}
+use Rattle.std.proofs.Common.{◌≡◌, ◌⊎◌, ◌∙◌, ◌≤◌, ◌+◌, true, false, Option, Some, None, IfSome, refl, unwrap_or, ap, sym, subst, arith, inr, length, List, ℕ}
 use Rattle.std.specs.Prelude.{IfNone}
 use Rattle.std.specs.FinMap.{FinMap, get}
 use Rattle.std.specs.Option.{is_none}
@@ -17,7 +17,11 @@ use Rattle.snapshot_board.specs.Records.{put_all, take_all}
 use Rattle.dirty_walk.specs.declared.kept.Kept.{Kept}
 use Rattle.dirty_walk.specs.Books.{StyledDocument}
 use Rattle.dirty_walk.specs.Changes.{AreOthers}
-use Rattle.dirty_walk.specs.Evaluations.{document_kept}
+use Rattle.dirty_walk.specs.declared.local_stops.LocalStops.{LocalStops}
+use Rattle.dirty_walk.specs.Evaluations.{document_kept, evaluated_document}
+use Rattle.target_index.specs.declared.index.Index.{Index}
+use Rattle.target_index.specs.Holders.{is_reference}
+use Rattle.referring_elements.specs.Indexes.{IsIndexOf, TellsReferences}
 use Rattle.edit_merge.specs.Laws.{InsertsOneTree, IsDone}
 use Rattle.style_reach.specs.Reaches.{reach}
 use Rattle.style_reach.specs.declared.extent.Reach.TheVariants.{All}
@@ -30,6 +34,7 @@ use Rattle.dirty_walk.specs.WorkBounds.{IsWithinWork, StopsWithinWork, keyed_sou
 use Rattle.dirty_walk.proofs.GoneLemmas.{taken_gone}
 use Rattle.dirty_walk.proofs.PlaceLemmas.{stands_before}
 use Rattle.dirty_walk.proofs.PlanLemmas.{as_read, its_keys, its_text, same_document, under_its_text}
+use Rattle.dirty_walk.proofs.ReferenceLemmas.{none_where_plain}
 use Rattle.dirty_walk.proofs.SettlingLemmas.{few, has_room, keeps_all, of_elements}
 use Rattle.dirty_walk.proofs.WorkLemmas.{leads, within_work}
 use Rattle.dirty_walk.proofs.book.Book.plan.Goals as goal
@@ -69,10 +74,22 @@ evaluated-requires-clause-place g c =
     (ap (λ (styled : StyledDocument). styled.tree) c.self.view_is) c.requires.allowed c.inserts_one_tree.ensures c.in_ok-prepared.ensures.edits c.commit-reversal.ensures.tree)
     (c.self.invariant.kept none) c.in_ok-gone.field-0.stops (ahead_of (λ styled. IfSome c.in_ok-gone.field-0.stops (λ _. is_plain (author_sheet styled.sheet styled.tree) styled.tree ≡ true)) _ _ c.self.view_is c.in_ok-gone.ensures.plain) (ahead_of (λ styled. IfSome c.in_ok-gone.field-0.stops (λ local. local.extent ≡ reach (looks_beside styled.sheet styled.tree) styled.tree c.args.edit.now)) _ _ c.self.view_is c.in_ok-gone.ensures.extent) c.in_ok-gone.ensures.local (ahead_of (λ styled. IfSome c.in_ok-gone.field-0.stops (λ local. local.stops.items ≡ reach_stops local.extent c.args.edit.now 0 styled.tree)) _ _ c.self.view_is c.in_ok-gone.ensures.stops)
 
+-- where there are stops no element refers to an id
+none_there : (P Q : Type 0) → (P → Q) → (stops : Option LocalStops) → IfSome stops (λ _. P) → IfSome stops (λ _. Q)
+none_there P Q so None holds = tt
+none_there P Q so (Some local) holds = so holds
+
+pub evaluated-requires-clause-none : goal.evaluated-requires-clause-none
+evaluated-requires-clause-none g c =
+    let author = author_sheet c.self.inside.styles.sheet c.self.inside.arena.tree in
+    none_there (is_plain author c.self.inside.arena.tree ≡ true) ((id : List ℕ) (key : ℕ) → is_reference c.self.inside.index id key ≡ false)
+    (λ plain. none_where_plain author c.self.inside.arena.tree c.self.inside.index c.self.invariant.refers plain)
+    c.in_ok-gone.field-0.stops (ahead_of (λ styled. IfSome c.in_ok-gone.field-0.stops (λ _. is_plain (author_sheet styled.sheet styled.tree) styled.tree ≡ true)) _ _ c.self.view_is c.in_ok-gone.ensures.plain)
+
 pub invariant_of-self : goal.invariant_of-self
 invariant_of-self g c =
     let none : is_none c.self.inside.planned ≡ true = ap (λ (styled : StyledDocument). styled.settled) c.self.view_is ∙ c.requires.settled in
-    same_document _ _ _ _ _ _ _ _ _ _ none c.prepare.ensures.tree (λ were. still_settled _ _ were c.prepare.ensures.tree c.in_err-prepared.ensures.err) refl (omega arith) (λ id key. refl) c.self.invariant
+    same_document _ _ _ _ _ _ _ _ _ _ none c.prepare.ensures.tree (λ were. still_settled _ _ were c.prepare.ensures.tree c.in_err-prepared.ensures.err) refl (omega arith) (λ id key. refl) (λ id key. refl) c.self.invariant
 
 pub invariant_of-self-in-Ok : goal.invariant_of-self-in-Ok
 invariant_of-self-in-Ok g c =
@@ -90,7 +107,12 @@ invariant_of-self-in-Ok g c =
       kept = λ settled. cc;
       room = has_room c.args.edit.now old tree done c.self.inside.styles.sheet text c.self.inside.board.held c.in-Ok.made.changes.items c.in_ok-gone.field-0.takes (c.self.invariant.kept none) c.in-Ok.ensures.changes taken
           c.self.inside.board.room c.evaluated.new.board.room c.self.invariant.room c.evaluated.ensures.grown c.in-Ok.ensures.room;
-      indexed = c.in-Ok.ensures.indexed;
+      indexed = subst (λ (index : Index). IsIndexOf index tree) (sym c.replace_index.ensures) c.in-Ok.ensures.indexed;
+      refers =
+          subst (λ (index : Index). TellsReferences index (evaluated_document (author_sheet c.replace_styles.new.styles.sheet tree) tree)) (sym c.replace_index.ensures)
+          (subst (λ (t : List ℕ). TellsReferences (unwrap_or c.in-Ok.made.index c.evaluated.new.index) (evaluated_document (author_sheet t tree) tree))
+          (sym (its_text c.replace_styles.new.styles text (style_texts tree) (c.replace_styles.ensures ∙ c.in-Ok.ensures.styles)))
+          c.in-Ok.ensures.refers);
       plain_is = c.in-Ok.ensures.plain ∙ ap (λ (t : List ℕ). is_plain (author_sheet t tree) tree) (sym (its_text c.replace_styles.new.styles text (style_texts tree) (c.replace_styles.ensures ∙ c.in-Ok.ensures.styles)));
       back = c.commit-reversal.ensures.reversal;
       keys =
@@ -106,7 +128,7 @@ invariant_of-self-in-Err g c =
     reverted _ _ _
     (committed _ _ _ _ _ were c.prepare.ensures.tree c.in_ok-prepared.ensures.reserves c.commit-reversal.ensures.tree c.commit-reversal.ensures.before c.commit-reversal.ensures.used)
     c.revert.ensures.tree c.revert.ensures.freed)
-    c.evaluated.ensures.held c.evaluated.ensures.grown c.in-Err.ensures.err c.self.invariant
+    c.evaluated.ensures.held c.evaluated.ensures.grown c.in-Err.ensures.err c.evaluated.ensures.references c.self.invariant
 
 pub returns-in-Ok-clause-planned : goal.returns-in-Ok-clause-planned
 unfolding IsPlannedBy settled_after

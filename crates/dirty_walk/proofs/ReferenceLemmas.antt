@@ -1,0 +1,144 @@
+-- The references of a document's elements, and an index that tells of them.
+use Rattle.std.proofs.Common.{◌≡◌, ◌++◌, ◌||◌, ◌∙◌, ℕ, Bool, true, false, List, [], ◌∷◌, Option, Some, None, flat_map, unwrap_or, refl, sym, ap, subst}
+use Rattle.std.specs.Prelude.{IfSome, codes, is_some, option_map}
+use Rattle.std.specs.List.{filter_map, list_any}
+use Rattle.std.specs.Option.{option_map_or}
+use Rattle.std.specs.Str.{bytes_eq}
+use Rattle.std.proofs.lemmas.Bool.{or_parts, true≢false}
+use Rattle.forest.specs.Forest.{Forest}
+use Rattle.forest.specs.Keys.{Keyed, keys}
+use Rattle.plain_types.specs.declared.node.Node.{Node}
+use Rattle.plain_types.specs.declared.sheet.Sheet.{Sheet}
+use Rattle.node_arena.specs.Nodes.{attr_of}
+use Rattle.content_eval.specs.declared.generated.Piece.{Piece}
+use Rattle.content_eval.specs.Targets.{reference}
+use Rattle.box_eval.specs.declared.element_record.ElementRecord.{ElementRecord}
+use Rattle.box_eval.specs.declared.made.Made.{Made}
+use Rattle.generated_texts.specs.References.{kept_at}
+use Rattle.generated_texts.specs.StyleElements.{author_sheet}
+use Rattle.edit_work.specs.KeyedSources.{references_in, references_of}
+use Rattle.surroundings.specs.declared.told.Told.{Told}
+use Rattle.target_index.specs.declared.change.IndexChange.{IndexChange}
+use Rattle.target_index.specs.declared.change.IndexChange.TheVariants.{Hold}
+use Rattle.target_index.specs.declared.index.Index.{Index}
+use Rattle.target_index.specs.Changes.{refers_after_all}
+use Rattle.target_index.specs.Holders.{is_reference}
+use Rattle.referring_elements.specs.Indexes.{TellsReferences, refers_to}
+use Rattle.referring_elements.specs.References.{AreOnce}
+use Rattle.dirty_walk.specs.declared.exchange.ElementId.{ElementId}
+use Rattle.dirty_walk.specs.Evaluations.{document_told, evaluated_document}
+use Rattle.dirty_walk.specs.Exchanges.{exchanges, held, unheld}
+use Rattle.box_pieces.specs.BoxPieces.{refers, refers_in, some_refers}
+use Rattle.dirty_walk.specs.Plain.{is_plain, rests_on_others}
+use Rattle.dirty_walk.proofs.ChangeLemmas.{HasKeysOnce}
+use Rattle.dirty_walk.proofs.IdLemmas.{id_change, id_changes}
+use Rattle.dirty_walk.proofs.KnownLemmas.{kept_mapped}
+use Rattle.dirty_walk.proofs.PlainLemmas.{each_plain}
+use Rattle.dirty_walk.proofs.RenewalLemmas.{kept_there}
+
+-- Where no piece refers to an id, no element does.
+
+none_of : (o : Option (List ℕ)) → is_some o ≡ false → o ≡ None
+none_of None none = refl
+none_of (Some id) none = absurd (true≢false none)
+
+of_pieces : (pieces : List Piece) → some_refers pieces ≡ false → filter_map reference pieces ≡ []
+of_pieces [] none = refl
+of_pieces (piece ∷ pieces) none =
+    let each = or_parts (is_some (reference piece)) (some_refers pieces) none in
+    rw (none_of (reference piece) each.0) (of_pieces pieces each.1)
+
+of_box : (made : Option Made) → refers_in made ≡ false → references_in made ≡ []
+of_box None none = refl
+of_box (Some made) none = of_pieces made.pieces none
+
+of_element : (said : ElementRecord) → refers said ≡ false → references_of said ≡ []
+of_element said none =
+    let first = or_parts (refers_in said.marker) (refers_in said.before || refers_in said.after) none in
+    let last = or_parts (refers_in said.before) (refers_in said.after) first.1 in
+    rw (of_box said.marker first.0, of_box said.before last.0, of_box said.after last.1) refl
+
+-- in a plain document no element refers to an id
+pub plain_refers_to_none : (author : Sheet) (document : Forest (Keyed Node)) → is_plain author document ≡ true → (id : List ℕ) (key : ℕ) → refers_to (evaluated_document author document) id key ≡ false
+plain_refers_to_none author document plain id key =
+    ap (λ (o : Option ElementRecord). list_any (bytes_eq id) (option_map_or references_of o [])) (kept_mapped (λ (told : Told). told.said) (document_told author document) key)
+    ∙ by (kept_at (document_told author document) key) refl
+  where
+    by : (o : Option Told) → kept_at (document_told author document) key ≡ o → list_any (bytes_eq id) (option_map_or references_of (option_map (λ (told : Told). told.said) o) []) ≡ false
+    by None is = refl
+    by (Some told) is =
+        let rests : rests_on_others told ≡ false = each_plain (document_told author document) plain (key, told) (kept_there (document_told author document) key told is) in
+        ap (list_any (bytes_eq id)) (of_element told.said (or_parts told.asks (refers told.said) rests).1)
+
+-- Changes of holders change no references.
+
+module _ (id : List ℕ) (key : ℕ) where
+  abbrev Keeps : List IndexChange → Type 0
+  Keeps changes = (b : Bool) → refers_after_all changes id key b ≡ b
+
+  both : (some more : List IndexChange) (b : Bool) → refers_after_all (some ++ more) id key b ≡ refers_after_all more id key (refers_after_all some id key b)
+  both [] more b = refl
+  both (change ∷ some) more b = both some more _
+
+  keeps_both : (some more : List IndexChange) → Keeps some → Keeps more → Keeps (some ++ more)
+  keeps_both some more one other b = both some more b ∙ other (refers_after_all some id key b) ∙ one b
+
+  keeps_all : {A : Type 0} (changes : A → List IndexChange) → ((a : A) → Keeps (changes a)) → (all : List A) → Keeps (flat_map changes all)
+  keeps_all changes each [] b = refl
+  keeps_all changes each (a ∷ all) b = keeps_both (changes a) (flat_map changes all) (each a) (keeps_all changes each all) b
+
+  keeps_unheld : (element : ElementId) → Keeps (unheld element)
+  keeps_unheld element = by element.id
+    where
+      by : (o : Option (List ℕ)) → Keeps (unheld (record element { id = o }))
+      by None b = refl
+      by (Some other) b = refl
+
+  keeps_held : (element : ElementId) → Keeps (held element)
+  keeps_held element = by element.id
+    where
+      by : (o : Option (List ℕ)) → Keeps (held (record element { id = o }))
+      by None b = refl
+      by (Some other) b = refl
+
+  pub exchanges_keep : (gone come : List ElementId) → Keeps (exchanges gone come)
+  exchanges_keep gone come = keeps_both (flat_map unheld gone) (flat_map held come) (keeps_all unheld keeps_unheld gone) (keeps_all held keeps_held come)
+
+  pub ids_keep : (document : Forest (Keyed Node)) → Keeps (id_changes document)
+  ids_keep document = keeps_all (id_change document) each (keys document)
+    where
+      by : (k : ℕ) (o : Option (List ℕ)) → Keeps (option_map_or (λ other. Hold other k ∷ []) o [])
+      by k None b = refl
+      by k (Some other) b = refl
+
+      each : (k : ℕ) → Keeps (id_change document k)
+      each k = by k (attr_of document k (codes "id"))
+
+-- Elements that are told once.
+
+pub are_once : (told : List (ℕ × Told)) → HasKeysOnce told → AreOnce told
+are_once [] once = tt
+are_once (element ∷ told) once = (once.0, are_once told once.1)
+
+-- Documents.
+
+-- an index with equal answers tells of an equal document
+pub refers_where : (tree other : Forest (Keyed Node)) (text : List ℕ) (index new : Index) → other ≡ tree → ((id : List ℕ) (key : ℕ) → is_reference new id key ≡ is_reference index id key)
+    → TellsReferences index (evaluated_document (author_sheet text tree) tree) → TellsReferences new (evaluated_document (author_sheet text other) other)
+refers_where tree other text index new same answers tells =
+    subst (λ (t : Forest (Keyed Node)). TellsReferences new (evaluated_document (author_sheet text t) t)) (sym same) (λ id key. answers id key ∙ tells id key)
+
+-- where no element refers to an id, neither does the index know of one
+pub none_where_plain : (author : Sheet) (document : Forest (Keyed Node)) (index : Index) → TellsReferences index (evaluated_document author document) → is_plain author document ≡ true
+    → (id : List ℕ) (key : ℕ) → is_reference index id key ≡ false
+none_where_plain author document index tells plain id key = tells id key ∙ plain_refers_to_none author document plain id key
+
+pub plain_tells_none : (author : Sheet) (document : Forest (Keyed Node)) (index : Index) → ((id : List ℕ) (key : ℕ) → is_reference index id key ≡ false) → is_plain author document ≡ true
+    → TellsReferences index (evaluated_document author document)
+plain_tells_none author document index none plain id key = none id key ∙ sym (plain_refers_to_none author document plain id key)
+
+-- The index that was made anew, or else the one that was there.
+
+pub of_index : (P : Index → Type 0) (made : Option Index) (index : Index) → IfSome made P → (made ≡ None → P index) → P (unwrap_or made index)
+of_index P None index some none = none refl
+of_index P (Some new) index some none = some
