@@ -1,0 +1,12 @@
+//! Where the writing of a line stands.
+
+/// Where the writing of a line stands.
+#[derive(Clone, Copy, Debug, PartialEq, Eq)]
+pub enum LineState {
+    /// Nothing stands in the line yet.
+    Start,
+    /// The line ends with a word, which may go on.
+    Word,
+    /// The line ends with a word, and blanks came after it.
+    Blank,
+}
