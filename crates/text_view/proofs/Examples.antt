@@ -1,6 +1,6 @@
 -- The definitions, computed on small texts.
-use Rattle.std.proofs.Common.{◌≡◌, ℕ, true, false, List, [], ◌∷◌, ◌++◌, refl, codes}
-use Rattle.text_view.specs.Lines.{Piece, Break, Characters, between_breaks, collapsed, is_blank, lines}
+use Rattle.std.proofs.Common.{◌≡◌, [], ◌∷◌, ◌++◌, refl, codes}
+use Rattle.text_view.specs.Lines.{Break, Characters, collapsed, lines}
 
 -- a text that stands where an element without a name for breaks has its marks
 quoted : lines (Break ∷ Characters (codes "x ") ∷ Characters (8220 ∷ []) ∷ Characters (codes " y") ∷ Characters (8221 ∷ []) ∷ Characters (10 ∷ codes " z") ∷ Break ∷ []) ≡ codes "x “ y” z" ++ 10 ∷ []

@@ -2,7 +2,7 @@
 use Rattle.std.proofs.Common.{◌≡◌, ℕ, Bool, true, false, cond, List, [], ◌∷◌, ◌++◌, refl, sym, ap, ap₂, ◌∙◌, append_assoc, append-nil}
 use Rattle.std.specs.List.{filter, flat_map, join_with_byte, onto_first, slice_split}
 use Rattle.text_view.specs.Lines.{Piece, Break, Characters, between_breaks, collapsed, ended, has_some, in_front, is_blank, lines}
-use Rattle.text_view.specs.Machinery.Writing.{behind, behind_blank, behind_text, left_to_write, line_end, shown, space_before}
+use Rattle.text_view.specs.Machinery.Writing.{behind_blank, behind_pieces, behind_text, line_end, pieces_shown, shown, space_before}
 use Rattle.text_view.specs.declared.line_state.LineState.{LineState}
 use Rattle.text_view.specs.declared.line_state.LineState.TheVariants.{Start, Word, Blank}
 use Rattle.text_view.proofs.WritingLaws.{behind-append, shown-append}
@@ -62,17 +62,23 @@ in_front_of_both : (one other : List ℕ) (texts : List (List ℕ)) → in_front
 in_front_of_both one other [] = refl
 in_front_of_both one other (text ∷ texts) = ap (λ first. first ∷ texts) (sym (append_assoc one other text))
 
+-- what is written from here to the end
+abbrev left_to_write : LineState → List Piece → List ℕ
+left_to_write state pieces = pieces_shown state pieces ++ line_end (behind_pieces state pieces)
+
 behind_some : (text : List ℕ) (pieces : List Piece)
     → shown Start text ++ left_to_write (behind_text Start text) pieces ≡ flat_map (λ text. ended (collapsed text)) (in_front text (between_breaks pieces))
 behind_some text [] = one_line text ∙ ap (λ t. ended (collapsed t)) (sym (append-nil text)) ∙ sym (append-nil (ended (collapsed (text ++ []))))
 behind_some text (Break ∷ pieces) =
-    sym (append_assoc (shown Start text) (line_end (behind_text Start text)) (left_to_write Start pieces))
+    ap (λ rest. shown Start text ++ rest) (append_assoc (line_end (behind_text Start text)) (pieces_shown Start pieces) (line_end (behind_pieces Start pieces)))
+    ∙ sym (append_assoc (shown Start text) (line_end (behind_text Start text)) (left_to_write Start pieces))
     ∙ ap₂ (λ line rest. line ++ rest) (one_line text ∙ ap (λ t. ended (collapsed t)) (sym (append-nil text))) (behind_some [] pieces ∙ nothing_in_front (between_breaks pieces))
 behind_some text (Characters more ∷ pieces) =
-    sym (append_assoc (shown Start text) (shown (behind_text Start text) more) (left_to_write (behind_text (behind_text Start text) more) pieces))
+    ap (λ rest. shown Start text ++ rest) (append_assoc (shown (behind_text Start text) more) (pieces_shown (behind_text (behind_text Start text) more) pieces) (line_end (behind_pieces (behind_text (behind_text Start text) more) pieces)))
+    ∙ sym (append_assoc (shown Start text) (shown (behind_text Start text) more) (left_to_write (behind_text (behind_text Start text) more) pieces))
     ∙ ap₂ (λ line (s : LineState). line ++ left_to_write s pieces) (sym (shown-append Start text more)) (sym (behind-append Start text more))
     ∙ behind_some (text ++ more) pieces
     ∙ ap (flat_map (λ text. ended (collapsed text))) (sym (in_front_of_both text more (between_breaks pieces)))
 
-pub written_are_lines : (pieces : List Piece) → left_to_write Start pieces ≡ lines pieces
+pub written_are_lines : (pieces : List Piece) → pieces_shown Start pieces ++ line_end (behind_pieces Start pieces) ≡ lines pieces
 written_are_lines pieces = behind_some [] pieces ∙ nothing_in_front (between_breaks pieces)

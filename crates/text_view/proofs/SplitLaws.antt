@@ -1,5 +1,5 @@
 -- Texts that are split at the first byte of a class, or outside it.
-use Rattle.std.proofs.Common.{◌≡◌, ◌≤◌, ◌<◌, ℕ, zero, suc, Bool, true, false, not, ◌||◌, ◌&&◌, cond, List, [], ◌∷◌, ◌++◌, length, take, drop, Option, None, Some, unwrap_or, refl, sym, ap, ap₂, ◌∙◌, arith, inl, inr, add-one, drop-cons, get_or}
+use Rattle.std.proofs.Common.{◌≡◌, ◌≤◌, ◌<◌, ℕ, zero, suc, Bool, true, false, not, ◌&&◌, List, [], ◌∷◌, length, take, drop, Option, None, Some, unwrap_or, refl, sym, ap, ap₂, ◌∙◌, arith, inl, inr, add-one, drop-cons, get_or}
 use Rattle.std.specs.List.{list_all, list_any, position, position_or_len}
 use Rattle.std.specs.Prelude.{SomeIff}
 use Rattle.std.proofs.lemmas.Bool.{cases_lt, cond-true, cond-false, le-ltb, lt-ltb, or_parts}

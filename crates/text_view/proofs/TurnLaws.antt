@@ -1,5 +1,5 @@
 -- The turns of the code that puts the words of a text: a word, and the gap after it.
-use Rattle.std.proofs.Common.{◌≡◌, ◌==◌, ◌<◌, ◌+◌, ℕ, Bool, true, false, List, [], ◌∷◌, ◌++◌, Option, length, refl, sym, ap, ap₂, ◌∙◌, append_assoc, append-nil, arith, length-append}
+use Rattle.std.proofs.Common.{◌≡◌, ◌==◌, ◌<◌, ℕ, true, List, ◌++◌, Option, length, sym, ap, ◌∙◌, append_assoc, append-nil, arith, length-append}
 use Rattle.ports.specs.Grown.{grown, GrowsByFront}
 use Rattle.ports.proofs.GrownLemmas.{front_after, grown_after}
 use Rattle.text_view.specs.Machinery.Writing.{behind_blank, behind_text, shown}

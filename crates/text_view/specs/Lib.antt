@@ -1,2 +1,4 @@
+pub mod Breaks
 pub mod Lines
 pub mod Machinery
+pub mod Views

@@ -1,21 +1,27 @@
-//! Lines of text, written as their texts and breaks come.
+//! A document as lines of text, with its generated texts in place.
 //!
-//! What goes in is texts, with breaks between lines. In a line each run of blanks is one space, and there are none at its
-//! ends; what is empty then is no line, and a line feed ends each other one. Blanks are the space, the tab, the line
-//! feed, the form feed and the carriage return; the no-break space is none. The format is our own.
+//! What a reader hears of a page, where it is read aloud: the characters of its texts, and the texts of the marker, before
+//! and after boxes where they stand. Elements such as `p` and `li` begin a line and end it; others stand in it. What is in
+//! an element without a box is not there. In a line each run of blanks is one space, and there are none at its ends; what
+//! is empty then is no line, and a line feed ends each other one. Blanks are the ASCII whitespace of Infra, 4.6; the
+//! no-break space is none. The format is our own.
 //!
-//! The layer above knows these lines by one word of `specs/`: `lines pieces`. A writer puts them to a sink piece by
-//! piece, and takes no memory.
+//! What goes in is an `Engine` (`marker_engine`), which has the generated texts already. [`view::view`] goes over its
+//! document once, and puts the lines to a sink as their texts and breaks come.
+//!
+//! The layer above knows these bytes by one word of `specs/`: `text_view sheet tree` (`specs/Views.antt`). It stands on
+//! `lines` (`specs/Lines.antt`) and on the names of `specs/Breaks.antt`.
 //!
 //! ```text
-//! let mut writer = LineWriter::new();
-//! writer.put_text("1. ", out)?;
-//! writer.put_text(" a\n b ", out)?;
-//! writer.put_break(out)?;    // `1. a b` and a line feed stand in `out`
+//! let engine = Engine::start(alloc, tree, "", steps)?;    // <ol><li>a</li><li>b <q> c</q></li></ol>
+//! view(alloc, &engine, out, steps)?;                      // the lines `1. a` and `2. b “ c”`
 //! ```
 #![tactic(auto)]
 
-pub mod line_state;
-pub mod line_writer;
+mod line_state;
+mod line_writer;
+mod names;
+mod open_element;
 #[cfg(test)]
 mod tests;
+pub mod view;

@@ -1,8 +1,8 @@
 //! Where the writing of a line stands.
 
 /// Where the writing of a line stands.
-#[derive(Clone, Copy, Debug, PartialEq, Eq)]
-pub enum LineState {
+#[derive(Clone, Copy)]
+pub(crate) enum LineState {
     /// Nothing stands in the line yet.
     Start,
     /// The line ends with a word, which may go on.

@@ -16,7 +16,7 @@ use std::marker::Model;
 
 /// A writer of lines. Contracts see where it stands.
 #[derive(Drop)]
-pub struct LineWriter {
+pub(crate) struct LineWriter {
     blanks: ByteClass,
     state: LineState,
 }
@@ -35,7 +35,7 @@ impl Model for LineWriter {
 
 impl LineWriter {
     /// A writer at the start of a line. It takes no memory.
-    pub fn new() -> LineWriter
+    pub(crate) fn new() -> LineWriter
         ensures start { result ≡ states.Start }
     {
         LineWriter {
@@ -47,7 +47,7 @@ impl LineWriter {
     /// Puts a text behind what stands in the line: its words, with one space for the blanks before each. Blanks at its
     /// end wait for the next word. After `Failed` a front of its bytes went out. It takes no memory, and time linear in
     /// the text.
-    pub fn put_text<O: Sink>(&mut self, text: &str, out: &mut O) -> Result<(), Failed>
+    pub(crate) fn put_text<O: Sink>(&mut self, text: &str, out: &mut O) -> Result<(), Failed>
         ensures ok { OnOk result (O.out out.new ≡ grown (O.out out.old) (shown self.old text.now)) }
         ensures state { OnOk result (self.new ≡ behind_text self.old text.now) }
         ensures failed { OnErr result (GrowsByFront (O.out out.old) (O.out out.new) (shown self.old text.now)) }
@@ -58,7 +58,7 @@ impl LineWriter {
     }
 
     /// Ends the line, where something stands in it. It takes no memory, and constant time.
-    pub fn put_break<O: Sink>(&mut self, out: &mut O) -> Result<(), Failed>
+    pub(crate) fn put_break<O: Sink>(&mut self, out: &mut O) -> Result<(), Failed>
         ensures ok { OnOk result (O.out out.new ≡ grown (O.out out.old) (line_end self.old)) }
         ensures state { OnOk result (self.new ≡ states.Start) }
         ensures failed { OnErr result (GrowsByFront (O.out out.old) (O.out out.new) (line_end self.old)) }

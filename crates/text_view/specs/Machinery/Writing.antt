@@ -1,5 +1,5 @@
 -- How lines are written character by character: a line stands at its start, behind a word, or behind blanks after one.
-use Rattle.std.specs.Prelude.{ℕ, Bool, true, cond, List, [], ◌∷◌, ◌++◌}
+use Rattle.std.specs.Prelude.{ℕ, Bool, true, cond, List, [], ◌∷◌, ◌++◌, encode_utf8_all}
 use Rattle.text_view.specs.Lines.{Piece, Break, Characters, is_blank}
 use Rattle.text_view.specs.declared.line_state.LineState.{LineState}
 use Rattle.text_view.specs.declared.line_state.LineState.TheVariants.{Start, Word, Blank}
@@ -46,8 +46,23 @@ line_end Start = []
 line_end Word = 10 ∷ []
 line_end Blank = 10 ∷ []
 
--- what is written from here to the end
-abbrev pub left_to_write : LineState → List Piece → List ℕ
-left_to_write state [] = line_end state
-left_to_write state (Break ∷ rest) = line_end state ++ left_to_write Start rest
-left_to_write state (Characters text ∷ rest) = shown state text ++ left_to_write (behind_text state text) rest
+-- where the line stands behind a break or a text, and what is written of it
+abbrev pub behind_piece : LineState → Piece → LineState
+behind_piece state Break = Start
+behind_piece state (Characters text) = behind_text state text
+
+abbrev pub piece_shown : LineState → Piece → List ℕ
+piece_shown state Break = line_end state
+piece_shown state (Characters text) = shown state text
+
+-- and so of several
+abbrev pub behind_pieces : LineState → List Piece → LineState
+behind_pieces state [] = state
+behind_pieces state (piece ∷ pieces) = behind_pieces (behind_piece state piece) pieces
+
+abbrev pub pieces_shown : LineState → List Piece → List ℕ
+pieces_shown state [] = []
+pieces_shown state (piece ∷ pieces) = piece_shown state piece ++ pieces_shown (behind_piece state piece) pieces
+
+abbrev pub bytes_shown : LineState → List Piece → List ℕ
+bytes_shown state pieces = encode_utf8_all (pieces_shown state pieces)

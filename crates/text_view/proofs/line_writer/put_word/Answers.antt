@@ -1,7 +1,6 @@
-use Rattle.std.proofs.Common.{◌≡◌, ◌++◌, ◌∙◌, ap, refl, sym}
+use Rattle.std.proofs.Common.{◌++◌, ◌∙◌, ap, refl, sym}
 use Rattle.ports.specs.Grown.{grown}
 use Rattle.ports.proofs.GrownLemmas.{front_more, front_same, front_step, grown_after, grown-nil, on_err}
-use Rattle.text_view.specs.Machinery.Writing.{shown, space_before}
 use Rattle.text_view.proofs.WritingLaws.{no_word, word_parts}
 use Rattle.text_view.proofs.line_writer.put_word.Goals as goal
 

@@ -1,4 +1,4 @@
-use Rattle.std.proofs.Common.{◌≡◌, ◌++◌, ◌∙◌, [], refl, sym, arith, rules}
+use Rattle.std.proofs.Common.{◌++◌, ◌∙◌, [], refl, sym, arith, rules}
 use Rattle.ports.proofs.GrownLemmas.{grown-nil, on_err}
 use Rattle.text_view.proofs.TurnLaws.{front_turn, gap_parts, gap_smaller, gap_state, gap_turn, last_state, last_turn}
 use Rattle.text_view.proofs.WritingLaws.{gap}

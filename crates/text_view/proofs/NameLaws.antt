@@ -1,0 +1,43 @@
+-- Names of ASCII, compared by their bytes.
+use Rattle.std.proofs.Common.{◌≡◌, ℕ, Bool, true, List, [], ◌∷◌, nat_lt, refl, sym, ap, ◌∙◌, arith}
+use Rattle.std.specs.List.{list_all, list_any}
+use Rattle.std.specs.Str.{chars, encode_utf8_all, bytes_eq, IsUtf8, IsAscii}
+use Rattle.std.proofs.lemmas.Bool.{and_parts}
+use Rattle.std.proofs.lemmas.Bool.Decides.{nat_tests, same_from_decides}
+use Rattle.std.proofs.lemmas.Slice.Eq.{bytes_eq-Decides}
+use Rattle.std.proofs.lemmas.Str.{chars-IsAscii, encodes-IsAscii, encodes-chars}
+use Rattle.std.proofs.lemmas.Str.Ascii.{IsAscii-cons, IsAscii-nil}
+use Rattle.text_view.specs.Breaks.{breaking_names}
+
+abbrev is_ascii : List ℕ → Bool
+is_ascii bytes = list_all (λ byte. nat_lt byte 128) bytes
+
+ascii_from_test : (bytes : List ℕ) → is_ascii bytes ≡ true → IsAscii bytes
+ascii_from_test [] h = IsAscii-nil
+ascii_from_test (b ∷ bytes) h =
+    let p = and_parts (nat_lt b 128) (is_ascii bytes) h in
+    let small = p.0 in
+    IsAscii-cons b bytes (grind (arith, nat_tests)) (ascii_from_test bytes p.1)
+
+same_name : (bs name : List ℕ) → IsUtf8 bs → is_ascii name ≡ true → bytes_eq bs name ≡ bytes_eq (chars bs) name
+same_name bs name utf8 small = same_from_decides (bytes_eq bs name) (bytes_eq (chars bs) name) (bytes_eq-Decides bs name) (to_characters, to_bytes)
+  where
+    ascii : IsAscii name
+    ascii = ascii_from_test name small
+
+    to_characters : bytes_eq (chars bs) name ≡ true → bs ≡ name
+    to_characters e = sym (encodes-chars bs utf8) ∙ ap encode_utf8_all ((bytes_eq-Decides (chars bs) name).0 e) ∙ encodes-IsAscii name ascii
+
+    to_bytes : bs ≡ name → bytes_eq (chars bs) name ≡ true
+    to_bytes e = (bytes_eq-Decides (chars bs) name).1 (ap chars e ∙ chars-IsAscii name ascii)
+
+among : (names : List (List ℕ)) (bs : List ℕ) → IsUtf8 bs → list_all (λ (name : List ℕ). is_ascii name) names ≡ true
+    → list_any (bytes_eq bs) names ≡ list_any (bytes_eq (chars bs)) names
+among [] bs utf8 all = refl
+among (name ∷ names) bs utf8 all =
+    let p = and_parts (is_ascii name) (list_all (λ (n : List ℕ). is_ascii n) names) all in
+    rw (same_name bs name utf8 p.0, among names bs utf8 p.1) refl
+
+pub breaking_by_bytes : (bs : List ℕ) → IsUtf8 bs → list_any (bytes_eq bs) breaking_names ≡ list_any (bytes_eq (chars bs)) breaking_names
+unfolding breaking_names
+breaking_by_bytes bs utf8 = among breaking_names bs utf8 refl
