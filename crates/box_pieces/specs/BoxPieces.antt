@@ -19,10 +19,11 @@ refers_in made = option_map_or (λ (box : Made). some_refers box.pieces) made fa
 abbrev pub refers : ElementRecord → Bool
 refers element = refers_in element.marker || (refers_in element.before || refers_in element.after)
 
--- the pieces of the boxes of an element
+-- the pieces of a box
 abbrev pub pieces_in : Made → List Piece
 pieces_in made = made.pieces
 
+-- those of the boxes of an element
 abbrev pub pieces_of : ElementRecord → BoxPieces
 pieces_of element =
     record { marker = option_map pieces_in element.marker; before = option_map pieces_in element.before; after = option_map pieces_in element.after }
