@@ -1,5 +1,5 @@
 -- Changes that were reserved.
-use Rattle.std.proofs.Common.{◌≡◌, ◌<◌, ◌≤◌, ◌+◌, ◌∙◌, ℕ, cond, List, [], ◌∷◌, ◌++◌, Some, count_by, drop, get_or, length, slice_get, suc, ap, refl, subst, sym, inl, inr, add-one, drop-cons, arith}
+use Rattle.std.proofs.Common.{◌≡◌, ◌<◌, ◌≤◌, ◌+◌, ◌∙◌, ℕ, cond, List, [], ◌∷◌, ◌++◌, Some, count_by, drop, get_or, length, slice_get, suc, ap, ap₂, append-nil, refl, subst, sym, inl, inr, add-one, drop-cons, arith}
 use Rattle.std.specs.Option.{option_to_list}
 use Rattle.std.specs.Str.{bytes_eq}
 use Rattle.std.proofs.lemmas.Bool.{cases_Bool}
@@ -10,7 +10,7 @@ use Rattle.target_index.specs.declared.change.IndexChange.{IndexChange}
 use Rattle.target_index.specs.declared.change.Relation.{Relation}
 use Rattle.target_index.specs.declared.change.Relation.TheVariants.{Holder, Reference}
 use Rattle.target_index.specs.declared.index.Index.{Index}
-use Rattle.target_index.specs.Changes.{AreReserved, HasRoomFor, added_id, added_ids}
+use Rattle.target_index.specs.Changes.{AreReserved, AddsNoHolders, AddsNoReferences, HasRoomFor, added_id, added_ids}
 use Rattle.target_index.specs.Counts.{count_of}
 use Rattle.target_index.specs.Pairs.{Pairs, room_of}
 
@@ -44,6 +44,27 @@ front_reserved index front rest h = record {
   holders = front_room Holder index.holders front rest h.holders;
   references = front_room Reference index.references front rest h.references;
 }
+
+-- Changes of the one relation, with others behind them.
+
+added_both : (relation : Relation) (some more : List IndexChange) → added_ids relation (some ++ more) ≡ added_ids relation some ++ added_ids relation more
+added_both relation some more = flat_map-append (λ change. option_to_list (added_id relation change)) some more
+
+module _ (some more : List IndexChange) where
+  pub no_holders_both : AddsNoHolders some → AddsNoHolders more → AddsNoHolders (some ++ more)
+  no_holders_both one other = added_both Holder some more ∙ ap₂ (λ (ids others : List (List ℕ)). ids ++ others) one other
+
+  pub no_references_both : AddsNoReferences some → AddsNoReferences more → AddsNoReferences (some ++ more)
+  no_references_both one other = added_both Reference some more ∙ ap₂ (λ (ids others : List (List ℕ)). ids ++ others) one other
+
+  -- changes of references and changes of holders need each their own
+  pub both_reserved : (index : Index) → AddsNoHolders some → AddsNoReferences more → AreReserved index some → AreReserved index more → AreReserved index (some ++ more)
+  both_reserved index no_holders no_references one other = record {
+    holders = subst (HasRoomFor index.holders) (sym (added_both Holder some more ∙ ap (λ (ids : List (List ℕ)). ids ++ added_ids Holder more) no_holders)) other.holders;
+    references = subst (HasRoomFor index.references)
+        (sym (added_both Reference some more ∙ ap (λ (ids : List (List ℕ)). added_ids Reference some ++ ids) no_references ∙ append-nil (added_ids Reference some)))
+        one.references;
+  }
 
 -- there is room for ids as often as they are counted
 pub room_for_counts : (counts : List (List ℕ × ℕ)) (pairs : Pairs) → ((place : ℕ) (counted : List ℕ × ℕ) → place < length counts → slice_get counts place ≡ Some counted → counted.1 ≤ room_of pairs counted.0)

@@ -1,5 +1,5 @@
 -- What changes make of the pairs of an index (our own).
-use Rattle.std.specs.Prelude.{ℕ, ◌≤◌, nat_eq, Bool, true, false, ◌&&◌, cond, List, Option, Some, None, count_by, flat_map, fold}
+use Rattle.std.specs.Prelude.{ℕ, ◌≡◌, ◌≤◌, nat_eq, Bool, true, false, ◌&&◌, cond, List, [], Option, Some, None, count_by, flat_map, fold}
 use Rattle.std.specs.Option.{option_to_list}
 use Rattle.std.specs.Str.{bytes_eq}
 use Rattle.target_index.specs.declared.change.IndexChange.{IndexChange}
@@ -46,6 +46,13 @@ added_id _ _ = None
 -- the ids to which changes add pairs, each as often as they do
 abbrev pub added_ids : Relation → List IndexChange → List (List ℕ)
 added_ids relation changes = flat_map (λ change. option_to_list (added_id relation change)) changes
+
+-- they add no pair of the one relation, or of the other
+abbrev pub AddsNoHolders : List IndexChange → Type 0
+AddsNoHolders changes = added_ids Holder changes ≡ []
+
+abbrev pub AddsNoReferences : List IndexChange → Type 0
+AddsNoReferences changes = added_ids Reference changes ≡ []
 
 -- there is room for a pair more of each of these ids
 abbrev pub HasRoomFor : Pairs → List (List ℕ) → Type 0

@@ -34,12 +34,13 @@ impl Index {
         }
     }
 
-    /// Takes the memory that these changes need. It may enter ids that have no pair yet, also where it answers
-    /// `Memory`. It takes time linear in the changes and their ids, amortized.
+    /// Takes the memory that these changes need. What was reserved before stays reserved. It may enter ids that have no
+    /// pair yet, also where it answers `Memory`. It takes time linear in the changes and their ids, amortized.
     pub fn reserve_for(&mut self, alloc: Global, changes: &[IndexChange]) -> Result<(), Memory>
         ensures holders { (id : List ℕ) → holders_of self.new id ≡ holders_of self.old id }
         ensures references { (id : List ℕ) → references_of self.new id ≡ references_of self.old id }
         ensures reserved { OnOk result (AreReserved self.new changes.now) }
+        ensures stay { (before : List IndexChange) → AreReserved self.old before → AreReserved self.new before }
     {
         let held = count_added(alloc, changes, Relation::Holder)?;
         let referred = count_added(alloc, changes, Relation::Reference)?;

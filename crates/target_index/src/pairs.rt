@@ -68,6 +68,7 @@ impl Pairs {
     /// Makes room for as many more keys of each id as it is counted.
     pub(crate) fn reserve_all(&mut self, alloc: Global, counts: &Counts) -> Result<(), Memory>
         ensures keys { (other : List ℕ) → keys_of self.new other ≡ keys_of self.old other }
+        ensures kept { (other : List ℕ) → room_of self.old other ≤ room_of self.new other }
         ensures room { OnOk result ((other : List ℕ) → count_of counts.now other ≤ room_of self.new other) }
     {
         for place in 0..counts.len() {

@@ -5,5 +5,6 @@ use Rattle.target_index.proofs.pairs.Pairs.reserve_all.Given as goal
 abbrev pub invariant-loop-place : goal.invariant-loop-place
 invariant-loop-place l = record {
   keys : (other : List ℕ) → keys_of l.self other ≡ keys_of l.fn.self other;
+  kept : (other : List ℕ) → room_of l.fn.self other ≤ room_of l.self other;
   made : (place : ℕ) (counted : List ℕ × ℕ) → place < l.place → slice_get l.counts place ≡ Some counted → counted.1 ≤ room_of l.self counted.0;
 }
