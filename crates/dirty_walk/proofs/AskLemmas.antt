@@ -20,7 +20,7 @@ use Rattle.box_eval.specs.Starts.{any_asks_for_start, document_starts, has_start
 use Rattle.merged_walk.specs.Evaluators.{told_all}
 use Rattle.surroundings.specs.StyledEvaluators.{root_surroundings, styled_evaluator}
 use Rattle.surroundings.proofs.Asking.{asks-all}
-use Rattle.dirty_walk.specs.Evaluations.{told_of}
+use Rattle.kept_elements.specs.Evaluations.{told_of}
 use Rattle.dirty_walk.specs.Plain.{are_plain}
 use Rattle.dirty_walk.proofs.PlainLemmas.{no_asks}
 use Rattle.dirty_walk.proofs.StartLemmas.{unasked_told}

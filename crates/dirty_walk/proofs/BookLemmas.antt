@@ -1,7 +1,8 @@
 -- What is kept of a document's elements is what a fresh evaluation keeps.
 use Rattle.std.proofs.Common.{◌≡◌, ℕ, List, ap, ◌∙◌}
+use Rattle.std.specs.Prelude.{option_map}
 use Rattle.forest.specs.Forest.{Forest}
-use Rattle.forest.specs.Keys.{Keyed}
+use Rattle.forest.specs.Keys.{HasDistinctKeys, Keyed}
 use Rattle.plain_types.specs.declared.node.Node.{Node}
 use Rattle.plain_types.specs.declared.sheet.Sheet.{Sheet}
 use Rattle.mini_cascade.specs.Styles.{element_style}
@@ -11,7 +12,10 @@ use Rattle.generated_texts.specs.StyleElements.{author_sheet}
 use Rattle.surroundings.specs.declared.told.Told.{Told}
 use Rattle.dirty_walk.specs.declared.document_styles.DocumentStyles.{DocumentStyles}
 use Rattle.dirty_walk.specs.DocumentStyles.{document_styles, read_styles}
-use Rattle.dirty_walk.specs.Evaluations.{all_kept_of, document_kept, document_told, said_of, told_of}
+use Rattle.kept_elements.specs.declared.kept.Kept.{Kept}
+use Rattle.kept_elements.proofs.ToldLemmas.{entry_in}
+use Rattle.dirty_walk.specs.Books.{Keeps, KeepsAll, StyledDocument}
+use Rattle.kept_elements.specs.Evaluations.{all_kept_of, document_kept, document_told, said_of, told_of}
 
 pub evaluation_told : (tree : Forest (Keyed Node)) (agent : Sheet) (styles : DocumentStyles) (text : List ℕ) → agent ≡ agent_sheet → styles ≡ document_styles text tree
     → (told : List (ℕ × Told)) → told ≡ told_of styles.table (element_style tree agent styles.author) tree → told ≡ document_told (author_sheet text tree) tree
@@ -28,3 +32,7 @@ unfolding read_styles
 kept_are tree styles told text are_styles are_told =
     ap (λ (s : DocumentStyles). all_kept_of s.table (known_targets s.table tree (said_of told)) told) are_styles
     ∙ ap (λ (t : List (ℕ × Told)). all_kept_of (counter_styles (author_sheet text tree)) (known_targets (counter_styles (author_sheet text tree)) tree (said_of t)) t) are_told
+
+-- where all is kept, the entries are
+pub keeps_entries : (styled : StyledDocument) → HasDistinctKeys styled.tree → KeepsAll styled → Keeps styled
+keeps_entries styled distinct keeps key = ap (option_map (λ (kept : Kept). kept.entry)) (keeps key) ∙ entry_in (author_sheet styled.sheet styled.tree) styled.tree distinct key

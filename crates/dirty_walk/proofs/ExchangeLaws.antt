@@ -25,7 +25,8 @@ use Rattle.dirty_walk.specs.Exchanges.{coming, elements_in, exchanges, first_nod
 use Rattle.referring_elements.specs.Indexes.{IsIndexOf}
 use Rattle.dirty_walk.proofs.ExchangedLemmas.{AreExchanged, exchanged, exchanged-back}
 use Rattle.dirty_walk.proofs.IndexLemmas.{id_exchanged}
-use Rattle.dirty_walk.proofs.SaidLemmas.{put-sum, weigh-labels}
+use Rattle.kept_elements.proofs.SaidLemmas.{weigh-labels}
+use Rattle.dirty_walk.proofs.PutLemmas.{put-sum}
 use Rattle.dirty_walk.proofs.SplitLemmas.{removed-put}
 use Rattle.dirty_walk.proofs.TakenLemmas.{count-elements, is_named, keys_there, lost_of, none_lost_of, one_element, same_name, set_name, unset_name}
 

@@ -25,7 +25,8 @@ use Rattle.node_arena.proofs.PrepareLaws.{allowed-move}
 use Rattle.node_arena.proofs.TakeLaws.{length-roots}
 use Rattle.edit_merge.specs.Laws.{IsDone}
 use Rattle.dirty_walk.specs.Exchanges.{coming, first_node, leaving}
-use Rattle.dirty_walk.proofs.SaidLemmas.{label-said, often, put-apart, put-said, put-sum, said, times-often}
+use Rattle.kept_elements.proofs.SaidLemmas.{label-said, often, said, times-often}
+use Rattle.dirty_walk.proofs.PutLemmas.{put-apart, put-said, put-sum}
 use Rattle.dirty_walk.proofs.SplitLemmas.{IsPut, around-label, inserted-put, label-in, label-out, others, put-first, removed-put}
 
 -- of each key two documents say the same, but for the nodes that go from the first and come into the second

@@ -1,5 +1,5 @@
 -- What is taken of a board goes in the merge of the edit.
-use Rattle.std.proofs.Common.{◌≤◌, ◌+◌, ◌≡◌, ℕ, zero, suc, Bool, true, false, List, [], ◌∷◌, length, refl, ap, arith}
+use Rattle.std.proofs.Common.{◌≤◌, ◌≡◌, ℕ, zero, suc, Bool, true, false, List, [], ◌∷◌, length, refl, ap, arith}
 use Rattle.std.proofs.lemmas.List.{length-map}
 use Rattle.forest.specs.Forest.{Forest, Empty, Tree, labels}
 use Rattle.forest.specs.Keys.{Keyed}
@@ -17,7 +17,7 @@ use Rattle.styled_merge.specs.Reached.{reached}
 use Rattle.styled_merge.proofs.ReachedLaws.{at_kept, at_turned}
 use Rattle.dirty_walk.specs.declared.exchange.ElementId.{ElementId}
 use Rattle.dirty_walk.specs.Exchanges.{elements_in, leaving, taken_keys}
-use Rattle.dirty_walk.proofs.SaidLemmas.{weigh-labels}
+use Rattle.kept_elements.proofs.SaidLemmas.{weigh-labels}
 use Rattle.dirty_walk.proofs.TakenLemmas.{count-elements, one_element}
 
 -- The elements of the tree that is removed go.

@@ -18,7 +18,7 @@ use Rattle.dirty_walk.specs.Exchanges.{element_of, elements_in, exchanges, held,
 use Rattle.referring_elements.specs.Indexes.{holds_id}
 use Rattle.generated_texts.specs.References.{has_id}
 use Rattle.dirty_walk.proofs.ExchangedLemmas.{AreExchanged}
-use Rattle.dirty_walk.proofs.SaidLemmas.{label-said, often, often-cons, said, silent, times-often}
+use Rattle.kept_elements.proofs.SaidLemmas.{label-said, often, often-cons, said, silent, times-often}
 
 module _ (id : List ℕ) (key : ℕ) where
   -- the element is that one, and has this id

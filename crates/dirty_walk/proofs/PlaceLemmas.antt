@@ -1,7 +1,6 @@
 -- A walk from the place of an edit finds what comes to a board.
-use Rattle.std.proofs.Common.{◌≡◌, ◌≢◌, ◌≤◌, ◌+◌, ◌*◌, ◌⊎◌, ℕ, Bool, true, false, List, [], ◌∷◌, length, map, Option, Some, None, refl, sym, ap, subst, ◌∙◌, inl, inr, arith, unwrap_or, Global}
+use Rattle.std.proofs.Common.{◌≡◌, ◌≢◌, ◌≤◌, ◌+◌, ◌*◌, ◌⊎◌, ℕ, true, false, List, [], ◌∷◌, length, map, Option, Some, None, refl, sym, ap, subst, ◌∙◌, inl, inr, arith, unwrap_or}
 use Rattle.std.specs.Prelude.{All, Contains, IfSome, option_map}
-use Rattle.std.specs.Prelude.{Vec}
 use Rattle.std.proofs.lemmas.Bool.{cases_Bool, true≢false}
 use Rattle.std.specs.FinMap.{FinMap, get}
 use Rattle.std.specs.Ordering.{nat_cmp}
@@ -53,22 +52,22 @@ use Rattle.styled_merge.specs.StyledMerges.{styled_merge}
 use Rattle.styled_merge.proofs.LawLemmas.{documents_style_merges, starts_are_their_own}
 use Rattle.styled_merge.proofs.StopLemmas.{styled_reaches_are_walkable}
 use Rattle.dirty_walk.specs.declared.document_styles.DocumentStyles.{DocumentStyles}
-use Rattle.dirty_walk.specs.declared.kept.Kept.{Kept}
+use Rattle.kept_elements.specs.declared.kept.Kept.{Kept}
 use Rattle.dirty_walk.specs.declared.local_stops.LocalStops.{LocalStops}
 use Rattle.dirty_walk.specs.declared.styled_arena.StyledArena.{StyledArena}
-use Rattle.dirty_walk.specs.Changes.{AreChanges, Renews}
+use Rattle.kept_elements.specs.Changes.{AreChanges, Renews}
 use Rattle.dirty_walk.specs.DocumentStyles.{document_styles, read_styles}
-use Rattle.dirty_walk.specs.Evaluations.{all_kept_of, document_kept, document_told, kept_of, said_of}
+use Rattle.kept_elements.specs.Evaluations.{all_kept_of, document_kept, document_told, kept_of, said_of}
 use Rattle.dirty_walk.specs.PlaceReadings.{read_of}
 use Rattle.dirty_walk.specs.PlaceStyles.{StandsBefore}
 use Rattle.dirty_walk.specs.Places.{IsLocalEdit, IsSomePlace, IsWithinPlace, nothing_known, place_budget, place_merge, reading_of, walked_at}
 use Rattle.dirty_walk.specs.Plain.{are_plain, is_plain, rests_on_others}
 use Rattle.dirty_walk.proofs.AskLemmas.{plain_without_starts, without_starts_plain}
-use Rattle.dirty_walk.proofs.KnownLemmas.{kept_mapped}
+use Rattle.kept_elements.proofs.KnownLemmas.{kept_mapped}
 use Rattle.dirty_walk.proofs.PlainLemmas.{all_plain, each_plain, same_kept}
 use Rattle.dirty_walk.proofs.PlanLemmas.{its_author}
-use Rattle.dirty_walk.proofs.RenewalLemmas.{at_first, kept_there, later, once_there, renews, the_one}
-use Rattle.dirty_walk.proofs.ToldLemmas.{kept_count, told_once}
+use Rattle.kept_elements.proofs.RenewalLemmas.{at_first, kept_there, later, once_there, renews, the_one}
+use Rattle.kept_elements.proofs.ToldLemmas.{kept_count, told_once}
 
 contains_mapped : {A B : Type 0} (f : A → B) (xs : List A) (x : A) → Contains xs x → Contains (map f xs) (f x)
 contains_mapped f [] x there = absurd (omega (arith, there.1))

@@ -16,7 +16,7 @@ use Rattle.generated_texts.specs.declared.entry.BoxText.{BoxText}
 use Rattle.generated_texts.specs.declared.entry.NodeEntry.{NodeEntry}
 use Rattle.generated_texts.specs.Entries.{box_text, node_entry}
 use Rattle.surroundings.specs.declared.told.Told.{Told}
-use Rattle.dirty_walk.specs.Evaluations.{kept_of}
+use Rattle.kept_elements.specs.Evaluations.{kept_of}
 use Rattle.dirty_walk.specs.Plain.{are_plain, rests_on_others}
 
 -- Texts.

@@ -12,7 +12,7 @@ use Rattle.plain_types.specs.declared.sheet.Sheet.{Sheet}
 use Rattle.node_arena.specs.declared.reversal.Reversal.{Reversal}
 use Rattle.node_arena.specs.Document.{Document}
 use Rattle.node_arena.specs.Nodes.{name_of}
-use Rattle.dirty_walk.specs.declared.kept.Kept.{Kept}
+use Rattle.kept_elements.specs.declared.kept.Kept.{Kept}
 use Rattle.css_reader.specs.Features.{features}
 use Rattle.generated_texts.specs.StyleElements.{author_sheet, style_texts}
 use Rattle.node_arena.specs.Reversals.{IsSettled}

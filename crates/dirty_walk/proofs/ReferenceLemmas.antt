@@ -1,22 +1,19 @@
 -- The references of a document's elements, and an index that tells of them.
-use Rattle.std.proofs.Common.{◌≡◌, ◌++◌, ◌||◌, ◌∙◌, ℕ, Bool, true, false, List, [], ◌∷◌, Option, Some, None, flat_map, unwrap_or, refl, sym, ap, subst}
-use Rattle.std.specs.Prelude.{IfSome, codes, is_some, option_map}
-use Rattle.std.specs.List.{filter_map, list_any}
+use Rattle.std.proofs.Common.{◌≡◌, ◌++◌, ◌∙◌, ℕ, Bool, true, false, List, [], ◌∷◌, Option, Some, None, flat_map, unwrap_or, refl, sym, ap, subst}
+use Rattle.std.specs.Prelude.{IfSome, codes, option_map}
+use Rattle.std.specs.List.{list_any}
 use Rattle.std.specs.Option.{option_map_or}
 use Rattle.std.specs.Str.{bytes_eq}
-use Rattle.std.proofs.lemmas.Bool.{or_parts, true≢false}
+use Rattle.std.proofs.lemmas.Bool.{or_parts}
 use Rattle.forest.specs.Forest.{Forest}
 use Rattle.forest.specs.Keys.{Keyed, keys}
 use Rattle.plain_types.specs.declared.node.Node.{Node}
 use Rattle.plain_types.specs.declared.sheet.Sheet.{Sheet}
 use Rattle.node_arena.specs.Nodes.{attr_of}
-use Rattle.content_eval.specs.declared.generated.Piece.{Piece}
-use Rattle.content_eval.specs.Targets.{reference}
 use Rattle.box_eval.specs.declared.element_record.ElementRecord.{ElementRecord}
-use Rattle.box_eval.specs.declared.made.Made.{Made}
 use Rattle.generated_texts.specs.References.{kept_at}
 use Rattle.generated_texts.specs.StyleElements.{author_sheet}
-use Rattle.edit_work.specs.KeyedSources.{references_in, references_of}
+use Rattle.edit_work.specs.KeyedSources.{references_of}
 use Rattle.surroundings.specs.declared.told.Told.{Told}
 use Rattle.target_index.specs.declared.change.IndexChange.{IndexChange}
 use Rattle.target_index.specs.declared.change.IndexChange.TheVariants.{Hold}
@@ -26,37 +23,16 @@ use Rattle.target_index.specs.Holders.{is_reference}
 use Rattle.referring_elements.specs.Indexes.{TellsReferences, refers_to}
 use Rattle.referring_elements.specs.References.{AreOnce}
 use Rattle.dirty_walk.specs.declared.exchange.ElementId.{ElementId}
-use Rattle.dirty_walk.specs.Evaluations.{document_told, evaluated_document}
+use Rattle.kept_elements.specs.Evaluations.{document_told, evaluated_document}
 use Rattle.dirty_walk.specs.Exchanges.{exchanges, held, unheld}
-use Rattle.box_pieces.specs.BoxPieces.{refers, refers_in, some_refers}
+use Rattle.box_pieces.specs.BoxPieces.{refers}
 use Rattle.dirty_walk.specs.Plain.{is_plain, rests_on_others}
-use Rattle.dirty_walk.proofs.ChangeLemmas.{HasKeysOnce}
+use Rattle.kept_elements.proofs.ChangeLemmas.{HasKeysOnce}
 use Rattle.dirty_walk.proofs.IdLemmas.{id_change, id_changes}
-use Rattle.dirty_walk.proofs.KnownLemmas.{kept_mapped}
+use Rattle.kept_elements.proofs.KnownLemmas.{kept_mapped}
+use Rattle.kept_elements.proofs.NoReferences.{of_element}
 use Rattle.dirty_walk.proofs.PlainLemmas.{each_plain}
-use Rattle.dirty_walk.proofs.RenewalLemmas.{kept_there}
-
--- Where no piece refers to an id, no element does.
-
-none_of : (o : Option (List ℕ)) → is_some o ≡ false → o ≡ None
-none_of None none = refl
-none_of (Some id) none = absurd (true≢false none)
-
-of_pieces : (pieces : List Piece) → some_refers pieces ≡ false → filter_map reference pieces ≡ []
-of_pieces [] none = refl
-of_pieces (piece ∷ pieces) none =
-    let each = or_parts (is_some (reference piece)) (some_refers pieces) none in
-    rw (none_of (reference piece) each.0) (of_pieces pieces each.1)
-
-of_box : (made : Option Made) → refers_in made ≡ false → references_in made ≡ []
-of_box None none = refl
-of_box (Some made) none = of_pieces made.pieces none
-
-of_element : (said : ElementRecord) → refers said ≡ false → references_of said ≡ []
-of_element said none =
-    let first = or_parts (refers_in said.marker) (refers_in said.before || refers_in said.after) none in
-    let last = or_parts (refers_in said.before) (refers_in said.after) first.1 in
-    rw (of_box said.marker first.0, of_box said.before last.0, of_box said.after last.1) refl
+use Rattle.kept_elements.proofs.RenewalLemmas.{kept_there}
 
 -- in a plain document no element refers to an id
 pub plain_refers_to_none : (author : Sheet) (document : Forest (Keyed Node)) → is_plain author document ≡ true → (id : List ℕ) (key : ℕ) → refers_to (evaluated_document author document) id key ≡ false

@@ -10,21 +10,21 @@ use Rattle.plain_types.specs.declared.edit.Edit.{Edit}
 use Rattle.plain_types.specs.declared.node.Node.{Node}
 use Rattle.plain_types.specs.declared.sheet.Sheet.{Sheet}
 use Rattle.node_arena.specs.Nodes.{name_of}
-use Rattle.dirty_walk.specs.declared.kept.Kept.{Kept}
+use Rattle.kept_elements.specs.declared.kept.Kept.{Kept}
 use Rattle.generated_texts.specs.References.{kept_at}
 use Rattle.generated_texts.specs.StyleElements.{author_sheet}
 use Rattle.document_walk.specs.Elements.{element_count}
 use Rattle.snapshot_board.specs.Records.{put_all, take_all}
 use Rattle.dirty_walk.specs.Books.{HasRoomFor}
-use Rattle.dirty_walk.specs.Changes.{AreBelow, Renews}
-use Rattle.dirty_walk.specs.Evaluations.{document_kept}
+use Rattle.kept_elements.specs.Changes.{AreBelow, Renews}
+use Rattle.kept_elements.specs.Evaluations.{document_kept}
 use Rattle.edit_merge.specs.Laws.{IsDone}
 use Rattle.dirty_walk.specs.Exchanges.{elements_in, leaving, taken_keys}
 use Rattle.dirty_walk.specs.Plans.{AreOfElements}
-use Rattle.dirty_walk.proofs.ChangeLemmas.{HasKeysOnce}
+use Rattle.kept_elements.proofs.ChangeLemmas.{HasKeysOnce}
 use Rattle.dirty_walk.proofs.ExchangeLaws.{taken_count, takes_are}
-use Rattle.dirty_walk.proofs.RenewalLemmas.{are_of, room_for_all, settles}
-use Rattle.dirty_walk.proofs.ToldLemmas.{kept_count, kept_keys, kept_once}
+use Rattle.kept_elements.proofs.RenewalLemmas.{are_of, room_for_all, settles}
+use Rattle.kept_elements.proofs.ToldLemmas.{kept_count, kept_keys, kept_once}
 
 -- An edit makes one document of another, and other texts of its sheet. A map keeps what an evaluation of the old one does.
 -- The changes come to it, and the keys of the elements that are gone go.

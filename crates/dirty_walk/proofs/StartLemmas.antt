@@ -19,7 +19,7 @@ use Rattle.surroundings.specs.declared.surroundings.Surroundings.{Surroundings}
 use Rattle.surroundings.specs.declared.told.Told.{Told}
 use Rattle.surroundings.specs.Surroundings.{handed_by, surroundings_of}
 use Rattle.surroundings.specs.StyledEvaluators.{root_surroundings, styled_evaluator}
-use Rattle.dirty_walk.specs.Evaluations.{told_of}
+use Rattle.kept_elements.specs.Evaluations.{told_of}
 
 -- An element that asks for no start has none, whatever the starts are; and one without a box has none.
 unasked : (start : BoxId → List ℕ → ℤ) (key : ℕ) (style : ElementStyle) (element : Styled) → element.starts ≡ element_starts no_starts key style → (b : Bool) → generates_box style ≡ b → node_asks_for_start b (Element element) ≡ false

@@ -18,7 +18,7 @@ use Rattle.dirty_walk.specs.declared.exchange.ElementId.{ElementId}
 use Rattle.document_walk.specs.Elements.{one_where}
 use Rattle.dirty_walk.specs.Exchanges.{element_of, elements_in, first_node}
 use Rattle.dirty_walk.proofs.ExchangedLemmas.{AreExchanged}
-use Rattle.dirty_walk.proofs.SaidLemmas.{label-said, often, often-cons, said, silent, times-often}
+use Rattle.kept_elements.proofs.SaidLemmas.{label-said, often, often-cons, said, silent, times-often}
 
 -- whether a label is that of an element
 abbrev pub is_named : Option Node → Bool

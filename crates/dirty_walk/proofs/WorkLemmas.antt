@@ -1,5 +1,5 @@
 -- The steps of an edit are within its work.
-use Rattle.std.proofs.Common.{◌≡◌, ◌≢◌, ◌≤◌, ◌+◌, ◌*◌, ◌⊎◌, ◌∙◌, ℕ, Bool, true, false, List, Option, Some, None, IfSome, sym, ap, inl, inr, arith}
+use Rattle.std.proofs.Common.{◌≡◌, ◌≢◌, ◌≤◌, ◌+◌, ◌*◌, ◌⊎◌, ◌∙◌, ℕ, true, false, List, Option, Some, None, IfSome, sym, ap, inl, inr, arith}
 use Rattle.std.specs.Prelude.{IfNone, is_some}
 use Rattle.std.specs.FinMap.{FinMap, get}
 use Rattle.std.specs.Ordering.{nat_cmp}
@@ -8,12 +8,11 @@ use Rattle.forest.specs.Forest.{Forest}
 use Rattle.forest.specs.Keys.{Keyed, without_keys}
 use Rattle.plain_types.specs.declared.edit.Edit.{Edit}
 use Rattle.plain_types.specs.declared.node.Node.{Node}
-use Rattle.plain_types.specs.declared.sheet.Sheet.{Sheet}
 use Rattle.node_arena.specs.Edits.{edited_sheet}
 use Rattle.node_arena.specs.Nodes.{node_name}
 use Rattle.box_eval.specs.Evaluation.{StyledNode}
 use Rattle.box_eval.specs.Starts.{no_starts}
-use Rattle.generated_texts.specs.Documents.{agent_sheet, counter_styles}
+use Rattle.generated_texts.specs.Documents.{counter_styles}
 use Rattle.generated_texts.specs.References.{kept_at}
 use Rattle.generated_texts.specs.StyleElements.{author_sheet}
 use Rattle.merged_walk.specs.Counts.{budget, gone_count}
@@ -25,7 +24,7 @@ use Rattle.document_walk.specs.Elements.{element_count, one_where}
 use Rattle.document_walk.proofs.ElementLemmas.{weigh-without_keys}
 use Rattle.edit_merge.specs.EditMerges.{edit_merge, is_element}
 use Rattle.edit_merge.specs.Laws.{IsDone}
-use Rattle.style_reach.specs.Reaches.{all_features, reach}
+use Rattle.style_reach.specs.Reaches.{reach}
 use Rattle.style_reach.specs.declared.extent.Reach.TheVariants.{All}
 use Rattle.style_reach.proofs.AuthorLaws.{sheet-stays, touches-not}
 use Rattle.styled_merge.specs.Laws.{HasShape, looks_beside, style_beside}
@@ -39,10 +38,10 @@ use Rattle.edit_work.specs.Work.{edit_reach, walk_work, work}
 use Rattle.edit_work.proofs.LawLemmas.{whole_reach_is_paid}
 use Rattle.edit_work.proofs.ReachedLemmas.{nodes_reached_are_paid}
 use Rattle.dirty_walk.specs.declared.document_styles.DocumentStyles.{DocumentStyles}
-use Rattle.dirty_walk.specs.declared.kept.Kept.{Kept}
+use Rattle.kept_elements.specs.declared.kept.Kept.{Kept}
 use Rattle.dirty_walk.specs.declared.local_stops.LocalStops.{LocalStops}
 use Rattle.dirty_walk.specs.DocumentStyles.{document_styles}
-use Rattle.dirty_walk.specs.Evaluations.{document_kept}
+use Rattle.kept_elements.specs.Evaluations.{document_kept}
 use Rattle.dirty_walk.specs.PlaceStyles.{IsWithinPlaceOf, StandsBefore}
 use Rattle.dirty_walk.specs.Places.{place_budget}
 use Rattle.dirty_walk.specs.Plain.{is_plain}

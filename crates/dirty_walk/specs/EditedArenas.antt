@@ -5,9 +5,9 @@ use Rattle.node_arena.specs.Edits.{edited_sheet}
 use Rattle.generated_texts.specs.StyleElements.{author_sheet}
 use Rattle.dirty_walk.specs.declared.document_styles.DocumentStyles.{DocumentStyles}
 use Rattle.dirty_walk.specs.declared.edited_arena.EditedArena.{EditedArena}
-use Rattle.dirty_walk.specs.declared.kept.Kept.{Kept}
+use Rattle.kept_elements.specs.declared.kept.Kept.{Kept}
 use Rattle.dirty_walk.specs.DocumentStyles.{document_styles}
-use Rattle.dirty_walk.specs.Evaluations.{document_kept, evaluated_document}
+use Rattle.kept_elements.specs.Evaluations.{document_kept, evaluated_document}
 use Rattle.reference_reach.specs.ChangedTargets.{Evaluated}
 use Rattle.dirty_walk.specs.Plain.{is_plain}
 

@@ -1,14 +1,14 @@
 pub mod Books
-pub mod Changes
 pub mod DocumentStyles
 pub mod EditedArenas
-pub mod Evaluations
 pub mod Exchanges
-pub mod Known
+pub mod FormerTargets
+pub mod Machinery
 pub mod NamedElements
 pub mod PlaceReadings
 pub mod PlaceStyles
 pub mod Places
 pub mod Plain
 pub mod Plans
+pub mod ReferenceExchanges
 pub mod WorkBounds

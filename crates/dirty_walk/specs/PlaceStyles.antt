@@ -12,7 +12,7 @@ use Rattle.style_reach.specs.Reaches.{reach}
 use Rattle.styled_merge.specs.Laws.{looks_beside}
 use Rattle.styled_merge.specs.ReachStops.{reach_stops}
 use Rattle.dirty_walk.specs.declared.document_styles.DocumentStyles.{DocumentStyles}
-use Rattle.dirty_walk.specs.declared.kept.Kept.{Kept}
+use Rattle.kept_elements.specs.declared.kept.Kept.{Kept}
 use Rattle.dirty_walk.specs.declared.local_stops.LocalStops.{LocalStops}
 use Rattle.dirty_walk.specs.DocumentStyles.{document_styles}
 use Rattle.dirty_walk.specs.Places.{IsLocalEdit, place_budget}

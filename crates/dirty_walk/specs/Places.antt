@@ -25,8 +25,8 @@ use Rattle.styled_merge.specs.StopLaws.{stops_where}
 use Rattle.styled_merge.specs.StyledMerges.{styled_merge}
 use Rattle.surroundings.specs.declared.walked.Walked.{Walked}
 use Rattle.surroundings.specs.StyledEvaluators.{root_surroundings, styled_evaluator}
-use Rattle.dirty_walk.specs.declared.kept.Kept.{Kept}
-use Rattle.dirty_walk.specs.Evaluations.{document_kept}
+use Rattle.kept_elements.specs.declared.kept.Kept.{Kept}
+use Rattle.kept_elements.specs.Evaluations.{document_kept}
 use Rattle.dirty_walk.specs.Plain.{is_plain}
 
 -- nothing is known of any element

@@ -8,7 +8,7 @@ use Rattle.plain_types.specs.declared.node.Node.{Node}
 use Rattle.plain_types.specs.declared.sheet.Sheet.{Sheet}
 use Rattle.box_pieces.specs.BoxPieces.{refers}
 use Rattle.surroundings.specs.declared.told.Told.{Told}
-use Rattle.dirty_walk.specs.Evaluations.{document_told}
+use Rattle.kept_elements.specs.Evaluations.{document_told}
 
 -- an element rests on more than what it is handed
 abbrev pub rests_on_others : Told → Bool

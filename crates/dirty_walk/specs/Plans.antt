@@ -5,11 +5,11 @@ use Rattle.forest.specs.Forest.{Forest}
 use Rattle.forest.specs.Keys.{Keyed}
 use Rattle.plain_types.specs.declared.node.Node.{Node}
 use Rattle.node_arena.specs.Nodes.{name_of}
-use Rattle.dirty_walk.specs.declared.kept.Kept.{Kept}
+use Rattle.kept_elements.specs.declared.kept.Kept.{Kept}
 use Rattle.snapshot_board.specs.Records.{put_all, take_all}
 use Rattle.dirty_walk.specs.declared.plan.Plan.{Plan}
 use Rattle.dirty_walk.specs.Books.{KeepsAll, StyledDocument}
-use Rattle.dirty_walk.specs.Changes.{AreOthers}
+use Rattle.kept_elements.specs.Changes.{AreOthers}
 
 -- what the book is once the plan is committed: it has the document and the sheet that it has by then, and of what it
 -- keeps some goes, and then some comes

@@ -2,9 +2,9 @@
 
 ghost use Rattle.std.specs.Prelude.{◌≡◌, ◌+◌, length, IfOk};
 ghost use Rattle.snapshot_board.specs.Records.{put_all, take_all};
-ghost use Rattle.dirty_walk.specs.Changes.{AreBelow};
+ghost use Rattle.kept_elements.specs.Changes.{AreBelow};
 
-use crate::kept::Kept;
+use kept_elements::kept::Kept;
 use plain_types::memory::Memory;
 use snapshot_board::board::Board;
 use std::sync::ledger::Ledger;

@@ -26,13 +26,13 @@ use crate::document_styles::DocumentStyles;
 use crate::edited_arena::EditedArena;
 use crate::exchange::{ElementId, inserts_one_tree, leaving_elements, taken_keys};
 use crate::fresh::{Fresh, agent_sheet, fresh_board};
-use crate::kept::Kept;
 use crate::local_stops::LocalStops;
 use crate::places::stops_at_place;
 use crate::plan::Plan;
 use crate::planning::{Renewal, evaluated};
 use crate::style_elements::style_texts;
 use generated_texts::entry::NodeEntry;
+use kept_elements::kept::Kept;
 use node_arena::arena::Arena;
 use node_arena::laws::arena_holds_document;
 use node_arena::reversal::Reversal;
@@ -73,7 +73,7 @@ pub struct Book {
 impl Model for Book {
     ghost use Rattle.std.specs.Prelude.{is_none};
     ghost use Rattle.plain_types.specs.contracts.node.Node as node;
-    ghost use Rattle.dirty_walk.specs.contracts.kept.Kept as kept;
+    ghost use Rattle.kept_elements.specs.contracts.kept.Kept as kept;
     ghost use Rattle.dirty_walk.specs.Books.{IsBook, StyledDocument, coded_styled_document};
 
     ghost Value = { StyledDocument };

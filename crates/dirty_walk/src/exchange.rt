@@ -106,7 +106,7 @@ fn elements_from(alloc: Global, arena: &Arena, key: usize) -> Result<List<Elemen
 }
 
 /// The elements of a tree, where there is one.
-fn tree_elements(
+pub(crate) fn tree_elements(
     alloc: Global,
     arena: &Arena,
     link: Option<usize>,

@@ -3,7 +3,7 @@
 //! A [`book::Book`] is made from a tree and the text of a style sheet, and tells the [`NodeEntry`] of each element: its
 //! counters, its depths, and the texts of its boxes. What that is is said by `generated_texts`. With its entry what an
 //! element was handed is kept, and what was handed on behind its children, and the pieces of its boxes where one of them
-//! refers to an id ([`kept::Kept`]). It lies on a board of `snapshot_board`, under the key of the element: each element has
+//! refers to an id ([`Kept`]). It lies on a board of `snapshot_board`, under the key of the element: each element has
 //! it, and a text has not.
 //!
 //! The author's sheet is that of the text, and behind it those of the document's style elements. A book keeps it read:
@@ -42,27 +42,25 @@
 //! ```
 //!
 //! [`NodeEntry`]: generated_texts::entry::NodeEntry
+//! [`Kept`]: kept_elements::kept::Kept
 #![tactic(auto)]
 
 mod board;
 pub mod book;
-mod by_key;
-mod characters;
 mod document_styles;
 mod edited_arena;
 mod evaluation;
 mod exchange;
-mod flat_texts;
+mod former_targets;
 mod fresh;
 mod index;
-pub mod kept;
 mod local_stops;
 mod named_elements;
-mod node_texts;
 mod places;
 mod plain;
 pub mod plan;
 mod planning;
+mod reference_exchange;
 mod style_elements;
 mod styled_arena;
 mod targets;

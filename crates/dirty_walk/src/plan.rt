@@ -1,6 +1,6 @@
 //! Edits that a book is ready to do.
 
-use crate::kept::Kept;
+use kept_elements::kept::Kept;
 use plain_types::list::List;
 
 /// What becomes of a book by an edit, whose document and styles have it already: what of that which

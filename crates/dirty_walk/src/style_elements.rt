@@ -6,8 +6,8 @@ ghost use Rattle.forest.specs.Spots.{IsLive, label_of};
 ghost use Rattle.node_arena.specs.Nodes.{attr_of};
 ghost use Rattle.generated_texts.specs.StyleElements.{has_sheet, is_css, style_text_of, style_texts};
 
-use crate::characters::characters_under;
 use css_tokens::words::is_word;
+use kept_elements::characters::characters_under;
 use node_arena::arena::Arena;
 use plain_types::list::List;
 use plain_types::memory::Memory;

@@ -7,13 +7,13 @@ ghost use Rattle.std.specs.Str.{chars};
 ghost use Rattle.forest.specs.Spots.{IsLink};
 ghost use Rattle.content_eval.specs.Targets.{target_id};
 ghost use Rattle.generated_texts.specs.References.{first_holder, kept_at};
-ghost use Rattle.dirty_walk.specs.Known.{IsKeptIn, flat_in};
+ghost use Rattle.kept_elements.specs.Known.{IsKeptIn, flat_in};
 
-use crate::characters::characters_under;
-use crate::flat_texts::FlatTexts;
 use crate::named_elements::NamedElements;
 use content_eval::targets::{Targets, target_id};
 use counter_sets::counter_set::CounterSet;
+use kept_elements::characters::characters_under;
+use kept_elements::flat_texts::FlatTexts;
 use plain_types::content::Part;
 use plain_types::memory::Memory;
 use plain_types::text::Text;
@@ -47,7 +47,7 @@ impl<'a> DocumentTargets<'a> {
 }
 
 impl<'a> Targets for DocumentTargets<'a> {
-    ghost use Rattle.dirty_walk.specs.Known.{known_by};
+    ghost use Rattle.kept_elements.specs.Known.{known_by};
 
     ghost known = { λ targets. known_by targets.named.now.arena.now.tree targets.listed.now targets.listed_flats.now };
 

@@ -39,7 +39,7 @@ pub struct Engine {
 
 impl Model for Engine {
     ghost use Rattle.plain_types.specs.contracts.node.Node as node;
-    ghost use Rattle.dirty_walk.specs.contracts.kept.Kept as kept;
+    ghost use Rattle.kept_elements.specs.contracts.kept.Kept as kept;
     ghost use Rattle.dirty_walk.specs.Books.{StyledDocument, coded_styled_document};
     ghost use Rattle.marker_engine.specs.Engines.{IsEvaluated};
 

@@ -1,6 +1,6 @@
 use Rattle.std.proofs.Common.{◌≡◌, ◌+◌, length}
 use Rattle.snapshot_board.specs.Records.{put_all}
-use Rattle.dirty_walk.specs.Changes.{AreBelow}
+use Rattle.kept_elements.specs.Changes.{AreBelow}
 use Rattle.dirty_walk.proofs.board.put_changes.Given as goal
 
 abbrev pub invariant-loop-key : goal.invariant-loop-key

@@ -1,5 +1,5 @@
 use Rattle.std.proofs.Common.{take}
-use Rattle.dirty_walk.specs.Changes.{AreBelow}
+use Rattle.kept_elements.specs.Changes.{AreBelow}
 use Rattle.dirty_walk.proofs.board.room_for.Given as goal
 
 abbrev pub invariant-loop-key : goal.invariant-loop-key

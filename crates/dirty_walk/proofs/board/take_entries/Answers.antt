@@ -2,7 +2,7 @@ use Rattle.std.proofs.Common.{◌≡◌, ◌+◌, ◌∙◌, ◌∷◌, [], ap, 
 use Rattle.std.proofs.lemmas.List.{take_more}
 use Rattle.std.specs.FinMap.{remove}
 use Rattle.snapshot_board.specs.Records as records
-use Rattle.dirty_walk.proofs.ChangeLemmas.{take_all-append}
+use Rattle.kept_elements.proofs.ChangeLemmas.{take_all-append}
 use Rattle.dirty_walk.proofs.board.take_entries.Goals as goal
 
 pub loop-key-preserved : goal.loop-key-preserved

@@ -5,11 +5,11 @@ use Rattle.forest.specs.Keys.{Keyed}
 use Rattle.plain_types.specs.declared.node.Node.{Node}
 use Rattle.content_eval.specs.Targets.{Known}
 use Rattle.generated_texts.specs.References.{known_targets}
-use Rattle.dirty_walk.specs.declared.flat_texts.FlatTexts.{FlatTexts}
-use Rattle.dirty_walk.specs.Changes.{AreChanges}
-use Rattle.dirty_walk.specs.Evaluations.{all_kept_of, said_of}
-use Rattle.dirty_walk.specs.Known.{known_by}
-use Rattle.dirty_walk.proofs.KnownLemmas.{same_known}
+use Rattle.kept_elements.specs.declared.flat_texts.FlatTexts.{FlatTexts}
+use Rattle.kept_elements.specs.Changes.{AreChanges}
+use Rattle.kept_elements.specs.Evaluations.{all_kept_of, said_of}
+use Rattle.kept_elements.specs.Known.{known_by}
+use Rattle.kept_elements.proofs.KnownLemmas.{same_known}
 use Rattle.dirty_walk.proofs.evaluation.document_changes.Goals as goal
 
 pub returns-clause-changes : goal.returns-clause-changes

@@ -1,6 +1,6 @@
 use Rattle.std.proofs.Common.{◌∙◌}
 use Rattle.std.proofs.lemmas.Result.{IfOk-weaker}
-use Rattle.dirty_walk.proofs.KnownLemmas.{all_same}
+use Rattle.kept_elements.proofs.KnownLemmas.{all_same}
 use Rattle.dirty_walk.proofs.evaluation.document_flat_texts.Goals as goal
 
 pub returns : goal.returns

@@ -6,10 +6,10 @@ use Rattle.plain_types.specs.declared.node.Node.{Node}
 use Rattle.content_eval.specs.Targets.{Known}
 use Rattle.generated_texts.specs.References.{known_targets}
 use Rattle.snapshot_board.specs.Records.{put_all}
-use Rattle.dirty_walk.specs.declared.flat_texts.FlatTexts.{FlatTexts}
-use Rattle.dirty_walk.specs.Evaluations.{all_kept_of, said_of}
-use Rattle.dirty_walk.specs.Known.{known_by}
-use Rattle.dirty_walk.proofs.KnownLemmas.{same_known}
+use Rattle.kept_elements.specs.declared.flat_texts.FlatTexts.{FlatTexts}
+use Rattle.kept_elements.specs.Evaluations.{all_kept_of, said_of}
+use Rattle.kept_elements.specs.Known.{known_by}
+use Rattle.kept_elements.proofs.KnownLemmas.{same_known}
 use Rattle.dirty_walk.proofs.evaluation.put_document_entries.Goals as goal
 
 pub returns-clause-held : goal.returns-clause-held

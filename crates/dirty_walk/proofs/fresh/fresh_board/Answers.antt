@@ -5,17 +5,17 @@ use Rattle.generated_texts.specs.Documents.{counter_styles}
 use Rattle.generated_texts.specs.References.{known_targets}
 use Rattle.generated_texts.specs.StyleElements.{author_sheet}
 use Rattle.snapshot_board.specs.Records.{put_all}
-use Rattle.dirty_walk.specs.declared.kept.Kept.{Kept}
+use Rattle.kept_elements.specs.declared.kept.Kept.{Kept}
 use Rattle.referring_elements.specs.Indexes.{TellsReferences}
 use Rattle.referring_elements.specs.References.{AreOnce}
 use Rattle.surroundings.specs.declared.told.Told.{Told}
-use Rattle.dirty_walk.specs.Evaluations.{document_kept, document_told, kept_of, said_of}
+use Rattle.kept_elements.specs.Evaluations.{document_kept, document_told, kept_of, said_of}
 use Rattle.dirty_walk.specs.Plain.{are_plain}
 use Rattle.dirty_walk.proofs.BookLemmas.{kept_are}
-use Rattle.dirty_walk.proofs.ChangeLemmas.{has_key, key_of, put_whole, some-kept}
-use Rattle.dirty_walk.proofs.RecordLemmas.{has_key-mapped}
+use Rattle.kept_elements.proofs.ChangeLemmas.{has_key, key_of, put_whole, some-kept}
+use Rattle.kept_elements.proofs.RecordLemmas.{has_key-mapped}
 use Rattle.dirty_walk.proofs.ReferenceLemmas.{are_once}
-use Rattle.dirty_walk.proofs.ToldLemmas.{kept_keys, kept_once, told_once}
+use Rattle.kept_elements.proofs.ToldLemmas.{kept_keys, kept_once, told_once}
 use Rattle.dirty_walk.proofs.fresh.fresh_board.Goals as goal
 
 pub returns-clause-keeps : goal.returns-clause-keeps

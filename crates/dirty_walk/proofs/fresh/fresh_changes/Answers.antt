@@ -1,16 +1,16 @@
 use Rattle.std.proofs.Common.{◌∙◌, ℕ, List, ap, subst, sym}
-use Rattle.dirty_walk.specs.declared.kept.Kept.{Kept}
+use Rattle.kept_elements.specs.declared.kept.Kept.{Kept}
 use Rattle.generated_texts.specs.StyleElements.{author_sheet}
-use Rattle.dirty_walk.specs.Changes.{AreChanges}
+use Rattle.kept_elements.specs.Changes.{AreChanges}
 use Rattle.referring_elements.specs.Indexes.{TellsReferences}
 use Rattle.referring_elements.specs.References.{AreOnce}
 use Rattle.surroundings.specs.declared.told.Told.{Told}
-use Rattle.dirty_walk.specs.Evaluations.{document_kept, document_told, said_of}
+use Rattle.kept_elements.specs.Evaluations.{document_kept, document_told, said_of}
 use Rattle.dirty_walk.specs.Plain.{are_plain}
 use Rattle.dirty_walk.proofs.BookLemmas.{kept_are}
 use Rattle.dirty_walk.proofs.ReferenceLemmas.{are_once}
-use Rattle.dirty_walk.proofs.RenewalLemmas.{renews}
-use Rattle.dirty_walk.proofs.ToldLemmas.{told_once}
+use Rattle.kept_elements.proofs.RenewalLemmas.{renews}
+use Rattle.kept_elements.proofs.ToldLemmas.{told_once}
 use Rattle.dirty_walk.proofs.fresh.fresh_changes.Goals as goal
 
 pub returns-clause-changes : goal.returns-clause-changes

@@ -5,9 +5,9 @@ use Rattle.mini_cascade.specs.Styles.{element_style}
 use Rattle.generated_texts.specs.StyleElements.{author_sheet}
 use Rattle.document_walk.specs.Elements.{element_count}
 use Rattle.surroundings.specs.declared.told.Told.{Told}
-use Rattle.dirty_walk.specs.Evaluations.{document_told, told_of}
+use Rattle.kept_elements.specs.Evaluations.{document_told, told_of}
 use Rattle.dirty_walk.proofs.BookLemmas.{evaluation_told}
-use Rattle.dirty_walk.proofs.ToldLemmas.{told_count}
+use Rattle.kept_elements.proofs.ToldLemmas.{told_count}
 use Rattle.dirty_walk.proofs.fresh.told_of.Goals as goal
 
 pub returns-clause-told : goal.returns-clause-told

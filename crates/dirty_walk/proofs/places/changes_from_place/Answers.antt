@@ -1,14 +1,14 @@
 use Rattle.std.proofs.Common.{◌≡◌, ◌≤◌, ◌+◌, ◌∙◌, ℕ, List, ap, arith, length, subst, sym}
 use Rattle.surroundings.specs.declared.told.Told.{Told}
-use Rattle.dirty_walk.specs.declared.kept.Kept.{Kept}
-use Rattle.dirty_walk.specs.Changes.{AreBelow, AreChanges}
-use Rattle.dirty_walk.specs.Evaluations.{all_kept_of}
+use Rattle.kept_elements.specs.declared.kept.Kept.{Kept}
+use Rattle.kept_elements.specs.Changes.{AreBelow, AreChanges}
+use Rattle.kept_elements.specs.Evaluations.{all_kept_of}
 use Rattle.dirty_walk.specs.Places.{nothing_known}
 use Rattle.dirty_walk.specs.Plain.{are_plain}
-use Rattle.dirty_walk.proofs.ChangeLemmas.{below-more}
+use Rattle.kept_elements.proofs.ChangeLemmas.{below-more}
 use Rattle.std.proofs.lemmas.List.{length-map}
 use Rattle.dirty_walk.proofs.PlaceLemmas.{is_plain_now, read_within_place, renews_now, rests, stands, within_place}
-use Rattle.dirty_walk.proofs.RenewalLemmas.{renews}
+use Rattle.kept_elements.proofs.RenewalLemmas.{renews}
 use Rattle.dirty_walk.proofs.places.changes_from_place.Goals as goal
 
 pub caught_from-requires : goal.caught_from-requires

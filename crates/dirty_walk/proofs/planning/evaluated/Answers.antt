@@ -14,7 +14,7 @@ use Rattle.target_index.specs.Holders.{is_holder, is_reference}
 use Rattle.dirty_walk.specs.declared.document_styles.DocumentStyles.{DocumentStyles}
 use Rattle.dirty_walk.specs.declared.edited_arena.EditedArena.{EditedArena}
 use Rattle.dirty_walk.specs.declared.exchange.ElementId.{ElementId}
-use Rattle.dirty_walk.specs.declared.kept.Kept.{Kept}
+use Rattle.kept_elements.specs.declared.kept.Kept.{Kept}
 use Rattle.dirty_walk.specs.declared.local_stops.LocalStops.{LocalStops}
 use Rattle.dirty_walk.specs.EditedArenas.{author_after, evaluated_after, is_plain_after}
 use Rattle.dirty_walk.specs.Exchanges.{IsIndexBefore, coming, elements_in, exchanges}

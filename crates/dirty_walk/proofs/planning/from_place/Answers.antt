@@ -9,11 +9,11 @@ use Rattle.plain_types.specs.declared.node.Node.{Node}
 use Rattle.generated_texts.specs.StyleElements.{author_sheet}
 use Rattle.merged_walk.specs.declared.stop.Stop.{Stop}
 use Rattle.dirty_walk.specs.declared.document_styles.DocumentStyles.{DocumentStyles}
-use Rattle.dirty_walk.specs.declared.kept.Kept.{Kept}
+use Rattle.kept_elements.specs.declared.kept.Kept.{Kept}
 use Rattle.dirty_walk.specs.declared.local_stops.LocalStops.{LocalStops}
-use Rattle.dirty_walk.specs.Changes.{Renews}
+use Rattle.kept_elements.specs.Changes.{Renews}
 use Rattle.dirty_walk.specs.EditedArenas.{is_plain_after}
-use Rattle.dirty_walk.specs.Evaluations.{document_kept}
+use Rattle.kept_elements.specs.Evaluations.{document_kept}
 use Rattle.dirty_walk.specs.PlaceStyles.{IsWithinPlaceOf, StandsBefore}
 use Rattle.dirty_walk.specs.Places.{IsWithinPlace}
 use Rattle.dirty_walk.specs.Plain.{is_plain}

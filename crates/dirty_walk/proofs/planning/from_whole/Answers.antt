@@ -6,10 +6,10 @@ use Rattle.plain_types.specs.declared.node.Node.{Node}
 use Rattle.generated_texts.specs.StyleElements.{author_sheet, style_texts}
 use Rattle.node_arena.specs.Edits.{edited_sheet}
 use Rattle.dirty_walk.specs.declared.document_styles.DocumentStyles.{DocumentStyles}
-use Rattle.dirty_walk.specs.Changes.{Renews}
+use Rattle.kept_elements.specs.Changes.{Renews}
 use Rattle.dirty_walk.specs.DocumentStyles.{document_styles}
 use Rattle.referring_elements.specs.Indexes.{TellsReferences}
-use Rattle.dirty_walk.specs.Evaluations.{document_kept, evaluated_document}
+use Rattle.kept_elements.specs.Evaluations.{document_kept, evaluated_document}
 use Rattle.dirty_walk.specs.Plain.{is_plain}
 use Rattle.dirty_walk.proofs.PlanLemmas.{its_text, now-unwrap_or, under_its_text}
 use Rattle.dirty_walk.proofs.planning.from_whole.Goals as goal

@@ -1,4 +1,4 @@
-use Rattle.std.proofs.Common.{◌≡◌, ◌⊎◌, ◌∙◌, ap, subst, sym, true, false, Bool, IfSome, None}
+use Rattle.std.proofs.Common.{◌≡◌, ◌⊎◌, ◌∙◌, ap, subst, true, false, Bool, IfSome}
 use Rattle.std.specs.Prelude.{IfNone}
 use Rattle.forest.specs.Forest.{Forest}
 use Rattle.forest.specs.Keys.{Keyed, without_keys}

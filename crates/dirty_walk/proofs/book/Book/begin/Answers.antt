@@ -5,7 +5,7 @@ use Rattle.document_walk.specs.Elements.{element_count}
 use Rattle.generated_texts.specs.StyleElements.{style_texts}
 use Rattle.dirty_walk.proofs.PlanLemmas.{its_text, kept_where, plain_where, under_its_text}
 use Rattle.dirty_walk.proofs.ReferenceLemmas.{refers_where}
-use Rattle.dirty_walk.proofs.ToldLemmas.{keeps_entries}
+use Rattle.dirty_walk.proofs.BookLemmas.{keeps_entries}
 use Rattle.dirty_walk.proofs.book.Book.begin.Goals as goal
 
 pub fresh_board-requires-clause-styles : goal.fresh_board-requires-clause-styles

@@ -13,7 +13,7 @@ use Rattle.dirty_walk.specs.Plans.{IsPlannedBy, settled_after}
 use Rattle.dirty_walk.proofs.PlanLemmas.{index_where, is_settled, kept_where, plain_where, room_where}
 use Rattle.dirty_walk.proofs.ReferenceLemmas.{refers_where}
 use Rattle.dirty_walk.proofs.SettlingLemmas.{below_of}
-use Rattle.dirty_walk.proofs.ToldLemmas.{keeps_entries}
+use Rattle.dirty_walk.proofs.BookLemmas.{keeps_entries}
 use Rattle.dirty_walk.proofs.book.Book.commit.Goals as goal
 
 pub put_changes-requires : goal.put_changes-requires

@@ -4,10 +4,10 @@ use Rattle.forest.specs.Forest.{Forest}
 use Rattle.forest.specs.Keys.{Keyed, HasDistinctKeys}
 use Rattle.plain_types.specs.declared.node.Node.{Node}
 use Rattle.generated_texts.specs.StyleElements.{author_sheet}
-use Rattle.dirty_walk.specs.declared.kept.Kept.{Kept}
+use Rattle.kept_elements.specs.declared.kept.Kept.{Kept}
 use Rattle.dirty_walk.specs.Books.{StyledDocument, entry_at, fresh_kept}
-use Rattle.dirty_walk.proofs.KeptLemmas.{copied_some}
-use Rattle.dirty_walk.proofs.ToldLemmas.{entry_in, kept_keys}
+use Rattle.kept_elements.proofs.KeptLemmas.{copied_some}
+use Rattle.kept_elements.proofs.ToldLemmas.{entry_in, kept_keys}
 use Rattle.dirty_walk.proofs.book.Book.entry.Goals as goal
 
 pub unwrap-requires : goal.unwrap-requires

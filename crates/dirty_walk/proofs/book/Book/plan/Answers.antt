@@ -14,11 +14,11 @@ use Rattle.generated_texts.specs.References.{kept_at}
 use Rattle.generated_texts.specs.StyleElements.{author_sheet, style_texts}
 use Rattle.document_walk.specs.Elements.{element_count}
 use Rattle.snapshot_board.specs.Records.{put_all, take_all}
-use Rattle.dirty_walk.specs.declared.kept.Kept.{Kept}
+use Rattle.kept_elements.specs.declared.kept.Kept.{Kept}
 use Rattle.dirty_walk.specs.Books.{StyledDocument}
-use Rattle.dirty_walk.specs.Changes.{AreOthers}
+use Rattle.kept_elements.specs.Changes.{AreOthers}
 use Rattle.dirty_walk.specs.declared.local_stops.LocalStops.{LocalStops}
-use Rattle.dirty_walk.specs.Evaluations.{document_kept, evaluated_document}
+use Rattle.kept_elements.specs.Evaluations.{document_kept, evaluated_document}
 use Rattle.target_index.specs.declared.index.Index.{Index}
 use Rattle.target_index.specs.Holders.{is_reference}
 use Rattle.referring_elements.specs.Indexes.{IsIndexOf, TellsReferences}

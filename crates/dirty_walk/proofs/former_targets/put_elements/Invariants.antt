@@ -1,0 +1,6 @@
+use Rattle.std.proofs.Common.{◌≡◌, ◌++◌, take}
+use Rattle.dirty_walk.specs.Machinery.FormerLists.{formers_of}
+use Rattle.dirty_walk.proofs.former_targets.put_elements.Given as goal
+
+abbrev pub invariant-loop-element : goal.invariant-loop-element
+invariant-loop-element l = l.former ≡ l.fn.former ++ formers_of l.arena.tree (take l.element-index l.elements)

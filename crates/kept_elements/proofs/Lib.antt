@@ -1,0 +1,17 @@
+pub mod AgainLemmas
+pub mod ChangeLemmas
+pub mod CharacterTurns
+pub mod CharactersLeft
+pub mod HolderNames
+pub mod KeptLemmas
+pub mod KnownLemmas
+pub mod NamedKeys
+pub mod NoReferences
+pub mod RecordLemmas
+pub mod RenewalLemmas
+pub mod RenewedLemmas
+pub mod RenewedLoops
+pub mod SaidLemmas
+pub mod ToldLemmas
+pub mod StopLemmas
+pub mod WalkedLemmas

@@ -1,0 +1,33 @@
+use Rattle.std.proofs.Common.{◌≡◌, ◌+◌, ◌++◌, ◌∷◌, [], ◌∙◌, ℕ, List, Some, ap, sym, subst, arith, take}
+use Rattle.kept_elements.specs.declared.kept.Kept.{Kept}
+use Rattle.kept_elements.specs.Changes.{AreChanges}
+use Rattle.kept_elements.specs.Evaluations.{all_kept_of, kept_of}
+use Rattle.kept_elements.proofs.ChangeLemmas.{change_more, none_more}
+use Rattle.kept_elements.proofs.node_texts.changed_entries.Goals as goal
+use Rattle.kept_elements.proofs.node_texts.changed_entries.Goals.{in-Some+in_ok-push, in_default}
+
+pub loop-key-preserved : goal.loop-key-preserved
+loop-key-preserved g c =
+    let known = g.T.Targets.known c.args.targets.now in
+    let records = c.args.records.now in
+    let place = c.loop-key.key-index in
+    let entry = c.loop-key-item.result in
+    let held = c.args.board.now.held in
+    let before = c.loop-key.changes.items in
+    let make = kept_of c.args.table.now known in
+    let all = all_kept_of c.args.table.now known (take (place + 1) records) in
+    let same = c.in_ok-kept.ensures.kept in
+    record {
+      changes = elim c.match-unless_held.branch [
+        | in-Some+in_ok-push w ↦
+            let pushed : c.match-unless_held.changes.items ≡ before ++ (entry.0, make entry.1) ∷ [] =
+            ap (λ v. v.items) w.changes-is ∙ w.in_ok-push.ensures.ok ∙ ap (λ (kept : Kept). before ++ (entry.0, kept) ∷ []) (w.in-Some.ensures.some.0 ∙ same) in
+            subst (λ (changes : List (ℕ × Kept)). AreChanges held all changes) (sym pushed)
+            (change_more make records place entry c.loop-key-test.true c.loop-key-item.is held before c.loop-key.invariant.changes (λ there. w.in-Some.ensures.some.1 (there ∙ ap Some (sym same))))
+        | in_default w ↦
+            let kept : c.match-unless_held.changes.items ≡ before = ap (λ v. v.items) w.changes-is in
+            subst (λ (changes : List (ℕ × Kept)). AreChanges held all changes) (sym kept)
+            (none_more make records place entry c.loop-key-test.true c.loop-key-item.is held before c.loop-key.invariant.changes (w.in_default.ensures.none ∙ ap Some same))
+      ];
+      steps = omega arith;
+    }

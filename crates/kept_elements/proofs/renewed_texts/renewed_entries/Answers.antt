@@ -1,0 +1,102 @@
+use Rattle.std.proofs.Common.{◌≡◌, ◌≤◌, ◌++◌, ◌∙◌, ℕ, List, true, ap, ap₂, arith, flat_map, length, nat_eq, subst, sym, take}
+use Rattle.std.specs.Prelude.{IsSome}
+use Rattle.std.specs.FinMap.{FinMap}
+use Rattle.std.specs.List.{IsDistinct}
+use Rattle.std.specs.Ordering.{nat_cmp}
+use Rattle.std.proofs.Math.Seq.{take-append_seam}
+use Rattle.std.proofs.lemmas.Result.{IfOk-weaker}
+use Rattle.forest.specs.Forest.{Forest}
+use Rattle.forest.specs.Keys.{HasDistinctKeys, Keyed, without_keys}
+use Rattle.plain_types.specs.declared.counter_style.CounterStyle.{CounterStyle}
+use Rattle.plain_types.specs.declared.node.Node.{Node}
+use Rattle.node_arena.specs.Nodes.{name_of}
+use Rattle.document_walk.specs.Elements.{element_count}
+use Rattle.edit_work.specs.KeyedSources.{is_among}
+use Rattle.surroundings.specs.declared.told.Told.{Told}
+use Rattle.kept_elements.specs.declared.kept.Kept.{Kept}
+use Rattle.kept_elements.specs.Renewals.{IsSomeEdit, is_told}
+use Rattle.kept_elements.specs.Machinery.Renewals.{IsRenewal, again, with_again}
+use Rattle.kept_elements.proofs.NamedKeys.{few_named}
+use Rattle.kept_elements.proofs.RenewedLemmas.{are_elements, named_first, named_second, renewed}
+use Rattle.kept_elements.proofs.renewed_texts.renewed_entries.Goals as goal
+
+module _ (table : List CounterStyle) (tree : Forest (Keyed Node)) (distinct : HasDistinctKeys tree) (told : List (ℕ × Told)) (held : FinMap nat_cmp Kept) (first second : List ℕ)
+    (edit : IsSomeEdit table tree told held first second) where
+  -- what refers is no more than the elements
+
+  few_first : (keys : List ℕ) → keys ≡ first → IsDistinct nat_eq keys → length keys ≤ element_count (without_keys tree)
+  few_first keys are once =
+      few_named tree distinct keys once
+      (λ key among. named_first table edit.merge edit.old tree edit.was edit.is told held edit.visited first second edit.tells key (sym (ap (λ (ks : List ℕ). is_among ks key) are) ∙ among))
+
+  few_second : (keys : List ℕ) → keys ≡ second → IsDistinct nat_eq keys → length keys ≤ element_count (without_keys tree)
+  few_second keys are once =
+      few_named tree distinct keys once
+      (λ key among. named_second table edit.merge edit.old tree edit.was edit.is told held edit.visited first second edit.tells key (sym (ap (λ (ks : List ℕ). is_among ks key) are) ∙ among))
+
+  named : (records : List (ℕ × Told)) → records ≡ with_again held (with_again held told first) second → (key : ℕ) → is_told records key ≡ true → IsSome (name_of tree key)
+  named records are key there =
+      are_elements table edit.merge edit.old tree edit.was edit.is told held edit.visited first second edit.tells key
+      (sym (ap (λ (rs : List (ℕ × Told)). is_told rs key) are) ∙ there)
+
+-- what is told again comes behind what is told
+put : (held : FinMap nat_cmp Kept) (told some : List (ℕ × Told)) (keys others : List ℕ) (new : List (ℕ × Told)) → some ≡ told → keys ≡ others → new ≡ some ++ flat_map (again held) keys → new ≡ with_again held told others
+put held told some keys others new same are is = is ∙ ap₂ (λ (rs : List (ℕ × Told)) (ks : List ℕ). rs ++ flat_map (again held) ks) same are
+
+-- the first of them
+cut : (some more records : List (ℕ × Told)) (count : ℕ) → count ≡ length some → records ≡ some ++ more → take count records ≡ some
+cut some more records count is are = ap₂ take is are ∙ take-append_seam some more
+
+pub returns-in_err-put_all_again-clause-steps : goal.returns-in_err-put_all_again-clause-steps
+returns-in_err-put_all_again-clause-steps g c =
+    let distinct = c.arena_holds_document.ensures.document.distinct in
+    let first = few_first c.args.table.now c.args.arena.now.tree distinct c.args.told c.args.board.now.held c.args.found.now.first c.args.found.now.second c.requires.edit c.as_slice.result.now c.as_slice.ensures.keys c.as_slice.ensures.once in
+    omega (arith, first, c.put_all_again.ensures.steps)
+
+pub returns-in_err-put_all_again-2-clause-steps : goal.returns-in_err-put_all_again-2-clause-steps
+returns-in_err-put_all_again-2-clause-steps g c =
+    let distinct = c.arena_holds_document.ensures.document.distinct in
+    let first = few_first c.args.table.now c.args.arena.now.tree distinct c.args.told c.args.board.now.held c.args.found.now.first c.args.found.now.second c.requires.edit c.as_slice.result.now c.as_slice.ensures.keys c.as_slice.ensures.once in
+    let second = few_second c.args.table.now c.args.arena.now.tree distinct c.args.told c.args.board.now.held c.args.found.now.first c.args.found.now.second c.requires.edit c.as_slice-2.result.now c.as_slice-2.ensures.keys c.as_slice-2.ensures.once in
+    omega (arith, first, second, c.put_all_again.ensures.steps, c.put_all_again-2.ensures.steps)
+
+pub entries_again-requires-clause-elements : goal.entries_again-requires-clause-elements
+entries_again-requires-clause-elements g c =
+    let held = c.args.board.now.held in
+    let told = c.args.told in
+    let first = c.args.found.now.first in
+    let second = c.args.found.now.second in
+    let some = put held told told c.as_slice.result.now first c.put_all_again.new.records (λ i. told) c.as_slice.ensures.keys c.in_ok-put_all_again.ensures.ok in
+    let all = put held (with_again held told first) c.put_all_again.new.records c.as_slice-2.result.now second c.put_all_again-2.new.records some c.as_slice-2.ensures.keys c.in_ok-put_all_again-2.ensures.ok in
+    named c.args.table.now c.args.arena.now.tree c.arena_holds_document.ensures.document.distinct told held first second c.requires.edit c.as_slice-3.result.now (c.as_slice-3.ensures.items ∙ all)
+
+pub returns-clause-renewal : goal.returns-clause-renewal
+returns-clause-renewal g c =
+    let tree = c.args.arena.now.tree in
+    let table = c.args.table.now in
+    let held = c.args.board.now.held in
+    let told = c.args.told in
+    let first = c.args.found.now.first in
+    let second = c.args.found.now.second in
+    let records = c.as_slice-3.result.now in
+    let flat = with_again held told first in
+    let some = put held told told c.as_slice.result.now first c.put_all_again.new.records (λ i. told) c.as_slice.ensures.keys c.in_ok-put_all_again.ensures.ok in
+    let all : records ≡ with_again held flat second =
+    c.as_slice-3.ensures.items
+    ∙ put held flat c.put_all_again.new.records c.as_slice-2.result.now second c.put_all_again-2.new.records some c.as_slice-2.ensures.keys c.in_ok-put_all_again-2.ensures.ok in
+    let front = cut flat (flat_map (again held) second) records c.len-flat_count.result (c.len-flat_count.ensures.length ∙ ap length some) all in
+    IfOk-weaker c.entries_again.result _ _
+    (λ changes is edit.
+    let renewal : IsRenewal tree table held flat (with_again held flat second) changes.items =
+    subst (λ (rs : List (ℕ × Told)). IsRenewal tree table held flat rs changes.items) all
+    (subst (λ (rs : List (ℕ × Told)). IsRenewal tree table held rs records changes.items) front is) in
+    renewed table edit.merge edit.old tree edit.was edit.is told held edit.visited first second edit.tells
+    renewal.targets renewal.targets_are renewal.keys renewal.keys_are renewal.once changes.items renewal.changes_are)
+    c.entries_again.ensures.renewal
+
+pub returns-clause-steps : goal.returns-clause-steps
+returns-clause-steps g c =
+    let distinct = c.arena_holds_document.ensures.document.distinct in
+    let first = few_first c.args.table.now c.args.arena.now.tree distinct c.args.told c.args.board.now.held c.args.found.now.first c.args.found.now.second c.requires.edit c.as_slice.result.now c.as_slice.ensures.keys c.as_slice.ensures.once in
+    let second = few_second c.args.table.now c.args.arena.now.tree distinct c.args.told c.args.board.now.held c.args.found.now.first c.args.found.now.second c.requires.edit c.as_slice-2.result.now c.as_slice-2.ensures.keys c.as_slice-2.ensures.once in
+    omega (arith, first, second, c.put_all_again.ensures.steps, c.put_all_again-2.ensures.steps, c.entries_again.ensures.steps)

@@ -1,0 +1,5 @@
+pub mod Changes
+pub mod Evaluations
+pub mod Known
+pub mod Machinery
+pub mod Renewals

@@ -1,0 +1,30 @@
+//! What is kept of the elements of a document, and made again where the texts of other elements change.
+//!
+//! Of an element a board of `snapshot_board` keeps its entry, what a walk reads that does not come to it, and the pieces of its
+//! boxes where one of them refers to an id ([`kept::Kept`]). It is made from what the evaluation tells of the element
+//! ([`node_texts`]); its texts can show what other elements have (CSS Generated Content 3, 2.6), and what is known of these is
+//! handed in (`content_eval`'s `Targets`).
+//!
+//! After an edit a walk tells of the elements that it touches. [`renewed_texts::walked_entries`] finds those that refer to them
+//! (`referring_elements`), and makes what comes to the board by all of them, without an evaluation of the document: an element
+//! that refers to what changed has its pieces on the board, the flat texts of such a target are made again, and those of each
+//! other target are read there.
+//!
+//! The layer above knows this crate by `kept_of`, `document_kept` and `evaluated_document` of `specs/Evaluations.antt`, by
+//! `Renews` of `specs/Changes.antt`: what comes to a board of which all that is to be kept is known; and by `IsSomeWalk` of
+//! `specs/Renewals.antt`: what a walk has told of a document that an edit made of another one.
+//!
+//! ```text
+//! let caught = catch_up(alloc, &sources, &board, stops, steps)?;       // the index is brought to the edited document
+//! let changes = walked_entries(alloc, arena, &index, &table, &stops, &former, caught.changes, &board, steps)?;
+//! ```
+#![tactic(auto)]
+
+mod again;
+pub mod by_key;
+pub mod characters;
+pub mod flat_texts;
+pub mod kept;
+pub mod node_texts;
+mod renewed_targets;
+pub mod renewed_texts;

@@ -1,0 +1,272 @@
+//! What is known of the elements that ids name, where texts are made again.
+
+ghost use Rattle.std.specs.Prelude.{◌≡◌, ◌≤◌, ◌+◌, ◌||◌, false, ℕ, nat_eq, length, IfOk, OnOk, option_copied, option_map};
+ghost use Rattle.std.specs.HashMap.{get};
+ghost use Rattle.std.specs.List.{filter_map, list_any};
+ghost use Rattle.std.specs.Option.{option_and_then, option_map_or};
+ghost use Rattle.std.specs.Str.{chars};
+ghost use Rattle.forest.specs.Spots.{IsLink};
+ghost use Rattle.content_eval.specs.Targets.{reference, target_id};
+ghost use Rattle.edit_work.specs.KeyedSources.{is_among, references_in, references_of};
+ghost use Rattle.generated_texts.specs.References.{first_holder, kept_at};
+ghost use Rattle.referring_elements.specs.Found.{is_named};
+ghost use Rattle.referring_elements.specs.Indexes.{IsIndexOf};
+ghost use Rattle.kept_elements.specs.Known.{IsKeptIn, flat_in};
+ghost use Rattle.kept_elements.specs.Machinery.Renewals.{held_of, its_counters, its_flat, kept_flat, some_names};
+
+use crate::characters::characters_under;
+use crate::flat_texts::FlatTexts;
+use crate::kept::Kept;
+use box_eval::element_record::ElementRecord;
+use box_eval::made::Made;
+use content_eval::generated::Piece;
+use content_eval::targets::{Targets, reference, target_id};
+use counter_sets::counter_set::CounterSet;
+use generated_texts::entry::{BoxText, NodeEntry};
+use indexmap::IndexSet;
+use node_arena::arena::Arena;
+use plain_types::content::Part;
+use plain_types::memory::Memory;
+use plain_types::text::Text;
+use referring_elements::holders::first_holder;
+use snapshot_board::board::Board;
+use std::alloc::Global;
+use std::collections::HashMap;
+use std::sync::ledger::Ledger;
+use steps::Steps;
+use surroundings::told::Told;
+use target_index::index::Index;
+
+/// The counters of an element's own box, as it is told of, or else by what is held of it.
+fn its_counters<'a>(told: Option<&'a Told>, kept: Option<&'a Kept>) -> Option<&'a CounterSet>
+    ensures counters { option_copied result ≡ its_counters (option_copied told.entry) (option_copied kept.entry) }
+{
+    match (told, kept) {
+        (Some(told), _) => {
+            if told.said.has_box {
+                Some(&told.said.own)
+            } else {
+                None
+            }
+        }
+        (None, Some(kept)) => {
+            if kept.entry.has_box {
+                Some(&kept.entry.own)
+            } else {
+                None
+            }
+        }
+        (None, None) => None,
+    }
+}
+
+/// The flat text of a box.
+fn flat_of(text: &Option<BoxText>) -> Option<&Text>
+    ensures flat { option_copied result ≡ option_map (λ (text : BoxText). text.flat) text.now }
+{
+    match text {
+        Some(text) => Some(&text.flat),
+        None => None,
+    }
+}
+
+/// The flat text of a box in what is kept of an element; its own content is no box.
+fn kept_flat(entry: &NodeEntry, part: Part) -> Option<&Text>
+    ensures flat { option_copied result ≡ kept_flat entry.now part }
+{
+    match part {
+        Part::Content => None,
+        Part::Before => flat_of(&entry.before),
+        Part::After => flat_of(&entry.after),
+    }
+}
+
+/// The flat text of a box that is made again.
+fn made_flat(texts: &FlatTexts, part: Part) -> Option<&Text>
+    ensures flat { option_copied result ≡ flat_in texts.now part }
+{
+    match part {
+        Part::Content => None,
+        Part::Before => texts.before.as_ref(),
+        Part::After => texts.after.as_ref(),
+    }
+}
+
+/// The flat text of a box of an element, as it is made again, or else as it is held.
+fn its_flat<'a>(
+    texts: Option<&'a FlatTexts>,
+    kept: Option<&'a Kept>,
+    part: Part,
+) -> Option<&'a Text>
+    ensures flat { option_copied result ≡ its_flat (option_copied texts.entry) (option_copied kept.entry) part }
+{
+    match (texts, kept) {
+        (Some(texts), _) => made_flat(texts, part),
+        (None, Some(kept)) => kept_flat(&kept.entry, part),
+        (None, None) => None,
+    }
+}
+
+/// The elements of a document as target functions of those see them whose texts are made again.
+#[derive(Drop)]
+pub struct RenewedTargets<'a> {
+    pub arena: &'a Arena,
+    pub index: &'a Index,
+    /// What is told of those elements, and the same by key.
+    pub listed: &'a [(usize, Told)],
+    pub records: &'a HashMap<usize, &'a Told>,
+    /// Their flat texts, as far as they are made again, and the same by key.
+    pub listed_flats: &'a [(usize, FlatTexts)],
+    pub flats: &'a HashMap<usize, &'a FlatTexts>,
+    /// What a board holds of these elements, by key.
+    pub board: &'a Board<Kept>,
+    pub keys: &'a [usize],
+    pub held: &'a HashMap<usize, &'a Kept>,
+    ghost indexed: { IsIndexOf index.now arena.now.tree },
+    ghost kept: { IsKeptIn records.now listed.now },
+    ghost kept_flats: { IsKeptIn flats.now listed_flats.now },
+    ghost kept_held: { (key : ℕ) → option_copied (get nat_eq held.now key) ≡ held_of keys.now board.now.held key },
+}
+
+impl<'a> RenewedTargets<'a> {
+    /// The element that a url names.
+    fn target(&self, url: &str) -> Option<usize>
+        ensures target { result ≡ option_and_then (first_holder self.now.arena.now.tree) (target_id (chars url.now)) }
+        ensures live { IsLink self.now.arena.now.tree result }
+    {
+        first_holder(self.index, self.arena, target_id(url)?)
+    }
+}
+
+impl<'a> Targets for RenewedTargets<'a> {
+    ghost use Rattle.generated_texts.specs.References.{kept_at};
+    ghost use Rattle.kept_elements.specs.Machinery.Renewals.{held_of, renewed_known};
+
+    ghost known = { λ targets. renewed_known targets.arena.now.tree (kept_at targets.listed.now) (kept_at targets.listed_flats.now) (held_of targets.keys.now targets.board.now.held) };
+
+    fn counters(&self, url: &str) -> Option<&CounterSet> {
+        let key = self.target(url)?;
+        its_counters(
+            self.records.get(&key).copied(),
+            self.held.get(&key).copied(),
+        )
+    }
+
+    fn characters(&self, alloc: Global, url: &str) -> Result<Text, Memory> {
+        match self.target(url) {
+            Some(key) => characters_under(alloc, self.arena, key),
+            None => Ok(Text::new(alloc)),
+        }
+    }
+
+    fn flat(&self, url: &str, part: Part) -> Option<&Text> {
+        let key = self.target(url)?;
+        its_flat(
+            self.flats.get(&key).copied(),
+            self.held.get(&key).copied(),
+            part,
+        )
+    }
+}
+
+/// Adds the element that an id names, where there is one.
+fn add_target(
+    arena: &Arena,
+    index: &Index,
+    id: Option<&str>,
+    keys: &mut IndexSet<usize>,
+) -> Result<(), Memory>
+    requires indexed { IsIndexOf index.now arena.now.tree }
+    ensures ok { OnOk result ((other : ℕ) → is_among keys.new.keys other ≡ (is_among keys.old.keys other || option_map_or (is_named arena.now.tree other) (option_map chars (option_copied id.entry)) false)) }
+{
+    let Some(id) = id else {
+        return Ok(());
+    };
+    if let Some(key) = first_holder(index, arena, id) {
+        keys.insert(key)?;
+    }
+    Ok(())
+}
+
+/// Adds the elements to which pieces refer.
+fn add_pieces(
+    arena: &Arena,
+    index: &Index,
+    pieces: &[Piece],
+    keys: &mut IndexSet<usize>,
+) -> Result<(), Memory>
+    requires indexed { IsIndexOf index.now arena.now.tree }
+    ensures ok { OnOk result ((other : ℕ) → is_among keys.new.keys other ≡ (is_among keys.old.keys other || list_any (is_named arena.now.tree other) (filter_map reference pieces.now))) }
+{
+    for piece in pieces {
+        add_target(arena, index, reference(piece), keys)?;
+    }
+    Ok(())
+}
+
+/// Adds the elements to which a box refers.
+fn add_box(
+    arena: &Arena,
+    index: &Index,
+    made: &Option<Made>,
+    keys: &mut IndexSet<usize>,
+) -> Result<(), Memory>
+    requires indexed { IsIndexOf index.now arena.now.tree }
+    ensures ok { OnOk result ((other : ℕ) → is_among keys.new.keys other ≡ (is_among keys.old.keys other || list_any (is_named arena.now.tree other) (references_in made.now))) }
+{
+    match made {
+        Some(made) => add_pieces(arena, index, made.pieces.as_slice(), keys),
+        None => Ok(()),
+    }
+}
+
+/// Adds the elements to which an element refers.
+fn add_element(
+    arena: &Arena,
+    index: &Index,
+    said: &ElementRecord,
+    keys: &mut IndexSet<usize>,
+) -> Result<(), Memory>
+    requires indexed { IsIndexOf index.now arena.now.tree }
+    ensures ok { OnOk result ((other : ℕ) → is_among keys.new.keys other ≡ (is_among keys.old.keys other || list_any (is_named arena.now.tree other) (references_of said.now))) }
+{
+    add_box(arena, index, &said.marker, keys)?;
+    add_box(arena, index, &said.before, keys)?;
+    add_box(arena, index, &said.after, keys)
+}
+
+/// The elements to which those refer of which this is told, each once.
+pub fn target_keys(
+    alloc: Global,
+    arena: &Arena,
+    index: &Index,
+    records: &[(usize, Told)],
+) -> Result<IndexSet<usize>, Memory>
+    requires indexed { IsIndexOf index.now arena.now.tree }
+    ensures keys { IfOk result (λ keys. (key : ℕ) → is_among keys.keys key ≡ some_names arena.now.tree records.now key) }
+{
+    let mut keys = IndexSet::new(alloc);
+    for (_key, told) in records {
+        add_element(arena, index, &told.said, &mut keys)?;
+    }
+    Ok(keys)
+}
+
+/// What a board holds of these elements, by key. It is a step for each.
+pub fn held_of<'a, L: Ledger>(
+    alloc: Global,
+    board: &'a Board<Kept>,
+    keys: &[usize],
+    steps: &mut Steps<L>,
+) -> Result<HashMap<usize, &'a Kept>, Memory>
+    ensures held { IfOk result (λ map. (key : ℕ) → option_copied (get nat_eq map key) ≡ held_of keys.now board.now.held key) }
+    ensures steps { steps.new ≤ steps.old + length keys.now }
+{
+    let mut map = HashMap::new(alloc);
+    for key in keys {
+        if let Some(kept) = board.get(*key, steps) {
+            map.insert(*key, kept)?;
+        }
+    }
+    Ok(map)
+}
