@@ -10,7 +10,7 @@ use Rattle.node_arena.specs.Edits as edits
 use Rattle.node_arena.specs.declared.place_fault.PlaceFault.{PlaceFault}
 use Rattle.plain_types.specs.declared.edit.Edit.{Edit}
 use Rattle.undo_ring.specs.Histories.{version_of}
-use Rattle.undo_ring.specs.StepsTaken.{steps_of}
+use Rattle.undo_ring.specs.StepsTaken.{most_steps}
 
 -- the source that an edit makes of one in which it has its place
 abbrev after : Edit → Source → Source
@@ -33,7 +33,7 @@ done_is edit old new allowed is =
 
 pub steps_are : (edit : Edit) (old : StyledDocument) (low high : ℕ) → edits.place_fault edit (version_of old).document ≡ None
     → IfOk (edited (source_of old) edit) (λ source. low ≤ high + (13 * element_count source.tree + element_count (source_of old).tree))
-    → low ≤ high + steps_of edit (version_of old)
+    → low ≤ high + most_steps edit (version_of old)
 steps_are edit old low high allowed bound =
     subst (λ (outcome : Result Source PlaceFault). IfOk outcome (λ source. low ≤ high + (13 * element_count source.tree + element_count (source_of old).tree)))
     (allowed_ok edit (source_of old) allowed) bound

@@ -9,7 +9,7 @@ use Rattle.dirty_walk.specs.Books.{StyledDocument, coded_styled_document}
 use Rattle.edit_inverses.specs.Versions.{HavePlaces, Version, versions_after}
 
 -- the book of a history's engine; how many edits can be undone at most; the edits that undo the last ones, the newest
--- first; and the edits that were undone, the next one to be redone first
+-- first; and the edits that do again what was undone, the next one first
 pub record EditHistory : Type 0 where
   pub book : StyledDocument
   pub depth : ℕ

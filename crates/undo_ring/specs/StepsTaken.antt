@@ -1,4 +1,4 @@
--- One step back or forth (our own).
+-- One step back or forth (our own), and the steps of evaluation that it takes.
 use Rattle.std.specs.Prelude.{◌≡◌, ◌+◌, ◌*◌, ℕ, ◌∷◌, take, drop}
 use Rattle.circular_buffer.specs.Buffer.{Buffer, buffer}
 use Rattle.plain_types.specs.declared.edit.Edit.{Edit}
@@ -16,5 +16,5 @@ pub record TakesStep (edit : Edit) (old new : StyledDocument) (from rest to more
   pub given : more ≡ buffer (take to.capacity (undoing edit (version_of old) ∷ to.items)) to.capacity
 
 -- how many evaluations and records an edit of a version takes at most, whatever its work is
-abbrev pub steps_of : Edit → Version → ℕ
-steps_of edit version = 13 * element_count (version_after edit version).document + element_count version.document
+abbrev pub most_steps : Edit → Version → ℕ
+most_steps edit version = 13 * element_count (version_after edit version).document + element_count version.document

@@ -20,7 +20,8 @@
 //! for which memory is wanting, leave the history as it was.
 //!
 //! The edits are kept in two rings of the kit's `circular_buffer`, which are made at the start, each with room for as many as
-//! can be undone. So to keep one more takes no memory, and the oldest goes where the ring is full.
+//! can be undone. So one more always has its place, and the oldest goes where the ring is full; only what an edit itself
+//! holds (a removed tree, a former value) takes memory.
 //!
 //! ```text
 //! let mut history = History::start(alloc, tree, "", 2, steps)?;        // <ol><li/><li/></ol>

@@ -6,7 +6,7 @@ ghost use Rattle.edit_inverses.specs.Versions.{HavePlaces, version_after};
 ghost use Rattle.node_arena.specs.Edits.{IsEdited, place_fault};
 ghost use Rattle.undo_ring.specs.declared.undo_fault.UndoFault.TheVariants as faults;
 ghost use Rattle.undo_ring.specs.Histories.{version_of};
-ghost use Rattle.undo_ring.specs.StepsTaken.{TakesStep, steps_of};
+ghost use Rattle.undo_ring.specs.StepsTaken.{TakesStep, most_steps};
 
 use crate::undo_fault::UndoFault;
 use circular_buffer::HeapCircularBuffer;
@@ -31,7 +31,7 @@ fn do_edit<L: Ledger>(
     ensures failed { OnErr result (engine.new ≡ engine.old) }
     ensures within_work { OnOk result (IsWithinWork edit.now (keyed_source engine.old) (keyed_source engine.new) steps.old steps.new) }
     ensures stops_within_work { OnErr result (StopsWithinWork edit.now (keyed_source engine.old) steps.old steps.new) }
-    ensures steps { steps.new ≤ steps.old + steps_of edit.now (version_of engine.old) }
+    ensures steps { steps.new ≤ steps.old + most_steps edit.now (version_of engine.old) }
 {
     match engine.apply(alloc, edit, steps) {
         Ok(()) => Ok(()),
@@ -54,7 +54,7 @@ pub(crate) fn take_step<L: Ledger>(
     ensures failed { OnErr result ((engine.new ≡ engine.old) × (from.new ≡ from.old) × (to.new ≡ to.old)) }
     ensures within_work { OnOk result (IfSome (slice_get from.old.items 0) (λ edit. IsWithinWork edit (keyed_source engine.old) (keyed_source engine.new) steps.old steps.new)) }
     ensures stops_within_work { OnErr result (IfSome (slice_get from.old.items 0) (λ edit. StopsWithinWork edit (keyed_source engine.old) steps.old steps.new)) }
-    ensures steps { IfSome (slice_get from.old.items 0) (λ edit. steps.new ≤ steps.old + steps_of edit (version_of engine.old)) }
+    ensures steps { IfSome (slice_get from.old.items 0) (λ edit. steps.new ≤ steps.old + most_steps edit (version_of engine.old)) }
     ensures no_steps { from.old.items ≡ [] → steps.new ≡ steps.old }
 {
     let Some(edit) = from.front() else {

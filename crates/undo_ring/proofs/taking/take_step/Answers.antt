@@ -11,7 +11,7 @@ use Rattle.plain_types.specs.declared.edit.Edit.{Edit}
 use Rattle.plain_types.specs.declared.node.Node.{Node}
 use Rattle.ports.proofs.GrownLemmas.{on_err}
 use Rattle.undo_ring.specs.Histories.{version_of}
-use Rattle.undo_ring.specs.StepsTaken.{TakesStep, steps_of}
+use Rattle.undo_ring.specs.StepsTaken.{TakesStep, most_steps}
 use Rattle.undo_ring.proofs.Moves.{first_place, none_is, not_nothing, some_edits, step_by}
 use Rattle.undo_ring.proofs.taking.take_step.Goals as goal
 
@@ -37,7 +37,7 @@ returns-in_err-inverse-clause-stops_within_work g c =
 
 pub returns-in_err-inverse-clause-steps : goal.returns-in_err-inverse-clause-steps
 returns-in_err-inverse-clause-steps g c =
-    subst (λ (o : Option Edit). IfSome o (λ edit. c.args.steps.now ≤ c.args.steps.now + steps_of edit (version_of c.args.engine.now))) c.in-Some.ensures (omega arith)
+    subst (λ (o : Option Edit). IfSome o (λ edit. c.args.steps.now ≤ c.args.steps.now + most_steps edit (version_of c.args.engine.now))) c.in-Some.ensures (omega arith)
 
 pub returns-clause-ok : goal.returns-clause-ok
 returns-clause-ok g c =
@@ -60,7 +60,7 @@ returns-clause-within_work g c =
 
 pub returns-clause-steps : goal.returns-clause-steps
 returns-clause-steps g c =
-    subst (λ (o : Option Edit). IfSome o (λ edit. c.do_edit.new.steps ≤ c.args.steps.now + steps_of edit (version_of c.args.engine.now))) c.in-Some.ensures c.do_edit.ensures.steps
+    subst (λ (o : Option Edit). IfSome o (λ edit. c.do_edit.new.steps ≤ c.args.steps.now + most_steps edit (version_of c.args.engine.now))) c.in-Some.ensures c.do_edit.ensures.steps
 
 pub returns-in_err-do_edit-clause-nothing : goal.returns-in_err-do_edit-clause-nothing
 returns-in_err-do_edit-clause-nothing g c =
@@ -68,7 +68,7 @@ returns-in_err-do_edit-clause-nothing g c =
 
 pub returns-in_err-do_edit-clause-steps : goal.returns-in_err-do_edit-clause-steps
 returns-in_err-do_edit-clause-steps g c =
-    subst (λ (o : Option Edit). IfSome o (λ edit. c.do_edit.new.steps ≤ c.args.steps.now + steps_of edit (version_of c.args.engine.now))) c.in-Some.ensures c.do_edit.ensures.steps
+    subst (λ (o : Option Edit). IfSome o (λ edit. c.do_edit.new.steps ≤ c.args.steps.now + most_steps edit (version_of c.args.engine.now))) c.in-Some.ensures c.do_edit.ensures.steps
 
 pub returns-in_err-do_edit-clause-stops_within_work : goal.returns-in_err-do_edit-clause-stops_within_work
 returns-in_err-do_edit-clause-stops_within_work g c =
