@@ -9,7 +9,7 @@ use Rattle.std.proofs.lemmas.List.Folds.{list_any_more}
 use Rattle.std.proofs.lemmas.List.Sums.{fails_before_first, passes_at_first, prefix_len-le-length}
 use Rattle.lane_class.specs.Ranges.{is_in, is_outside}
 use Rattle.text_view.specs.Lines.{is_blank}
-use Rattle.text_view.specs.Machinery.Writing.{begins_with_blank, blank_ranges}
+use Rattle.text_view.specs.Machinery.Writing.{blank_ranges, is_word_end}
 
 -- the class that was made
 pub made : (ranges : List (ℕ × ℕ)) (made : Option (List (ℕ × ℕ))) (class : List (ℕ × ℕ)) → SomeIff made (length ranges ≤ 8) ranges → made ≡ Some class → class ≡ ranges
@@ -50,10 +50,10 @@ none_before p bytes (suc n) le =
     rw (← add-one) (list_any_more p bytes n 0 within ∙ rw (none_before p bytes n (omega arith), here) refl)
 
 -- what begins at the first place
-begins_at_first : (bytes : List ℕ) → begins_with_blank (drop (position_or_len is_blank bytes) bytes) ≡ true
+begins_at_first : (bytes : List ℕ) → is_word_end (drop (position_or_len is_blank bytes) bytes) ≡ true
 begins_at_first bytes = elim (cases_lt (position_or_len is_blank bytes) (length bytes)) [
-  | inl lt ↦ ap begins_with_blank (drop-cons bytes (position_or_len is_blank bytes) 0 lt) ∙ passes_at_first is_blank bytes 0 lt
-  | inr ge ↦ ap begins_with_blank (drop_all (position_or_len is_blank bytes) bytes ge)
+  | inl lt ↦ ap is_word_end (drop-cons bytes (position_or_len is_blank bytes) 0 lt) ∙ passes_at_first is_blank bytes 0 lt
+  | inr ge ↦ ap is_word_end (drop_all (position_or_len is_blank bytes) bytes ge)
 ]
 
 module _ (class : List (ℕ × ℕ)) (bytes : List ℕ) (found : Option ℕ) (place : ℕ) (is : class ≡ blank_ranges) (at : place ≡ unwrap_or found (length bytes)) where
@@ -66,8 +66,8 @@ module _ (class : List (ℕ × ℕ)) (bytes : List ℕ) (found : Option ℕ) (pl
   word_before front e f =
       ap (list_any is_blank) (f ∙ ap (λ n. take n bytes) (first_blank e)) ∙ none_before is_blank bytes (position_or_len is_blank bytes) (omega arith)
 
-  pub blank_after : (rest : List ℕ) → found ≡ position (is_in class) bytes → rest ≡ drop place bytes → begins_with_blank rest ≡ true
-  blank_after rest e r = ap begins_with_blank (r ∙ ap (λ n. drop n bytes) (first_blank e)) ∙ begins_at_first bytes
+  pub blank_after : (rest : List ℕ) → found ≡ position (is_in class) bytes → rest ≡ drop place bytes → is_word_end rest ≡ true
+  blank_after rest e r = ap is_word_end (r ∙ ap (λ n. drop n bytes) (first_blank e)) ∙ begins_at_first bytes
 
   first_solid : found ≡ position (is_outside class) bytes → place ≡ position_or_len (λ b. not (is_blank b)) bytes
   first_solid e =

@@ -4,7 +4,7 @@ use Rattle.std.specs.List.{list_all, list_any}
 use Rattle.std.proofs.lemmas.List.{take_rest}
 use Rattle.std.proofs.lemmas.Bool.{and_parts, eqb-true, or_parts}
 use Rattle.text_view.specs.Lines.{is_blank}
-use Rattle.text_view.specs.Machinery.Writing.{begins_with_blank, behind, behind_blank, behind_text, one_shown, shown, space_before}
+use Rattle.text_view.specs.Machinery.Writing.{behind, behind_blank, behind_text, is_word_end, one_shown, shown, space_before}
 use Rattle.text_view.specs.declared.line_state.LineState.{LineState}
 use Rattle.text_view.specs.declared.line_state.LineState.TheVariants.{Start, Word, Blank}
 
@@ -101,7 +101,7 @@ pub record IsGap (after next : List ℕ) : Type 0 where
   pub ends : (state : LineState) → behind_text state blanks ≡ behind_blank state
   pub some : length next < length after
 
-pub gap : (after blanks next : List ℕ) → (length after == 0) ≡ false → begins_with_blank after ≡ true
+pub gap : (after blanks next : List ℕ) → (length after == 0) ≡ false → is_word_end after ≡ true
     → take (length after - 1) (drop 1 after) ≡ blanks ++ next → list_all is_blank blanks ≡ true → IsGap after next
 gap [] blanks next some begins split all = absurd (cc some)
 gap (c ∷ rest) blanks next some begins split all =

@@ -5,7 +5,7 @@ ghost use Rattle.std.specs.List.{list_all, list_any};
 ghost use Rattle.ports.specs.Causes.{HasCause};
 ghost use Rattle.ports.specs.Grown.{grown, GrowsByFront};
 ghost use Rattle.text_view.specs.Lines.{is_blank};
-ghost use Rattle.text_view.specs.Machinery.Writing.{begins_with_blank, behind_blank, behind_text, blank_ranges, line_end, shown, space_before};
+ghost use Rattle.text_view.specs.Machinery.Writing.{behind_blank, behind_text, blank_ranges, is_word_end, line_end, shown, space_before};
 ghost use Rattle.text_view.specs.declared.line_state.LineState.TheVariants as states;
 
 use crate::line_state::LineState;
@@ -82,7 +82,7 @@ fn split_word<'a>(blanks: &ByteClass, bytes: &'a [u8]) -> (&'a [u8], &'a [u8])
     requires blanks { blanks.now ≡ blank_ranges }
     ensures bytes { bytes.now ≡ result.0.now ++ result.1.now }
     ensures word { list_any is_blank result.0.now ≡ false }
-    ensures stop { begins_with_blank result.1.now ≡ true }
+    ensures stop { is_word_end result.1.now ≡ true }
 {
     let place = first_in(bytes, blanks).unwrap_or(bytes.len());
     bytes.split_at(place)

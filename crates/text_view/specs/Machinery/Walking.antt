@@ -22,7 +22,8 @@ entered_at entry node = option_map_or (entered entry) node []
 abbrev pub text_pieces : Option (List ℕ) → List Piece
 text_pieces text = option_map_or (λ (characters : List ℕ). Characters characters ∷ []) text []
 
--- Where the walk goes into a node, that is all but what its children give and what is put where it is left; else it is all.
+-- Where the walk goes into a node, what is put as it is reached is all but what its children give and what is put where it is
+-- left; else that is all that the node gives.
 abbrev pub IsEntered : Option NodeEntry → ℕ → Option OpenElement → Node → Type 0
 IsEntered entry key None node = (inside : List Piece) → node_pieces entry node inside ≡ entered entry node
 IsEntered entry key (Some element) node =

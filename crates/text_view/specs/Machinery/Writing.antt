@@ -8,10 +8,10 @@ use Rattle.text_view.specs.declared.line_state.LineState.TheVariants.{Start, Wor
 abbrev pub blank_ranges : List (ℕ × ℕ)
 blank_ranges = (9, 10) ∷ (12, 13) ∷ (32, 32) ∷ []
 
--- a text ends, or goes on with a blank
-abbrev pub begins_with_blank : List ℕ → Bool
-begins_with_blank [] = true
-begins_with_blank (c ∷ rest) = is_blank c
+-- a word ends before these characters: there are none, or the first is a blank
+abbrev pub is_word_end : List ℕ → Bool
+is_word_end [] = true
+is_word_end (c ∷ rest) = is_blank c
 
 -- what is written before the next word
 abbrev pub space_before : LineState → List ℕ
