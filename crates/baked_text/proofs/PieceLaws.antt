@@ -1,5 +1,5 @@
 -- The pieces of a text, one after the other.
-use Rattle.std.proofs.Common.{◌≡◌, ℕ, ◌<◌, true, List, [], ◌∷◌, ◌++◌, length, drop, refl, sym, ap, ◌∙◌, append_assoc, arith}
+use Rattle.std.proofs.Common.{◌≡◌, ℕ, ◌<◌, ◌+◌, true, List, [], ◌∷◌, ◌++◌, length, drop, refl, sym, ap, ◌∙◌, append_assoc, arith}
 use Rattle.std.proofs.lemmas.Bool.{and_parts}
 use Rattle.std.proofs.lemmas.Grind.{flat_map-append}
 use Rattle.std.proofs.lemmas.List.{append_cancel_right}
@@ -7,7 +7,7 @@ use Rattle.std.specs.List.{flat_map, list_all}
 use Rattle.bake_definitions.specs.Pieces.{AreSpelled, IsMadeOf, Piece, characters_of, read_of}
 use Rattle.bake_definitions.specs.Woven.{at_piece, tags_in, woven}
 use Rattle.baked_text.proofs.Apart.{Joins, parts_read}
-use Rattle.baked_text.specs.Machinery.{SplitsAs}
+use Rattle.baked_text.specs.Machinery.{SplitsAs, tags_among}
 use Rattle.xhtml_items.proofs.ItemLaws.{same_first}
 use Rattle.xhtml_items.specs.FirstItem.{BeginsWithNone}
 use Rattle.xml_definitions.specs.Characters.{is_plain}
@@ -80,13 +80,17 @@ pub record Run (run : List ℕ) (after : List ℕ) (puts : List (List Piece)) (p
   pub run_is : flat_map read_of first ≡ run
   pub after_is : after ≡ flat_map read_of more
   pub weaves : characters_of (woven pieces puts) ≡ characters_of first ++ characters_of (woven more puts)
+  pub counts : tags_among pieces ≡ tags_among more
 
 plain_weaves : (p : Piece) (c : ℕ) (pieces : List Piece) (puts : List (List Piece)) → plain_character c ≡ p.item
     → characters_of (woven (p ∷ pieces) puts) ≡ p.characters ++ characters_of (woven pieces puts)
 plain_weaves p c pieces puts e = ap (λ i. characters_of (at_piece i p puts ++ woven pieces (drop (tags_in i) puts))) (sym e)
 
+none_more : (n : ℕ) → 0 + n ≡ n
+none_more n = omega arith
+
 pub run_pieces : (run after : List ℕ) (puts : List (List Piece)) (pieces : List Piece) → list_all is_plain run ≡ true → run ++ after ≡ flat_map read_of pieces → AreSpelled pieces → Run run after puts pieces
-run_pieces [] after puts pieces plain reads spelled = record { first = []; more = pieces; pieces_are = refl; run_is = refl; after_is = reads; weaves = refl }
+run_pieces [] after puts pieces plain reads spelled = record { first = []; more = pieces; pieces_are = refl; run_is = refl; after_is = reads; weaves = refl; counts = refl }
 run_pieces (c ∷ run) after puts [] plain reads spelled = absurd cc
 run_pieces (c ∷ run) after puts (p ∷ pieces) plain reads spelled =
     let test = and_parts (is_plain c) (list_all is_plain run) plain in
@@ -99,5 +103,6 @@ run_pieces (c ∷ run) after puts (p ∷ pieces) plain reads spelled =
       pieces_are = ap (λ t. p ∷ t) more.pieces_are;
       run_is = ap (λ t. t ++ flat_map read_of more.first) (sym one) ∙ ap (λ t. c ∷ t) more.run_is;
       after_is = more.after_is;
+      counts = ap (λ i. tags_in i + tags_among pieces) (sym same.0) ∙ none_more (tags_among pieces) ∙ more.counts;
       weaves = plain_weaves p c pieces puts same.0 ∙ ap (λ t. p.characters ++ t) more.weaves ∙ sym (append_assoc p.characters (characters_of more.first) (characters_of (woven more.more puts)));
     }

@@ -1,12 +1,17 @@
 -- A text that is split where what is read of it is split.
-use Rattle.std.proofs.Common.{◌≡◌, ℕ, Bool, true, false, ◌&&◌, cond, eqb, List, [], ◌∷◌, ◌++◌, Some, None, take, drop, refl, sym, ap, ◌∙◌, append_assoc, append-nil}
+use Rattle.std.proofs.Common.{◌≡◌, ℕ, ◌-◌, Bool, true, false, ◌&&◌, cond, eqb, nat_eq, List, [], ◌∷◌, ◌++◌, Some, None, length, take, drop, refl, sym, ap, subst, ◌∙◌, append_assoc, append-nil, arith}
+use Rattle.std.proofs.Math.Seq.{take-append_seam}
 use Rattle.std.proofs.lemmas.Bool.{and_parts, eqb-true}
-use Rattle.std.proofs.lemmas.Str.{encodes-append, encodes-chars}
-use Rattle.std.specs.Str.{IsUtf8, chars, encode_utf8_all}
+use Rattle.std.proofs.lemmas.Bool.Decides.{Decides-eqb}
+use Rattle.std.proofs.lemmas.List.{append_cancel_left, length-append}
+use Rattle.std.proofs.lemmas.Slice.Eq.{starts_is}
+use Rattle.std.proofs.lemmas.Str.{IsCharBoundary-from_take, chars-append, encodes-append, encodes-chars}
+use Rattle.std.specs.List.{starts_with}
+use Rattle.std.specs.Str.{IsCharBoundary, IsUtf8, chars, encode_utf8_all}
 use Rattle.baked_text.proofs.Apart.{Joins, joins_no_cut, joins_tail, reads_nothing}
-use Rattle.baked_text.specs.Machinery.{past_first}
+use Rattle.baked_text.specs.Machinery.{SplitsAs, past_first}
 use Rattle.reading.specs.Reading.{past_text}
-use Rattle.xhtml_items.proofs.Cuts.{Cut}
+use Rattle.xhtml_items.proofs.Cuts.{Cut, Cut-front, Cut-rest}
 use Rattle.xhtml_items.proofs.StepLaws.{past_text_takes}
 use Rattle.xhtml_reader.specs.Machinery.LineEnds.{begins_with_line_feed}
 use Rattle.xhtml_reader.proofs.Prepares.{first_normalized}
@@ -133,3 +138,83 @@ pub passed_all : (front rest xs ys : List ℕ) → Passed front rest [] xs ys �
 passed_all front rest xs ys passed =
     let none = reads_nothing passed.more passed.reads in
     (sym (append-nil front) ∙ ap (λ t. front ++ t) (sym none) ∙ sym passed.xs_is, passed.rest_is ∙ ap (λ t. t ++ ys) none)
+
+-- The loop.
+
+pub record Splitting (whole read rest unread : List ℕ) : Type 0 where
+  pub front : List ℕ
+  pub parts : chars whole ≡ front ++ chars rest
+  pub passed : (xs ys : List ℕ) → chars whole ≡ xs ++ ys → Joins xs ys → with_line_feeds xs ≡ chars read → Passed front (chars rest) (chars unread) xs ys
+
+pub splitting_none : (whole read : List ℕ) → Splitting whole read whole read
+splitting_none whole read = record { front = []; parts = refl; passed = λ xs ys parts joins reads. passed_none xs ys (chars whole) (chars read) parts joins reads }
+
+pub splitting_more : (whole read rest unread after left : List ℕ) (c : ℕ) → Splitting whole read rest unread → chars unread ≡ c ∷ chars left → chars after ≡ past_first (chars rest) → Splitting whole read after left
+splitting_more whole read rest unread after left c s is past = record {
+  front = s.front ++ taken_first (chars rest);
+  parts = front_more (chars whole) s.front (chars rest) s.parts ∙ ap (λ t. (s.front ++ taken_first (chars rest)) ++ t) (sym past);
+  passed = λ xs ys parts joins reads.
+      subst (λ t. Passed (s.front ++ taken_first (chars rest)) t (chars left) xs ys) (sym past)
+      (passed_more s.front (chars rest) c (chars left) xs ys (subst (λ t. Passed s.front (chars rest) t xs ys) is (s.passed xs ys parts joins reads)));
+}
+
+pub splitting_all : (whole read rest unread first second : List ℕ) → IsUtf8 whole → IsUtf8 rest → (s : Splitting whole read rest unread) → chars unread ≡ []
+    → first ≡ take (length whole - length rest) whole → second ≡ drop (length whole - length rest) whole → SplitsAs (chars whole) (chars read) (chars first) (chars second)
+splitting_all whole read rest unread first second whole_utf8 rest_utf8 s none first_is second_is xs ys parts joins reads =
+    let cut = cut_from_chars whole s.front rest whole_utf8 rest_utf8 s.parts in
+    let all = passed_all s.front (chars rest) xs ys (subst (λ t. Passed s.front (chars rest) t xs ys) none (s.passed xs ys parts joins reads)) in
+    (ap chars first_is ∙ Cut-front whole s.front rest cut rest_utf8 whole_utf8 ∙ all.0, ap chars second_is ∙ ap chars (Cut-rest whole s.front rest cut rest_utf8) ∙ all.1)
+
+-- A text that begins with what is to be read.
+
+heads : (a b : ℕ) (xs ys : List ℕ) → a ∷ xs ≡ b ∷ ys → a ≡ b
+heads a b xs ys e = cc
+
+fed_head : (xs : List ℕ) → begins_with_line_feed xs ≡ true → (c : ℕ) (more rest : List ℕ) → c ∷ more ≡ with_line_feeds xs ++ rest → c ≡ 10
+fed_head [] h c more rest e = absurd cc
+fed_head (x ∷ xs) h c more rest e =
+    let one : with_line_feeds (x ∷ xs) ≡ 10 ∷ with_line_feeds xs = ap (λ d. with_line_feeds (d ∷ xs)) (eqb-true x 10 h) ∙ first_normalized 10 xs in
+    heads c 10 _ _ (e ∙ ap (λ t. t ++ rest) one)
+
+-- a carriage return doesn't read as itself
+no_return : (xs ys rest : List ℕ) (b : Bool) → begins_with_line_feed xs ≡ b → 13 ∷ (xs ++ ys) ≡ with_line_feeds (13 ∷ xs) ++ rest → ⊥
+no_return xs ys rest true h e =
+    let none : with_line_feeds (13 ∷ xs) ≡ with_line_feeds xs = first_normalized 13 xs ∙ ap (λ b. cond b [] (10 ∷ []) ++ with_line_feeds xs) h in
+    let feed : ◌≡◌ {A = ℕ} 13 10 = fed_head xs h 13 (xs ++ ys) rest (e ∙ ap (λ t. t ++ rest) none) in
+    omega arith
+no_return xs ys rest false h e =
+    let one : with_line_feeds (13 ∷ xs) ≡ 10 ∷ with_line_feeds xs = first_normalized 13 xs ∙ ap (λ b. cond b [] (10 ∷ []) ++ with_line_feeds xs) h in
+    let feed : ◌≡◌ {A = ℕ} 13 10 = heads 13 10 _ _ (e ∙ ap (λ t. t ++ rest) one) in
+    omega arith
+
+itself_one : (c : ℕ) (xs ys rest : List ℕ) → (xs ++ ys ≡ with_line_feeds xs ++ rest → with_line_feeds xs ≡ xs) → (b : Bool) → eqb c 13 ≡ b → c ∷ (xs ++ ys) ≡ with_line_feeds (c ∷ xs) ++ rest
+    → with_line_feeds (c ∷ xs) ≡ c ∷ xs
+itself_one c xs ys rest more true h e =
+    let is = eqb-true c 13 h in
+    absurd (no_return xs ys rest (begins_with_line_feed xs) refl (ap (λ d. d ∷ (xs ++ ys)) (sym is) ∙ e ∙ ap (λ d. with_line_feeds (d ∷ xs) ++ rest) is))
+itself_one c xs ys rest more false h e =
+    let one : with_line_feeds (c ∷ xs) ≡ c ∷ with_line_feeds xs = first_normalized c xs ∙ ap (λ b. cond (b && begins_with_line_feed xs) [] (cond b 10 c ∷ []) ++ with_line_feeds xs) h in
+    let whole : c ∷ (xs ++ ys) ≡ c ∷ (with_line_feeds xs ++ rest) = e ∙ ap (λ t. t ++ rest) one in
+    let less : xs ++ ys ≡ with_line_feeds xs ++ rest = cc in
+    one ∙ ap (λ t. c ∷ t) (more less)
+
+reads_itself : (xs ys rest : List ℕ) → xs ++ ys ≡ with_line_feeds xs ++ rest → with_line_feeds xs ≡ xs
+reads_itself [] ys rest e = refl
+reads_itself (c ∷ xs) ys rest e = itself_one c xs ys rest (λ less. reads_itself xs ys rest less) (eqb c 13) refl e
+
+pub begins : (whole read : List ℕ) (answer : Bool) → answer ≡ starts_with nat_eq whole read → answer ≡ true → whole ≡ read ++ drop (length read) whole
+begins whole read answer is told = (starts_is Decides-eqb whole read answer is).0 told
+
+pub begins_boundary : (whole read : List ℕ) → IsUtf8 whole → IsUtf8 read → whole ≡ read ++ drop (length read) whole → IsCharBoundary whole (length read)
+begins_boundary whole read whole_utf8 read_utf8 parts =
+    let front : take (length read) whole ≡ read = ap (λ t. take (length read) t) parts ∙ take-append_seam read (drop (length read) whole) in
+    IsCharBoundary-from_take whole (length read) whole_utf8 (omega (arith, ap length parts, length-append read (drop (length read) whole))) (subst IsUtf8 (sym front) read_utf8)
+
+pub begins_splits : (whole read first second : List ℕ) → IsUtf8 read → whole ≡ read ++ drop (length read) whole → first ≡ take (length read) whole → second ≡ drop (length read) whole
+    → SplitsAs (chars whole) (chars read) (chars first) (chars second)
+begins_splits whole read first second read_utf8 parts first_is second_is xs ys is joins reads =
+    let rest = drop (length read) whole in
+    let front : first ≡ read = first_is ∙ ap (λ t. take (length read) t) parts ∙ take-append_seam read rest in
+    let both : chars whole ≡ chars read ++ chars rest = ap chars parts ∙ chars-append read rest read_utf8 in
+    let same : xs ≡ chars read = sym (reads_itself xs ys (chars rest) (sym is ∙ both ∙ ap (λ t. t ++ chars rest) (sym reads))) ∙ reads in
+    (ap chars front ∙ sym same, ap chars second_is ∙ append_cancel_left xs (chars rest) ys (ap (λ t. t ++ chars rest) same ∙ sym both ∙ is))
