@@ -1,0 +1,7 @@
+mod SpotWalks
+mod LineLaws
+mod KeyLaws
+mod CountLaws
+mod WalkLaws
+mod TagLaws
+mod BookLaws

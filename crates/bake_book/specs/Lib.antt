@@ -1,0 +1,4 @@
+pub mod Dressing
+pub mod Walks
+pub mod Machinery
+pub mod Laws
