@@ -1,0 +1,7 @@
+pub mod AimLemmas
+pub mod NameLemmas
+pub mod UrlLemmas
+pub mod ClosedChapters
+pub mod BareEntries
+pub mod TargetLaws
+mod Examples

@@ -1,0 +1,5 @@
+pub mod Chapters
+pub mod Aims
+pub mod Texts
+pub mod Lines
+pub mod Laws
