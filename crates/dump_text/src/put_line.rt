@@ -27,7 +27,8 @@ fn put_position<O: Sink>(position: usize, out: &mut O) -> Result<(), Failed>
     put_all(out, digits.as_bytes())
 }
 
-fn put_path<O: Sink>(path: &Path, out: &mut O) -> Result<(), Failed>
+/// Puts a path, as `/` or `/0/12`. After `Failed` a front of its bytes went out. It takes no memory.
+pub fn put_path<O: Sink>(path: &Path, out: &mut O) -> Result<(), Failed>
     ensures ok { OnOk result (O.out out.new ≡ grown (O.out out.old) (encode_utf8_all (path_text path.now))) }
     ensures failed { OnErr result (GrowsByFront (O.out out.old) (O.out out.new) (encode_utf8_all (path_text path.now))) }
     ensures cause { HasCause (O.faults out.old) (O.faults out.new) result }
@@ -42,8 +43,8 @@ fn put_path<O: Sink>(path: &Path, out: &mut O) -> Result<(), Failed>
     Ok(())
 }
 
-/// Puts the kind's name between two spaces.
-fn put_kind<O: Sink>(kind: BoxKind, out: &mut O) -> Result<(), Failed>
+/// Puts the kind's name between two spaces. After `Failed` a front of its bytes went out. It takes no memory.
+pub fn put_kind<O: Sink>(kind: BoxKind, out: &mut O) -> Result<(), Failed>
     ensures ok { OnOk result (O.out out.new ≡ grown (O.out out.old) (32 ∷ (kind_name kind ++ 32 ∷ []))) }
     ensures failed { OnErr result (GrowsByFront (O.out out.old) (O.out out.new) (32 ∷ (kind_name kind ++ 32 ∷ []))) }
     ensures cause { HasCause (O.faults out.old) (O.faults out.new) result }
