@@ -5,7 +5,7 @@ mod HistoryLaws
 mod LineLaws
 mod OneLaws
 mod OperandLaws
-mod PathLaws
+pub mod PathLaws
 mod PuttingLaws
 mod ReadLaws
 mod SectionLaws

@@ -15,8 +15,8 @@ use Rattle.edit_script.specs.declared.action.Action.TheVariants.{Change, SheetFi
 use Rattle.edit_script.specs.declared.keyword.Keyword.{Keyword}
 use Rattle.edit_script.specs.declared.keyword.Keyword.TheVariants.{Insert, Remove, Move, Set, Unset, Sheet, Show}
 use Rattle.edit_script.specs.Machinery.Operands.{AreOperands, of_insert, of_remove, of_move, of_set, of_set_empty, of_unset, of_sheet, of_show}
-use Rattle.edit_script.specs.Scripts.{IsPath, IsPosition}
-use Rattle.edit_script.specs.Machinery.Words.{AreParts, IsNameAndValue, with_value, without_value, IsNameText, IsPathText, IsPositionText, IsWordAndRest}
+use Rattle.edit_script.specs.Scripts.{IsPath, IsPathText, IsPosition}
+use Rattle.edit_script.specs.Machinery.Words.{AreParts, IsNameAndValue, with_value, without_value, IsNameText, IsPositionText, IsWordAndRest}
 use Rattle.edit_script.proofs.PathLaws.{same_path}
 use Rattle.edit_script.proofs.WordLaws.{decimal_word, name_word, no_parts, path_word, same_word, small}
 

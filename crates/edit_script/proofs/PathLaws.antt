@@ -1,7 +1,7 @@
 -- Paths are written once.
 use Rattle.std.proofs.Common.{◌≡◌, ◌≢◌, ℕ, true, false, List, [], ◌∷◌, ◌++◌, length, refl, sym, ap, ◌∙◌, append_assoc, append-nil, arith}
 use Rattle.std.specs.Fmt.{decimal}
-use Rattle.std.specs.Prelude.{encode_utf8_all}
+use Rattle.std.specs.Prelude.{encode_utf8_all, IfNone, None, Option, Some}
 use Rattle.std.specs.Str.{bytes_eq, chars, IsAscii, IsUtf8}
 use Rattle.std.proofs.lemmas.Bool.Decides.{not_from_Decides}
 use Rattle.std.proofs.lemmas.Fmt.{decimal_nonempty}
@@ -10,9 +10,14 @@ use Rattle.std.proofs.lemmas.Slice.Eq.{bytes_eq-Decides}
 use Rattle.std.proofs.lemmas.Str.{chars-IsAscii, encodes-IsAscii, encodes-chars}
 use Rattle.xhtml_items.proofs.Texts.{IsAscii-from_test}
 use Rattle.dump_definitions.specs.Dump.{path_text}
-use Rattle.edit_script.specs.Scripts.{IsPath, IsPosition}
-use Rattle.edit_script.specs.Machinery.Words.{ArePositions, HasPositions, IsPathText, IsPositionAndRest, IsPositionFront, positions_text, starts_with_digit}
+use Rattle.edit_script.specs.Scripts.{IsPath, IsPathText, IsPosition}
+use Rattle.edit_script.specs.Machinery.Words.{ArePositions, HasPositions, IsPositionAndRest, IsPositionFront, positions_text, starts_with_digit}
 use Rattle.edit_script.proofs.WordLaws.{same_position, small}
+
+-- an answer that is none
+pub if_none : {T P : Type 0} (answer : Option T) → P → IfNone answer P
+if_none None p = p
+if_none (Some x) p = tt
 
 positions-append : (xs ys : List ℕ) → positions_text (xs ++ ys) ≡ positions_text xs ++ positions_text ys
 positions-append [] ys = refl
@@ -86,6 +91,18 @@ path-deeper text (position ∷ path) some are = record { written = are.written; 
 pub path-positions : (text path : List ℕ) → text ≢ 47 ∷ [] → IsPathText text path → ArePositions text path × (path ≢ [])
 path-positions text [] other is = absurd (other is.written)
 path-positions text (position ∷ path) other is = (record { written = is.written; sound = is.sound }, λ e. cc)
+
+-- a path that is written in some characters, from its positions; in none no path is written
+pub some_path : (text : List ℕ) → text ≢ [] → (path : List ℕ) × ArePositions text path → (path : List ℕ) × IsPathText text path
+some_path text some are = by are.0 are.1
+  where
+    by : (path : List ℕ) → ArePositions text path → (path : List ℕ) × IsPathText text path
+    by [] is = absurd (some is.written)
+    by (position ∷ path) is = (position ∷ path, path-deeper text (position ∷ path) (λ e. cc) is)
+
+pub no_path : (text path : List ℕ) → text ≡ [] → IsPathText text path → ⊥
+no_path text [] none is = let e = sym none ∙ is.written in cc
+no_path text (position ∷ path) none is = let e = sym none ∙ is.written in cc
 
 one_path : (text first second : List ℕ) → ArePositions text first → ArePositions text second → first ≡ second
 one_path text [] [] is too = refl

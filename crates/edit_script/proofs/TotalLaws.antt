@@ -22,8 +22,8 @@ use Rattle.xhtml_reader.proofs.Totals.{some_fragment}
 use Rattle.xhtml_reader.specs.Readings.{ReadsAsFragment}
 use Rattle.edit_script.specs.Lines.{is_skipped}
 use Rattle.edit_script.specs.Machinery.Operands.{AreOperands, keyword_at, of_show}
-use Rattle.edit_script.specs.Machinery.Words.{AreParts, ArePositions, IsNameAndValue, IsNameText, IsPathText, IsPositionFront, IsPositionText, IsWordAndRest, positions_text, with_value, without_value}
-use Rattle.edit_script.specs.Scripts.{AreCommands, IsCommand, IsEditCommand, IsFirstBad, IsHistoryCommand, ReadsAsScript, bad_here, bad_later, command, command_line, edit_command, no_line, redo_command, script_lines, skipped_line, undo_command}
+use Rattle.edit_script.specs.Machinery.Words.{AreParts, ArePositions, IsNameAndValue, IsNameText, IsPositionFront, IsPositionText, IsWordAndRest, positions_text, with_value, without_value}
+use Rattle.edit_script.specs.Scripts.{AreCommands, IsCommand, IsEditCommand, IsFirstBad, IsHistoryCommand, IsPathText, ReadsAsScript, bad_here, bad_later, command, command_line, edit_command, no_line, redo_command, script_lines, skipped_line, undo_command}
 use Rattle.edit_script.specs.declared.action.Action.TheVariants as actions
 use Rattle.edit_script.specs.declared.command.Command.{Command}
 use Rattle.edit_script.specs.declared.keyword.Keyword.{Keyword}

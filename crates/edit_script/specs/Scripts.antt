@@ -1,5 +1,5 @@
 -- Scripts: which lines are which commands, and which texts are which scripts (our own).
-use Rattle.std.specs.Prelude.{◌≡◌, ◌≢◌, ◌⊎◌, ℕ, ◌+◌, ◌≤◌, false, IsTrue, List, [], ◌∷◌, Result, Ok, Err, codes}
+use Rattle.std.specs.Prelude.{◌≡◌, ◌≢◌, ◌⊎◌, ℕ, ◌+◌, ◌≤◌, false, IsTrue, List, [], ◌∷◌, Option, Some, None, Result, Ok, Err, codes}
 use Rattle.std.specs.Fmt.{decimal}
 use Rattle.std.specs.List.{AllByRecursion, join_with_byte}
 use Rattle.forest.specs.Forest.{Forest}
@@ -24,6 +24,16 @@ IsPosition number = number ≤ 4294967295
 
 abbrev pub IsPath : List ℕ → Type 0
 IsPath path = AllByRecursion IsPosition path
+
+-- the text is this path
+pub record IsPathText (text path : List ℕ) : Type 0 where
+  pub written : text ≡ path_text path
+  pub sound : IsPath path
+
+-- the text is this path, or none
+abbrev pub ReadsAsPath : List ℕ → Option (List ℕ) → Type 0
+ReadsAsPath text (Some path) = IsPathText text path
+ReadsAsPath text None = (path : List ℕ) → IsPathText text path → ⊥
 
 -- words with one space between each two
 abbrev pub spaced : List (List ℕ) → List ℕ

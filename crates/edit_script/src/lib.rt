@@ -17,6 +17,9 @@
 //! let fault = read_script(alloc, "show\nremove 0\n");                 // BadLine { number: 2 }
 //! ```
 //!
+//! [`path::path_of_word`] reads a path that stands alone, as a script has it. The layer above knows it by `ReadsAsPath text
+//! path`.
+//!
 //! [`generate`] makes a document, a sheet and edits of it from a seed, for long runs that anybody can repeat. The
 //! layer above knows them by `document`, `sheet` and `edits_of` (`specs/Generator.antt`).
 //!
@@ -36,7 +39,7 @@ mod line_fault;
 mod lines;
 mod made_edits;
 mod operands;
-mod path;
+pub mod path;
 mod script;
 pub mod script_kind;
 mod sections;

@@ -39,13 +39,24 @@ pub fn read_natural(text: &str) -> Option<u32>
     }
 }
 
+/// A position, or an index, if the text is one. It takes no memory.
+pub(crate) fn position_of(text: &str) -> Option<usize>
+    ensures found { IfSome result (IsPositionText (chars text.now)) }
+    ensures none { IfNone result ((number : ℕ) → IsPositionText (chars text.now) number → ⊥) }
+{
+    match read_natural(text) {
+        Some(number) => Some(number as usize),
+        None => None,
+    }
+}
+
 /// A position, or an index.
 pub(crate) fn read_position(text: &str) -> Result<usize, LineFault>
     ensures found { IfOk result (IsPositionText (chars text.now)) }
     ensures fault { IfErr result (IsLineFault (IsPositionText (chars text.now))) }
 {
-    match read_natural(text) {
-        Some(number) => Ok(number as usize),
+    match position_of(text) {
+        Some(position) => Ok(position),
         None => Err(LineFault::NoForm),
     }
 }

@@ -3,7 +3,6 @@ use Rattle.std.specs.Prelude.{◌≡◌, ℕ, Bool, false, not, ◌==◌, if◌t
 use Rattle.std.specs.Fmt.{decimal}
 use Rattle.std.specs.List.{flat_map, list_all}
 use Rattle.reading.specs.Characters.{is_digit}
-use Rattle.dump_definitions.specs.Dump.{path_text}
 use Rattle.xml_definitions.specs.Spelling.{IsName}
 use Rattle.edit_script.specs.Scripts.{IsPath, IsPosition}
 
@@ -40,11 +39,6 @@ pub data IsNameAndValue (text name value : List ℕ) : Type 0 where
 pub record IsPositionText (text : List ℕ) (number : ℕ) : Type 0 where
   pub written : text ≡ decimal number
   pub sound : IsPosition number
-
--- the text is this path
-pub record IsPathText (text path : List ℕ) : Type 0 where
-  pub written : text ≡ path_text path
-  pub sound : IsPath path
 
 -- the positions of a path, each behind its slash
 abbrev pub positions_text : List ℕ → List ℕ

@@ -1,7 +1,8 @@
 use Rattle.std.specs.Str.{chars}
 use Rattle.xml_definitions.specs.Texts.{IsFragmentText}
 use Rattle.edit_script.specs.Machinery.Operands.{AreOperands}
-use Rattle.edit_script.specs.Machinery.Words.{AreParts, IsPathText, IsPositionText}
+use Rattle.edit_script.specs.Machinery.Words.{AreParts, IsPositionText}
+use Rattle.edit_script.specs.Scripts.{IsPathText}
 use Rattle.edit_script.specs.declared.keyword.Keyword.TheVariants.{Insert}
 use Rattle.edit_script.proofs.FaultLaws.{stopped}
 use Rattle.edit_script.proofs.OperandLaws.{insert_index, insert_is, insert_markup, insert_path, insert_rest, insert_split}

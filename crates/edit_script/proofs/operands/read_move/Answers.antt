@@ -1,6 +1,7 @@
 use Rattle.std.specs.Str.{chars}
 use Rattle.edit_script.specs.Machinery.Operands.{AreOperands}
-use Rattle.edit_script.specs.Machinery.Words.{AreParts, IsPathText, IsPositionText}
+use Rattle.edit_script.specs.Machinery.Words.{AreParts, IsPositionText}
+use Rattle.edit_script.specs.Scripts.{IsPathText}
 use Rattle.edit_script.specs.declared.keyword.Keyword.TheVariants.{Move}
 use Rattle.edit_script.proofs.FaultLaws.{stopped}
 use Rattle.edit_script.proofs.OperandLaws.{move_from, move_index, move_is, move_parent, move_rest, move_split}

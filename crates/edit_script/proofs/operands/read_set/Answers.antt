@@ -1,6 +1,7 @@
 use Rattle.std.specs.Str.{chars}
 use Rattle.edit_script.specs.Machinery.Operands.{AreOperands}
-use Rattle.edit_script.specs.Machinery.Words.{AreParts, IsNameText, IsPathText}
+use Rattle.edit_script.specs.Machinery.Words.{AreParts, IsNameText}
+use Rattle.edit_script.specs.Scripts.{IsPathText}
 use Rattle.edit_script.specs.declared.keyword.Keyword.TheVariants.{Set}
 use Rattle.edit_script.proofs.FaultLaws.{stopped}
 use Rattle.edit_script.proofs.OperandLaws.{set_is, set_name, set_path, set_split}

@@ -1,6 +1,7 @@
 use Rattle.std.specs.Str.{chars}
 use Rattle.edit_script.specs.Machinery.Operands.{AreOperands}
-use Rattle.edit_script.specs.Machinery.Words.{AreParts, IsNameText, IsPathText}
+use Rattle.edit_script.specs.Machinery.Words.{AreParts, IsNameText}
+use Rattle.edit_script.specs.Scripts.{IsPathText}
 use Rattle.edit_script.specs.declared.keyword.Keyword.TheVariants.{Unset}
 use Rattle.edit_script.proofs.FaultLaws.{stopped}
 use Rattle.edit_script.proofs.OperandLaws.{unset_is, unset_name, unset_path, unset_split}

@@ -1,6 +1,7 @@
 use Rattle.std.proofs.Common.{sym, ◌∙◌}
 use Rattle.std.specs.Str.{chars}
-use Rattle.edit_script.specs.Machinery.Words.{ArePositions, IsPathText}
+use Rattle.edit_script.specs.Machinery.Words.{ArePositions}
+use Rattle.edit_script.specs.Scripts.{IsPathText}
 use Rattle.edit_script.proofs.FaultLaws.{stopped}
 use Rattle.edit_script.proofs.PathLaws.{path-positions, path-root, slash-is, slash-no}
 use Rattle.edit_script.proofs.path.read_path.Goals as goal
