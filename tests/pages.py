@@ -5,8 +5,9 @@
     script          edits of them
     history DEPTH   edits of them, which may be undone
 
-and then the block `dump`, with what is printed. Each row of the tables that `TABLES` names makes one too, and the table
-of statuses says which form the line of each status has.
+and then the block `dump`, with what is printed, or `lines`, with the text view of the document, or with what the call prints.
+Each row of the tables that `TABLES` names makes one too, and the table of statuses says which form the line of each status
+has.
 """
 
 import re
@@ -15,6 +16,8 @@ import shlex
 from rows import Case
 
 BLOCK = re.compile(r"^```(\w+(?: \d+)?)\n(.*?)^```$", re.MULTILINE | re.DOTALL)
+# Which command prints what a block of this kind has.
+COMMANDS = {"dump": "dump", "lines": "text"}
 LIST = "<ol><li>a</li><li>b</li></ol>"
 
 
@@ -27,9 +30,9 @@ def examples_of(page, text):
     found, parts = [], {}
     for block in BLOCK.finditer(text):
         kind, body = block.groups()
-        if kind == "dump":
+        if kind in COMMANDS:
             name = f"{page}, line {text.count(chr(10), 0, block.start()) + 1}"
-            found.append(example_of(name, parts, body, f"{page}-{len(found)}"))
+            found.append(example_of(name, COMMANDS[kind], parts, body, f"{page}-{len(found)}"))
             parts = {kind: body for kind, body in parts.items() if kind in ("sh", "xml", "css")}
         elif kind in ("xml", "sh"):
             parts = {kind: body}
@@ -38,14 +41,14 @@ def examples_of(page, text):
     return found
 
 
-def example_of(name, parts, output, stem):
+def example_of(name, command, parts, output, stem):
     """The case that these blocks make; its files are named after its page and its place there."""
     if "sh" in parts:
         program, *words = shlex.split(parts["sh"])
         assert program == "./marker", name
         return Case(name, words, output=output)
     files = {f"{stem}.xhtml": parts["xml"].strip(), f"{stem}.css": parts.get("css", "")}
-    words = ["dump", *files]
+    words = [command, *files]
     if "script" in parts:
         files[f"{stem}.txt"] = parts["script"]
         words = ["edit", *files]
@@ -154,4 +157,4 @@ def form_of_line(cell):
         return re.compile("")
     form = re.sub("NAME", ".+", re.escape(code(cell)))
     form = re.sub("LINE|COLUMN|NUMBER|OFFSET", "[0-9]+", form)
-    return re.compile(form + (".+\n" if cell.endswith("and the five forms") else "\n"))
+    return re.compile(form + (".+\n" if cell.endswith("and the seven forms") else "\n"))

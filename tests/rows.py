@@ -8,7 +8,7 @@ from collections import namedtuple
 # output and the standard error that are wanted.
 Case = namedtuple("Case", "name words status output line files", defaults=(0, "", "", {}))
 
-USAGE = "marker: usage: dump DOC SHEET | edit DOC SHEET SCRIPT | table SHEET STYLE FROM TO | gen SEED COUNT | history DOC SHEET SCRIPT DEPTH\n"
+USAGE = "marker: usage: dump DOC SHEET | edit DOC SHEET SCRIPT | table SHEET STYLE FROM TO | gen SEED COUNT | history DOC SHEET SCRIPT DEPTH | text DOC SHEET | why DOC SHEET PATH\n"
 LIST = '/0 marker "1. "\n/1 marker "2. "\n'
 FILES = {
     "empty.css": "",
@@ -90,6 +90,10 @@ def small(here):
         ("no depth", "history list.xhtml empty.css undo.txt 0", 2, "", USAGE),
         ("no history", "edit list.xhtml empty.css undo.txt", 7, "", "marker: undo.txt:2: bad line\n"),
         ("a script that is none", "edit list.xhtml empty.css bad.txt", 7, "", "marker: bad.txt:3: bad line\n"),
+        ("a list as lines", "text list.xhtml empty.css", 0, "1. a\n2. b\n", ""),
+        ("lines of a document that is open", "text open.xhtml empty.css", 6, "", "marker: open.xhtml:1:9: not well-formed\n"),
+        ("no element", "why list.xhtml empty.css /0/0", 0, "refused no-element\n", ""),
+        ("no path", "why list.xhtml empty.css 7", 2, "", USAGE),
         ("a table", "table empty.css lower-roman 3 4", 0, '3 "iii"\n4 "iv"\n', ""),
         ("the example of years", "table examples/styles.css year -1 1", 0, '-1 "1 BCE"\n0 "—"\n1 "1"\n', ""),
         ("the example of plates", "table examples/styles.css plate 7 7", 0, '7 "007"\n', ""),

@@ -77,6 +77,19 @@ fn run_form<L: Ledger, W: Write + Drop>(
     )
 }
 
+/// Runs words over standard output, whose bytes a buffer keeps back.
+fn run_buffered<L: Ledger>(rt: &HostRuntime, blank: Blank, words: &[Text]) -> Status
+    requires name { blank.name ≡ L.name }
+    requires parts { blank.parts ≡ L.parts }
+    requires some { 0 < L.parts }
+    ensures usage { result ≡ status.Usage → ReadsAsForm words.now None }
+{
+    match BufWriter::new(rt.alloc(), rt.stdout()) {
+        Ok(writer) => run_form::<L, _>(rt, blank, words, writer),
+        Err(_) => end_with(rt, Status::Memory),
+    }
+}
+
 /// Runs words, which end as Usage exactly where they are of no form. The writer's buffer is taken after that is
 /// known, so that want of memory can't hide it.
 fn run_words<L: Ledger>(rt: &HostRuntime, blank: Blank, words: &[Text]) -> Status
@@ -86,11 +99,9 @@ fn run_words<L: Ledger>(rt: &HostRuntime, blank: Blank, words: &[Text]) -> Statu
     ensures no_form { ReadsAsForm words.now None → result ≡ status.Usage }
     ensures usage { result ≡ status.Usage → ReadsAsForm words.now None }
 {
-    if read_form(words).is_none() {
-        return end_with(rt, Status::Usage);
-    }
-    match BufWriter::new(rt.alloc(), rt.stdout()) {
-        Ok(writer) => run_form::<L, _>(rt, blank, words, writer),
+    match read_form(rt.alloc(), words) {
+        Ok(Some(_)) => run_buffered::<L>(rt, blank, words),
+        Ok(None) => end_with(rt, Status::Usage),
         Err(_) => end_with(rt, Status::Memory),
     }
 }

@@ -1,9 +1,9 @@
 -- What an editor answers, by what its engine or its history does.
-use Rattle.std.proofs.Common.{◌≡◌, ◌↔◌, [], ◌∷◌, Option, Result, take, refl, sym, ap, subst}
+use Rattle.std.proofs.Common.{◌≡◌, ◌↔◌, [], ◌∷◌, List, Option, Result, take, refl, sym, ap, subst}
 use Rattle.std.specs.Prelude.{Some, None, Ok, Err, IfErr, IfOk, IfSome, IsSomeAnd, OnErr, OnOk}
 use Rattle.std.proofs.lemmas.Result.{on_err_weaker, on_ok_weaker}
 use Rattle.dirty_walk.specs.Books.{StyledDocument}
-use Rattle.edit_inverses.specs.Versions.{AreSameVersions, IsSameVersion, version_after}
+use Rattle.edit_inverses.specs.Versions.{AreSameVersions, IsSameVersion, Version, version_after}
 use Rattle.marker_engine.specs.Edited.{edit_fault, edited as edited_source}
 use Rattle.marker_engine.specs.Engines.{Source, source_of}
 use Rattle.marker_engine.specs.declared.edit_fault.EditFault.{EditFault}
@@ -90,7 +90,7 @@ history_answers result edit old new ok behind none refused memory failed = recor
 -- Steps back and forth.
 
 pub no_step : (versions : Versions) (step : Option Versions) → step ≡ None → AnswersStep (Err undo_faults.Nothing) versions versions step
-no_step versions step none = record { done = tt; nothing = λ is. none; stays = refl }
+no_step versions step none = record { done = tt; nothing = (λ is. none, λ is. refl); stays = refl }
 
 back_by : (result : Result (Unit {0}) UndoFault) (old new : EditHistory) → OnOk result (past old ≡ present new ∷ past new)
     → OnOk result (AreSameVersions (future new) (present old ∷ future old))
@@ -100,12 +100,16 @@ back_by (Ok x) old new behind ahead =
     (record { present = same_version (present new); past = same_versions (past new); future = ahead })
 back_by (Err fault) old new behind ahead = tt
 
+none_back : (present : Version) (past future : List Version) → stepped_back present past future ≡ None → past ≡ []
+none_back present [] future is = refl
+none_back present (version ∷ past) future is = absurd (cc)
+
 pub back_answers : (result : Result (Unit {0}) UndoFault) (old new : EditHistory) → OnOk result (past old ≡ present new ∷ past new)
     → OnOk result (AreSameVersions (future new) (present old ∷ future old)) → (result ≡ Err undo_faults.Nothing) ↔ (past old ≡ [])
     → OnErr result (new ≡ old) → AnswersStep result (of_history old) (of_history new) (undone (of_history old))
 back_answers result old new behind ahead none failed = record {
   done = back_by result old new behind ahead;
-  nothing = λ is. ap (λ versions. stepped_back (present old) versions (future old)) (none.0 is);
+  nothing = (λ is. ap (λ versions. stepped_back (present old) versions (future old)) (none.0 is), λ is. none.1 (none_back (present old) (past old) (future old) is));
   stays = on_err_weaker result (λ same. ap of_history same) failed;
 }
 
@@ -117,11 +121,15 @@ forth_by (Ok x) old new ahead behind =
     (record { present = same_version (present new); past = behind; future = same_versions (future new) })
 forth_by (Err fault) old new ahead behind = tt
 
+none_forth : (present : Version) (past future : List Version) → stepped_forth present past future ≡ None → future ≡ []
+none_forth present past [] is = refl
+none_forth present past (version ∷ future) is = absurd (cc)
+
 pub forth_answers : (result : Result (Unit {0}) UndoFault) (old new : EditHistory) → OnOk result (future old ≡ present new ∷ future new)
     → OnOk result (AreSameVersions (past new) (present old ∷ past old)) → (result ≡ Err undo_faults.Nothing) ↔ (future old ≡ [])
     → OnErr result (new ≡ old) → AnswersStep result (of_history old) (of_history new) (redone (of_history old))
 forth_answers result old new ahead behind none failed = record {
   done = forth_by result old new ahead behind;
-  nothing = λ is. ap (λ versions. stepped_forth (present old) (past old) versions) (none.0 is);
+  nothing = (λ is. ap (λ versions. stepped_forth (present old) (past old) versions) (none.0 is), λ is. none.1 (none_forth (present old) (past old) (future old) is));
   stays = on_err_weaker result (λ same. ap of_history same) failed;
 }

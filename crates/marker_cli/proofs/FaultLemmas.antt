@@ -18,7 +18,7 @@ use Rattle.xhtml_reader.specs.declared.fault.DocFault.{DocFault}
 use Rattle.xhtml_reader.specs.declared.fault.DocFault.TheVariants.{Malformed, Memory}
 use Rattle.xml_definitions.specs.Faults.{FailsAsDocument}
 use Rattle.marker_cli.specs.declared.status.Status.{Status}
-use Rattle.marker_cli.specs.Dump.{Reading, tree_of}
+use Rattle.marker_cli.specs.Documents.{Reading, tree_of}
 use Rattle.marker_cli.specs.Edit.{commands_of}
 use Rattle.marker_cli.specs.Ends.{Gives, IsCaused, IsPutCaused, IsStop, part_status}
 use Rattle.marker_cli.specs.Names.{TellsOfLine}

@@ -1,5 +1,5 @@
 -- Words are of one form at most.
-use Rattle.std.proofs.Common.{◌≡◌, ◌∙◌, ℕ, ℤ, ◌^◌, ◌<◌, w64, FitsSigned, get_or, ap, Bool, List, [], ◌∷◌, length, arith, nat_lt, refl, sym, true, codes, encode_utf8_all}
+use Rattle.std.proofs.Common.{◌≡◌, ◌∙◌, ℕ, ℤ, ◌^◌, ◌<◌, w64, FitsSigned, get_or, ap, Bool, List, [], ◌∷◌, length, arith, nat_lt, refl, subst, sym, true, codes, encode_utf8_all}
 use lib.Signed.{mag}
 use Rattle.std.specs.Fmt.{decimal, signed_decimal}
 use Rattle.std.proofs.lemmas.Fmt.{decimal_injective, signed_decimal_injective}
@@ -9,12 +9,16 @@ use Rattle.std.proofs.lemmas.Str.{chars-IsAscii, encodes-IsAscii, encodes-chars}
 use Rattle.std.proofs.lemmas.Str.Ascii.{IsAscii-cons, IsAscii-nil}
 use Rattle.std.specs.List.{list_all}
 use Rattle.std.specs.Bool.{Decides}
-use Rattle.std.specs.Prelude.{Some, None, Option, IfNone}
+use Rattle.std.specs.Prelude.{Some, None, Option, IfNone, Result, Ok, Err, OnErr}
 use Rattle.std.specs.Str.{IsAscii, IsUtf8, bytes_eq, chars}
 use Rattle.std.proofs.lemmas.Bool.Decides.{Decides-at, Decides-like}
 use Rattle.std.proofs.lemmas.Slice.Eq.{bytes_eq-Decides}
+use Rattle.dump_definitions.specs.Dump.{path_text}
+use Rattle.edit_script.specs.Scripts.{IsPathText}
+use Rattle.edit_script.proofs.PathLaws.{same_path}
+use Rattle.marker_cli.specs.declared.aspect.Aspect.TheVariants.{Dump, Text, Why}
 use Rattle.marker_cli.specs.declared.form.Form.{Form as ReadForm}
-use Rattle.marker_cli.specs.Words.{Form, IsCount, IsDepth, IsForm, IsRun, IsTable, IsWithin, ReadsAsForm, dump, edit, gen, read_form_of, table, word, words_of}
+use Rattle.marker_cli.specs.Words.{Form, IsCommand, IsCount, IsDepth, IsForm, IsRun, IsTable, IsWithin, ReadsAsForm, aspect, edit, gen, read_form_of, table, word, words_of}
 
 -- what `==` of two texts says of their characters
 pub same_text : (answer : Bool) (xs ys cs : List ℕ) → IsUtf8 ys → xs ≡ encode_utf8_all cs → chars xs ≡ cs → answer ≡ bytes_eq xs ys
@@ -53,21 +57,34 @@ one_integer digits number other fits fits_too first second =
 pub one_natural : (digits : List ℕ) (number other : ℕ) → number < 2 ^ 32 → other < 2 ^ 32 → digits ≡ decimal number → digits ≡ decimal other → other ≡ number
 one_natural digits number other fits fits_too first second = decimal_injective other number (omega arith) (omega arith) (sym second ∙ first)
 
+abbrev first_letter : List (List ℕ) → ℕ
+first_letter words = get_or (word words 0) 0 0
+
 -- words of one form are of no other
 one_written : (form other : Form) → IsWithin form → IsWithin other → words_of form ≡ words_of other → other ≡ form
-one_written (dump document sheet) (dump first second) within fits same =
-    let one : first ≡ document = cc same in let two : second ≡ sheet = cc same in λ i. dump (one i) (two i)
-one_written (dump document sheet) (edit first second third None) within fits same = absurd (cc same)
-one_written (dump document sheet) (edit first second third (Some depth)) within fits same = absurd (cc same)
-one_written (dump document sheet) (table first second from to) within fits same = absurd (cc same)
-one_written (dump document sheet) (gen seed count) within fits same = absurd (cc same)
-one_written (edit document sheet script None) (dump first second) within fits same = absurd (cc same)
+one_written (aspect Dump document sheet) (aspect Dump first second) within fits same =
+    let one : first ≡ document = cc same in let two : second ≡ sheet = cc same in λ i. aspect Dump (one i) (two i)
+one_written (aspect Text document sheet) (aspect Text first second) within fits same =
+    let one : first ≡ document = cc same in let two : second ≡ sheet = cc same in λ i. aspect Text (one i) (two i)
+one_written (aspect Dump document sheet) (aspect Text first second) within fits same = absurd (let letter : 100 ≡ 116 = ap first_letter same in omega (arith, letter))
+one_written (aspect Text document sheet) (aspect Dump first second) within fits same = absurd (let letter : 116 ≡ 100 = ap first_letter same in omega (arith, letter))
+one_written (aspect Dump document sheet) (edit first second third None) within fits same = absurd (cc same)
+one_written (aspect Text document sheet) (edit first second third None) within fits same = absurd (cc same)
+one_written (aspect Dump document sheet) (edit first second third (Some depth)) within fits same = absurd (cc same)
+one_written (aspect Text document sheet) (edit first second third (Some depth)) within fits same = absurd (cc same)
+one_written (aspect Dump document sheet) (table first second from to) within fits same = absurd (cc same)
+one_written (aspect Text document sheet) (table first second from to) within fits same = absurd (cc same)
+one_written (aspect Dump document sheet) (gen seed count) within fits same = absurd (cc same)
+one_written (aspect Text document sheet) (gen seed count) within fits same = absurd (cc same)
+one_written (edit document sheet script None) (aspect Dump first second) within fits same = absurd (cc same)
+one_written (edit document sheet script None) (aspect Text first second) within fits same = absurd (cc same)
 one_written (edit document sheet script None) (edit first second third None) within fits same =
     let one : first ≡ document = cc same in let two : second ≡ sheet = cc same in let three : third ≡ script = cc same in λ i. edit (one i) (two i) (three i) None
 one_written (edit document sheet script None) (edit first second third (Some depth)) within fits same = absurd (cc same)
 one_written (edit document sheet script None) (table first second from to) within fits same = absurd (cc same)
 one_written (edit document sheet script None) (gen seed count) within fits same = absurd (cc same)
-one_written (edit document sheet script (Some depth)) (dump first second) within fits same = absurd (cc same)
+one_written (edit document sheet script (Some depth)) (aspect Dump first second) within fits same = absurd (cc same)
+one_written (edit document sheet script (Some depth)) (aspect Text first second) within fits same = absurd (cc same)
 one_written (edit document sheet script (Some depth)) (edit first second third None) within fits same = absurd (cc same)
 one_written (edit document sheet script (Some depth)) (edit first second third (Some deep)) within fits same =
     let one : first ≡ document = cc same in
@@ -78,7 +95,8 @@ one_written (edit document sheet script (Some depth)) (edit first second third (
     λ i. edit (one i) (two i) (three i) (Some (four i))
 one_written (edit document sheet script (Some depth)) (table first second from to) within fits same = absurd (cc same)
 one_written (edit document sheet script (Some depth)) (gen seed count) within fits same = absurd (cc same)
-one_written (table sheet style from to) (dump first second) within fits same = absurd (cc same)
+one_written (table sheet style from to) (aspect Dump first second) within fits same = absurd (cc same)
+one_written (table sheet style from to) (aspect Text first second) within fits same = absurd (cc same)
 one_written (table sheet style from to) (edit first second third None) within fits same = absurd (cc same)
 one_written (table sheet style from to) (edit first second third (Some depth)) within fits same = absurd (cc same)
 one_written (table sheet style from to) (table first second low high) within fits same =
@@ -90,7 +108,8 @@ one_written (table sheet style from to) (table first second low high) within fit
     let four : high ≡ to = one_integer _ to high within.to_fits fits.to_fits (λ i. signed_decimal to) to_same in
     λ i. table (one i) (two i) (three i) (four i)
 one_written (table sheet style from to) (gen seed count) within fits same = absurd (cc same)
-one_written (gen seed count) (dump first second) within fits same = absurd (cc same)
+one_written (gen seed count) (aspect Dump first second) within fits same = absurd (cc same)
+one_written (gen seed count) (aspect Text first second) within fits same = absurd (cc same)
 one_written (gen seed count) (edit first second third None) within fits same = absurd (cc same)
 one_written (gen seed count) (edit first second third (Some depth)) within fits same = absurd (cc same)
 one_written (gen seed count) (table first second from to) within fits same = absurd (cc same)
@@ -100,6 +119,24 @@ one_written (gen seed count) (gen start edits) within fits same =
     let one : start ≡ seed = one_natural _ seed start (omega (arith, within.0)) (omega (arith, fits.0)) (λ i. decimal seed) seed_same in
     let two : edits ≡ count = one_natural _ count edits (omega (arith, within.2)) (omega (arith, fits.2)) (λ i. decimal count) count_same in
     λ i. gen (one i) (two i)
+one_written (aspect (Why path) document sheet) (aspect (Why other) first second) within fits same =
+    let one : first ≡ document = cc same in
+    let two : second ≡ sheet = cc same in
+    let paths : path_text path ≡ path_text other = cc same in
+    let three : path ≡ other = same_path path other within fits paths in
+    λ i. aspect (Why (sym three i)) (one i) (two i)
+one_written (aspect (Why path) document sheet) (aspect Dump first second) within fits same = absurd (let letter : 119 ≡ 100 = ap first_letter same in omega (arith, letter))
+one_written (aspect Dump document sheet) (aspect (Why path) first second) within fits same = absurd (let letter : 100 ≡ 119 = ap first_letter same in omega (arith, letter))
+one_written (aspect (Why path) document sheet) (aspect Text first second) within fits same = absurd (let letter : 119 ≡ 116 = ap first_letter same in omega (arith, letter))
+one_written (aspect Text document sheet) (aspect (Why path) first second) within fits same = absurd (let letter : 116 ≡ 119 = ap first_letter same in omega (arith, letter))
+one_written (aspect (Why path) document sheet) (edit first second third None) within fits same = absurd (let letter : 119 ≡ 101 = ap first_letter same in omega (arith, letter))
+one_written (edit document sheet script None) (aspect (Why path) first second) within fits same = absurd (let letter : 101 ≡ 119 = ap first_letter same in omega (arith, letter))
+one_written (aspect (Why path) document sheet) (edit first second third (Some depth)) within fits same = absurd (let letter : 119 ≡ 104 = ap first_letter same in omega (arith, letter))
+one_written (edit document sheet script (Some depth)) (aspect (Why path) first second) within fits same = absurd (let letter : 104 ≡ 119 = ap first_letter same in omega (arith, letter))
+one_written (aspect (Why path) document sheet) (table first second from to) within fits same = absurd (let letter : 119 ≡ 116 = ap first_letter same in omega (arith, letter))
+one_written (table sheet style from to) (aspect (Why path) first second) within fits same = absurd (let letter : 116 ≡ 119 = ap first_letter same in omega (arith, letter))
+one_written (aspect (Why path) document sheet) (gen seed count) within fits same = absurd (let letter : 119 ≡ 103 = ap first_letter same in omega (arith, letter))
+one_written (gen seed count) (aspect (Why path) first second) within fits same = absurd (let letter : 103 ≡ 119 = ap first_letter same in omega (arith, letter))
 
 pub one_form : (words : List (List ℕ)) (form other : Form) → IsForm words form → IsForm words other → other ≡ form
 one_form words form other is reads = one_written form other is.within reads.within (sym is.written ∙ reads.written)
@@ -132,13 +169,43 @@ five_words (a ∷ b ∷ c ∷ d ∷ []) name first second third fourth long begi
 five_words (a ∷ b ∷ c ∷ d ∷ e ∷ []) name first second third fourth long begins one two three four = λ i. begins i ∷ sym one i ∷ sym two i ∷ sym three i ∷ sym four i ∷ []
 five_words (a ∷ b ∷ c ∷ d ∷ e ∷ f ∷ rest) name first second third fourth long begins one two three four = absurd (omega arith)
 
+pub three_listed : (words : List (List ℕ)) (name : List ℕ) → IsCommand words 3 name → words ≡ name ∷ word words 1 ∷ word words 2 ∷ []
+three_listed [] name is = absurd (cc is.0)
+three_listed (a ∷ []) name is = absurd (cc is.0)
+three_listed (a ∷ b ∷ []) name is = absurd (cc is.0)
+three_listed (a ∷ b ∷ c ∷ []) name is = λ i. is.1 i ∷ b ∷ c ∷ []
+three_listed (a ∷ b ∷ c ∷ d ∷ rest) name is = absurd (omega (arith, is.0))
+
+pub why_written : (words : List (List ℕ)) (third path : List ℕ) → IsCommand words 4 (codes "why") → third ≡ get_or words 3 third → third ≡ path_text path
+    → words ≡ words_of (aspect (Why path) (word words 1) (word words 2))
+why_written [] third path is third_is written = absurd (cc is.0)
+why_written (a ∷ []) third path is third_is written = absurd (cc is.0)
+why_written (a ∷ b ∷ []) third path is third_is written = absurd (cc is.0)
+why_written (a ∷ b ∷ c ∷ []) third path is third_is written = absurd (cc is.0)
+why_written (a ∷ b ∷ c ∷ d ∷ []) third path is third_is written = λ i. is.1 i ∷ b ∷ c ∷ (sym third_is ∙ written) i ∷ []
+why_written (a ∷ b ∷ c ∷ d ∷ e ∷ rest) third path is third_is written = absurd (omega (arith, is.0))
+
+pub why_form : (words : List (List ℕ)) (third path : List ℕ) → IsCommand words 4 (codes "why") → third ≡ get_or words 3 third → IsPathText third path
+    → IsForm words (aspect (Why path) (word words 1) (word words 2))
+why_form words third path is third_is text = record { written = why_written words third path is third_is text.written; within = text.sound }
+
+pub same_form : {words : List (List ℕ)} {form other : Form} → other ≡ form → IsForm words form → IsForm words other
+same_form {words} same is = subst (λ form. IsForm words form) (sym same) is
+
+-- an answer that is a fault
+pub on_err : {T E P : Type 0} (r : Result T E) → P → OnErr r P
+on_err (Ok x) p = tt
+on_err (Err e) p = p
+
 -- words of no form
 pub none_read : (words : List (List ℕ)) (answer : Option ReadForm) → answer ≡ None → ((form : Form) → IsForm words form → ⊥) → ReadsAsForm words (read_form_of answer)
 none_read words answer is none = rw is none
 
 pub table_none : (words : List (List ℕ)) (from to : List ℕ) → word words 0 ≡ codes "table" → from ≡ get_or words 3 from → to ≡ get_or words 4 to
     → ((first last : ℤ) → from ≡ signed_decimal first → to ≡ signed_decimal last → IsTable first last → ⊥) → (form : Form) → IsForm words form → ⊥
-table_none words from to begins third fourth none (dump document sheet) is = cc (sym begins ∙ ap (λ ws. word ws 0) is.written)
+table_none words from to begins third fourth none (aspect Dump document sheet) is = cc (sym begins ∙ ap (λ ws. word ws 0) is.written)
+table_none words from to begins third fourth none (aspect Text document sheet) is = cc (sym begins ∙ ap (λ ws. word ws 0) is.written)
+table_none words from to begins third fourth none (aspect (Why path) document sheet) is = cc (sym begins ∙ ap (λ ws. word ws 0) is.written)
 table_none words from to begins third fourth none (edit document sheet script None) is = cc (sym begins ∙ ap (λ ws. word ws 0) is.written)
 table_none words from to begins third fourth none (edit document sheet script (Some depth)) is = cc (sym begins ∙ ap (λ ws. word ws 0) is.written)
 table_none words from to begins third fourth none (table sheet style first last) is =
@@ -147,7 +214,9 @@ table_none words from to begins third fourth none (gen seed count) is = cc (sym 
 
 pub gen_none : (words : List (List ℕ)) (seed count : List ℕ) → words ≡ codes "gen" ∷ seed ∷ count ∷ []
     → ((start edits : ℕ) → seed ≡ decimal start → count ≡ decimal edits → IsRun start edits → ⊥) → (form : Form) → IsForm words form → ⊥
-gen_none words seed count written none (dump document sheet) is = cc (sym written ∙ is.written)
+gen_none words seed count written none (aspect Dump document sheet) is = cc (sym written ∙ is.written)
+gen_none words seed count written none (aspect Text document sheet) is = cc (sym written ∙ is.written)
+gen_none words seed count written none (aspect (Why path) document sheet) is = cc (sym written ∙ is.written)
 gen_none words seed count written none (edit document sheet script None) is = cc (sym written ∙ is.written)
 gen_none words seed count written none (edit document sheet script (Some depth)) is = cc (sym written ∙ is.written)
 gen_none words seed count written none (table sheet style from to) is = cc (sym written ∙ is.written)
@@ -158,23 +227,35 @@ gen_none words seed count written none (gen start edits) is =
 
 pub history_none : (words : List (List ℕ)) (depth : List ℕ) → word words 0 ≡ codes "history" → depth ≡ get_or words 4 depth
     → ((deep : ℕ) → depth ≡ decimal deep → IsDepth deep → ⊥) → (form : Form) → IsForm words form → ⊥
-history_none words depth begins fourth none (dump document sheet) is = cc (sym begins ∙ ap (λ ws. word ws 0) is.written)
+history_none words depth begins fourth none (aspect Dump document sheet) is = cc (sym begins ∙ ap (λ ws. word ws 0) is.written)
+history_none words depth begins fourth none (aspect Text document sheet) is = cc (sym begins ∙ ap (λ ws. word ws 0) is.written)
+history_none words depth begins fourth none (aspect (Why path) document sheet) is = cc (sym begins ∙ ap (λ ws. word ws 0) is.written)
 history_none words depth begins fourth none (edit document sheet script None) is = cc (sym begins ∙ ap (λ ws. word ws 0) is.written)
 history_none words depth begins fourth none (edit document sheet script (Some deep)) is = none deep (fourth ∙ ap (λ ws. get_or ws 4 depth) is.written) is.within
 history_none words depth begins fourth none (table sheet style from to) is = cc (sym begins ∙ ap (λ ws. word ws 0) is.written)
 history_none words depth begins fourth none (gen seed count) is = cc (sym begins ∙ ap (λ ws. word ws 0) is.written)
 
--- the words are so many, and the first one is this
-abbrev Begins : List (List ℕ) → ℕ → List ℕ → Type 0
-Begins words count name = (length words ≡ count) × (word words 0 ≡ name)
+pub why_none : (words : List (List ℕ)) (path : List ℕ) → word words 0 ≡ codes "why" → path ≡ get_or words 3 path
+    → ((positions : List ℕ) → IsPathText path positions → ⊥) → (form : Form) → IsForm words form → ⊥
+why_none words path begins third none (aspect Dump document sheet) is = cc (sym begins ∙ ap (λ ws. word ws 0) is.written)
+why_none words path begins third none (aspect Text document sheet) is = cc (sym begins ∙ ap (λ ws. word ws 0) is.written)
+why_none words path begins third none (aspect (Why positions) document sheet) is =
+    none positions (record { written = third ∙ ap (λ ws. get_or ws 3 path) is.written; sound = is.within })
+why_none words path begins third none (edit document sheet script None) is = cc (sym begins ∙ ap (λ ws. word ws 0) is.written)
+why_none words path begins third none (edit document sheet script (Some deep)) is = cc (sym begins ∙ ap (λ ws. word ws 0) is.written)
+why_none words path begins third none (table sheet style from to) is = cc (sym begins ∙ ap (λ ws. word ws 0) is.written)
+why_none words path begins third none (gen seed count) is = let letter : 119 ≡ 103 = ap (λ (w : List ℕ). get_or w 0 0) (sym begins ∙ ap (λ ws. word ws 0) is.written) in omega (arith, letter)
 
-pub no_command : (words : List (List ℕ)) → (Begins words 3 (codes "dump") → ⊥) → (Begins words 4 (codes "edit") → ⊥) → (Begins words 5 (codes "table") → ⊥)
-    → (Begins words 3 (codes "gen") → ⊥) → (Begins words 5 (codes "history") → ⊥) → (form : Form) → IsForm words form → ⊥
-no_command words first second third fourth fifth (dump document sheet) is = first (ap length is.written, ap (λ ws. word ws 0) is.written)
-no_command words first second third fourth fifth (edit document sheet script None) is = second (ap length is.written, ap (λ ws. word ws 0) is.written)
-no_command words first second third fourth fifth (edit document sheet script (Some depth)) is = fifth (ap length is.written, ap (λ ws. word ws 0) is.written)
-no_command words first second third fourth fifth (table sheet style from to) is = third (ap length is.written, ap (λ ws. word ws 0) is.written)
-no_command words first second third fourth fifth (gen seed count) is = fourth (ap length is.written, ap (λ ws. word ws 0) is.written)
+pub no_command : (words : List (List ℕ)) → (IsCommand words 3 (codes "dump") → ⊥) → (IsCommand words 4 (codes "edit") → ⊥) → (IsCommand words 5 (codes "table") → ⊥)
+    → (IsCommand words 3 (codes "gen") → ⊥) → (IsCommand words 5 (codes "history") → ⊥) → (IsCommand words 3 (codes "text") → ⊥)
+    → (IsCommand words 4 (codes "why") → ⊥) → (form : Form) → IsForm words form → ⊥
+no_command words first second third fourth fifth sixth seventh (aspect Dump document sheet) is = first (ap length is.written, ap (λ ws. word ws 0) is.written)
+no_command words first second third fourth fifth sixth seventh (aspect Text document sheet) is = sixth (ap length is.written, ap (λ ws. word ws 0) is.written)
+no_command words first second third fourth fifth sixth seventh (aspect (Why path) document sheet) is = seventh (ap length is.written, ap (λ ws. word ws 0) is.written)
+no_command words first second third fourth fifth sixth seventh (edit document sheet script None) is = second (ap length is.written, ap (λ ws. word ws 0) is.written)
+no_command words first second third fourth fifth sixth seventh (edit document sheet script (Some depth)) is = fifth (ap length is.written, ap (λ ws. word ws 0) is.written)
+no_command words first second third fourth fifth sixth seventh (table sheet style from to) is = third (ap length is.written, ap (λ ws. word ws 0) is.written)
+no_command words first second third fourth fifth sixth seventh (gen seed count) is = fourth (ap length is.written, ap (λ ws. word ws 0) is.written)
 
 -- the names of the commands are in ASCII
 ascii : (bytes : List ℕ) → list_all (λ b. nat_lt b 128) bytes ≡ true → IsAscii bytes
@@ -196,3 +277,9 @@ gen_name = chars-IsAscii (codes "gen") (ascii (codes "gen") refl)
 
 pub history_name : chars (codes "history") ≡ codes "history"
 history_name = chars-IsAscii (codes "history") (ascii (codes "history") refl)
+
+pub text_name : chars (codes "text") ≡ codes "text"
+text_name = chars-IsAscii (codes "text") (ascii (codes "text") refl)
+
+pub why_name : chars (codes "why") ≡ codes "why"
+why_name = chars-IsAscii (codes "why") (ascii (codes "why") refl)

@@ -80,7 +80,7 @@ module _ (number : ℕ) (old left : Versions) (step : Option Versions) (next : V
       by (Some other) led = at_same (sym (alike left other led)) (at_start _ _)
 
   at_nothing : outcome ≡ Err undo_faults.Nothing → IsAt (after_step number old step next) before before (writes (nothing number) (next old))
-  at_nothing is = at_same (ap (λ s. after_step number old s next) (answers.nothing is)) (at_start _ _)
+  at_nothing is = at_same (ap (λ s. after_step number old s next) (answers.nothing.0 is)) (at_start _ _)
 
   -- there was none, and that was told
   pub step_nothing : {now : Option (List ℕ)} → outcome ≡ Err undo_faults.Nothing → now ≡ grown before (nothing number) → IsAt (after_step number old step next) before now (next left)

@@ -12,7 +12,7 @@ use Rattle.marker_cli.specs.declared.status.FileAt.TheVariants.{Word, Line}
 use Rattle.marker_cli.specs.declared.status.Status.{Status}
 use Rattle.marker_cli.specs.declared.status.Status.TheVariants.{Usage, WriteFault}
 use Rattle.marker_cli.specs.declared.status.Status.TheVariants as status
-use Rattle.marker_cli.specs.Dump.{DocumentReadsAs, Reading}
+use Rattle.marker_cli.specs.Documents.{DocumentReadsAs, Reading}
 use Rattle.marker_cli.specs.Edit.{ScriptReadsAs, kind_of}
 use Rattle.marker_cli.specs.Ends.{IsCaused}
 use Rattle.marker_cli.specs.Lines.{message}
@@ -20,7 +20,7 @@ use Rattle.marker_cli.specs.Names.{TellsOfLine}
 use Rattle.marker_cli.specs.Output.{ends}
 use Rattle.marker_cli.specs.Run.{AreReadings, Readings, TextsReadAs, form_output, form_size, output, read_size}
 use Rattle.marker_cli.specs.Turns.{text_in}
-use Rattle.marker_cli.specs.Words.{Form, IsForm, ReadsAsForm, dump, edit, gen, table}
+use Rattle.marker_cli.specs.Words.{Form, IsForm, ReadsAsForm, aspect, edit, gen, table}
 use Rattle.marker_cli.proofs.FormLemmas.{one_form}
 
 -- the output, by the form of the words
@@ -60,9 +60,9 @@ some_script files document sheet script kind = by (text_in (Word 3) (files scrip
 
 pub some_readings : (words : List (List ℕ)) (files : Files) (form : Option Form) → ReadsAsForm words form → (readings : Readings) × AreReadings words files readings
 some_readings words files None is = (record { form = None; document = Err (1, 1); script = Err 1 }, record { form = is; texts = tt })
-some_readings words files (Some (dump document sheet)) is =
+some_readings words files (Some (aspect what document sheet)) is =
     let tree = some_tree files document sheet in
-    (record { form = Some (dump document sheet); document = tree.0; script = Err 1 }, record { form = is; texts = tree.1 })
+    (record { form = Some (aspect what document sheet); document = tree.0; script = Err 1 }, record { form = is; texts = tree.1 })
 some_readings words files (Some (edit document sheet script depth)) is =
     let tree = some_tree files document sheet in
     let commands = some_script files document sheet script (kind_of depth) in

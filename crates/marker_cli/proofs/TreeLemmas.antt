@@ -8,7 +8,8 @@ use Rattle.document_walk.specs.Elements.{element_count}
 use Rattle.forest.specs.Forest.{Forest}
 use Rattle.node_arena.specs.Document.{HasElementRoot}
 use Rattle.plain_types.specs.declared.node.Node.{Node}
-use Rattle.marker_cli.specs.Dump.{Reading, most_steps, tree_of}
+use Rattle.marker_cli.specs.Aspects.{most_steps}
+use Rattle.marker_cli.specs.Documents.{Reading, tree_of}
 
 -- the root of a document is an element
 pub document_element : (text : List ℕ) (tree : Forest Node) → IsDocumentText text tree → HasElementRoot tree

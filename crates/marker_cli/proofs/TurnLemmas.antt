@@ -10,18 +10,20 @@ use Rattle.edit_script.specs.declared.action.Action.TheVariants.{Change, SheetFi
 use Rattle.edit_script.specs.declared.command.Command.{Command}
 use Rattle.edit_script.specs.declared.script_kind.ScriptKind.{ScriptKind}
 use Rattle.forest.specs.Forest.{Forest}
-use Rattle.generated_texts.specs.Lines.{fresh_dump}
 use Rattle.node_arena.specs.Edits.{place_fault}
 use Rattle.node_arena.specs.declared.place_fault.PlaceFault.{PlaceFault}
 use Rattle.plain_types.specs.declared.edit.Edit.{Edit}
 use Rattle.plain_types.specs.declared.node.Node.{Node}
 use Rattle.ports.specs.Files.{Files}
+use Rattle.marker_cli.specs.declared.aspect.Aspect.{Aspect}
+use Rattle.marker_cli.specs.declared.aspect.Aspect.TheVariants.{Dump, Text, Why}
 use Rattle.marker_cli.specs.declared.status.FileAt.{FileAt}
 use Rattle.marker_cli.specs.declared.status.FileAt.TheVariants.{Word, Line}
 use Rattle.marker_cli.specs.declared.status.Status.{Status}
 use Rattle.marker_cli.specs.declared.status.Status.TheVariants.{Memory, NotUtf8, ReadFault, TooLarge, WriteFault}
 use Rattle.marker_cli.specs.declared.status.Status.TheVariants as status
-use Rattle.marker_cli.specs.Dump.{Reading, dump_output, tree_of}
+use Rattle.marker_cli.specs.Aspects.{aspect_bytes, aspect_output}
+use Rattle.marker_cli.specs.Documents.{Reading, tree_of}
 use Rattle.marker_cli.specs.Edit.{ScriptReadsAs, action_output, after_edit, after_step, commands_of, edit_output, kept_edits, kind_of, play}
 use Rattle.marker_cli.specs.Ends.{EndsAs, ReadsFailed, no_memory, not_read, not_written, whole}
 use Rattle.marker_cli.specs.Names.{file_of, name_at, sheet_name}
@@ -30,7 +32,7 @@ use Rattle.marker_cli.specs.Run.{AreReadings, HasTurn, Readings, TextsReadAs, co
 use Rattle.marker_cli.specs.Table.{table_output}
 use Rattle.marker_cli.specs.Turns.{text_in, text_of, with_text}
 use Rattle.marker_cli.specs.Versions.{Versions, begun, redone, undone}
-use Rattle.marker_cli.specs.Words.{Form, ReadsAsForm, dump, edit, gen, table, word}
+use Rattle.marker_cli.specs.Words.{Form, ReadsAsForm, aspect, edit, gen, table, word}
 
 -- a file that is held doesn't end a run as one that isn't
 text_gives : (file : FileAt) (bytes : List ℕ) (other : FileAt) → text_of file bytes ≡ Err (ReadFault other) → ⊥
@@ -117,14 +119,15 @@ named_from {number} name (command_line {commands = commands} action counts is re
 
 -- The turns of each command.
 module _ (files : Files) (name : FileAt → List ℕ) where
-  turns_dumped : (style : List ℕ) (reading : Reading) → AreTurns files name (goes_on (tree_of reading) (λ tree. writes (fresh_dump style tree) (ends status.Ok)))
-  turns_dumped style (Ok tree) = at_bytes _ (at_end _ (λ file fault. cc fault))
-  turns_dumped style (Err place) = at_end _ (λ file fault. cc fault)
+  turns_written : (what : Aspect) (style : List ℕ) (reading : Reading)
+      → AreTurns files name (goes_on (tree_of reading) (λ tree. writes (aspect_bytes what style tree) (ends status.Ok)))
+  turns_written what style (Ok tree) = at_bytes _ (at_end _ (λ file fault. cc fault))
+  turns_written what style (Err place) = at_end _ (λ file fault. cc fault)
 
-  turns_dump : (document sheet : List ℕ) (reading : Reading) → name (Word 1) ≡ document → name (Word 2) ≡ sheet
-      → AreTurns files name (dump_output files document sheet reading)
-  turns_dump document sheet reading first second =
-      turns_text files name (Word 1) _ document first (λ text found. turns_text files name (Word 2) _ sheet second (λ style held. turns_dumped style reading))
+  turns_aspect : (what : Aspect) (document sheet : List ℕ) (reading : Reading) → name (Word 1) ≡ document → name (Word 2) ≡ sheet
+      → AreTurns files name (aspect_output files what document sheet reading)
+  turns_aspect what document sheet reading first second =
+      turns_text files name (Word 1) _ document first (λ text found. turns_text files name (Word 2) _ sheet second (λ style held. turns_written what style reading))
 
   turns_table : (sheet style : List ℕ) (from to : ℤ) → name (Word 1) ≡ sheet → AreTurns files name (table_output files sheet style from to)
   turns_table sheet style from to first = turns_text files name (Word 1) _ sheet first (λ text found. at_bytes _ (at_end _ (λ file fault. cc fault)))
@@ -156,8 +159,12 @@ module _ (files : Files) (name : FileAt → List ℕ) where
 turns_form : (words : List (List ℕ)) (files : Files) (document : Reading) (script : Result (List Command) ℕ) (form : Option Form) → ReadsAsForm words form
     → TextsReadAs files document script form → AreTurns files (λ file. name_at words (commands_in script) file) (form_output files document script form)
 turns_form words files document script None is reads = at_end _ (λ file fault. cc fault)
-turns_form words files document script (Some (dump doc sheet)) is reads =
-    turns_dump files _ doc sheet document (ap (λ ws. word ws 1) is.written) (ap (λ ws. word ws 2) is.written)
+turns_form words files document script (Some (aspect Dump doc sheet)) is reads =
+    turns_aspect files _ Dump doc sheet document (ap (λ ws. word ws 1) is.written) (ap (λ ws. word ws 2) is.written)
+turns_form words files document script (Some (aspect Text doc sheet)) is reads =
+    turns_aspect files _ Text doc sheet document (ap (λ ws. word ws 1) is.written) (ap (λ ws. word ws 2) is.written)
+turns_form words files document script (Some (aspect (Why path) doc sheet)) is reads =
+    turns_aspect files _ (Why path) doc sheet document (ap (λ ws. word ws 1) is.written) (ap (λ ws. word ws 2) is.written)
 turns_form words files document script (Some (edit doc sheet commands None)) is reads =
     turns_script files _ None doc sheet commands document script (ap (λ ws. word ws 1) is.written) (ap (λ ws. word ws 2) is.written) (ap (λ ws. word ws 3) is.written)
     reads.1 (λ line. refl)

@@ -19,7 +19,7 @@ use Rattle.marker_cli.specs.declared.status.FileAt.TheVariants.{Word, Line}
 use Rattle.marker_cli.specs.declared.status.Status.{Status}
 use Rattle.marker_cli.specs.declared.status.Status.TheVariants.{BadScript}
 use Rattle.marker_cli.specs.declared.status.Status.TheVariants as status
-use Rattle.marker_cli.specs.Dump.{Reading, tree_of}
+use Rattle.marker_cli.specs.Documents.{Reading, tree_of}
 use Rattle.marker_cli.specs.Output.{Output, ends, writes, goes_on}
 use Rattle.marker_cli.specs.Turns.{text_in, with_text}
 use Rattle.marker_cli.specs.Versions.{Versions, begun, edited, redone, undone}

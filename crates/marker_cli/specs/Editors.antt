@@ -1,5 +1,5 @@
 -- What an editor stands for, and what its calls answer (our own).
-use Rattle.std.specs.Prelude.{◌≡◌, ℕ, Option, None, Result, Err, OnOk, OnErr, IfErr, IfSome, IsSomeAnd}
+use Rattle.std.specs.Prelude.{◌≡◌, ◌↔◌, ℕ, Option, None, Result, Err, OnOk, OnErr, IfErr, IfSome, IsSomeAnd}
 use Rattle.edit_inverses.specs.Versions.{AreSameVersions, IsSameVersion}
 use Rattle.marker_engine.specs.Edited.{edit_fault}
 use Rattle.marker_engine.specs.declared.edit_fault.EditFault.{EditFault}
@@ -45,5 +45,5 @@ pub record AnswersEdit (outcome : Result (Unit {0}) EditFault) (depth : ℕ) (ed
 -- what an editor answers to a step back or forth, which leads to these versions if to any
 pub record AnswersStep (outcome : Result (Unit {0}) UndoFault) (versions left : Versions) (step : Option Versions) : Type 0 where
   pub done : OnOk outcome (IsSomeAnd step (λ led. AreSameHistories left led))
-  pub nothing : outcome ≡ Err undo_faults.Nothing → step ≡ None
+  pub nothing : (outcome ≡ Err undo_faults.Nothing) ↔ (step ≡ None)
   pub stays : OnErr outcome (left ≡ versions)

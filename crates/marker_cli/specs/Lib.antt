@@ -1,4 +1,5 @@
-pub mod Dump
+pub mod Aspects
+pub mod Documents
 pub mod Edit
 pub mod Editors
 pub mod Ends

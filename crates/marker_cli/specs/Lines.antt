@@ -29,7 +29,7 @@ about words commands file what = codes "marker: " ++ (encode_utf8_all (name_at w
 abbrev pub message : List (List ℕ) → List Command → Status → List ℕ
 message words commands status.Ok = []
 message words commands status.Memory = codes "marker: out of memory\n"
-message words commands status.Usage = codes "marker: usage: dump DOC SHEET | edit DOC SHEET SCRIPT | table SHEET STYLE FROM TO | gen SEED COUNT | history DOC SHEET SCRIPT DEPTH\n"
+message words commands status.Usage = codes "marker: usage: dump DOC SHEET | edit DOC SHEET SCRIPT | table SHEET STYLE FROM TO | gen SEED COUNT | history DOC SHEET SCRIPT DEPTH | text DOC SHEET | why DOC SHEET PATH\n"
 message words commands (status.ReadFault file) = about words commands file (codes ": read failed\n")
 message words commands (status.TooLarge file) = about words commands file (codes ": larger than 16777216 bytes\n")
 message words commands (status.NotUtf8 file offset) = about words commands file (codes ": not UTF-8 at " ++ (decimal offset ++ codes "\n"))

@@ -7,13 +7,14 @@ use Rattle.edit_script.specs.declared.command.Command.{Command}
 use Rattle.ports.specs.Files.{Files}
 use Rattle.marker_cli.specs.declared.status.FileAt.{FileAt}
 use Rattle.marker_cli.specs.declared.status.Status.TheVariants.{Usage}
-use Rattle.marker_cli.specs.Dump.{DocumentReadsAs, Reading, dump_output}
+use Rattle.marker_cli.specs.Aspects.{aspect_output}
+use Rattle.marker_cli.specs.Documents.{DocumentReadsAs, Reading}
 use Rattle.marker_cli.specs.Edit.{ScriptReadsAs, edit_output, kind_of}
 use Rattle.marker_cli.specs.Generated.{generated_output}
 use Rattle.marker_cli.specs.Names.{name_at}
 use Rattle.marker_cli.specs.Output.{ComesAfter, Output, ends}
 use Rattle.marker_cli.specs.Table.{table_output}
-use Rattle.marker_cli.specs.Words.{Form, IsForm, ReadsAsForm, dump, edit, gen, table}
+use Rattle.marker_cli.specs.Words.{Form, IsForm, ReadsAsForm, aspect, edit, gen, table}
 
 -- what the words and the texts of a run read as
 pub record Readings : Type 0 where
@@ -24,10 +25,15 @@ pub record Readings : Type 0 where
 -- DOC and SCRIPT of the form read so, as far as it has them
 abbrev pub TextsReadAs : Files → Reading → Result (List Command) ℕ → Option Form → Type 0
 TextsReadAs files document script None = Unit {0}
-TextsReadAs files document script (Some (dump doc sheet)) = DocumentReadsAs files doc sheet document
+TextsReadAs files document script (Some (aspect what doc sheet)) = DocumentReadsAs files doc sheet document
 TextsReadAs files document script (Some (edit doc sheet commands depth)) = DocumentReadsAs files doc sheet document × ScriptReadsAs files doc sheet commands (kind_of depth) script
 TextsReadAs files document script (Some (table sheet style from to)) = Unit {0}
 TextsReadAs files document script (Some (gen seed count)) = Unit {0}
+
+-- Over a shelf that tells its files, this holds of what DOC and SCRIPT of this form read as.
+abbrev pub OverTexts : Option Files → Form → (Files → Reading → Result (List Command) ℕ → Type 0) → Type 0
+OverTexts held form Holds =
+    (files : Files) (document : Reading) (script : Result (List Command) ℕ) → held ≡ Some files → TextsReadAs files document script (Some form) → Holds files document script
 
 -- They do read so. Of files this is asked only where they have texts, as well as those that are read before them.
 pub record AreReadings (words : List (List ℕ)) (files : Files) (readings : Readings) : Type 0 where
@@ -41,7 +47,7 @@ OverTold held words Holds = (files : Files) (readings : Readings) → held ≡ S
 -- the output of words of this form
 abbrev pub form_output : Files → Reading → Result (List Command) ℕ → Option Form → Output
 form_output files document script None = ends Usage
-form_output files document script (Some (dump doc sheet)) = dump_output files doc sheet document
+form_output files document script (Some (aspect what doc sheet)) = aspect_output files what doc sheet document
 form_output files document script (Some (edit doc sheet commands depth)) = edit_output files doc sheet commands depth document script
 form_output files document script (Some (table sheet style from to)) = table_output files sheet style from to
 form_output files document script (Some (gen seed count)) = generated_output seed count
@@ -85,7 +91,7 @@ commands_size files (command ∷ commands) = action_size files command.action + 
 
 abbrev pub form_size : Files → Result (List Command) ℕ → Option Form → ℕ
 form_size files script None = 0
-form_size files script (Some (dump doc sheet)) = size_of files doc + size_of files sheet
+form_size files script (Some (aspect what doc sheet)) = size_of files doc + size_of files sheet
 form_size files script (Some (edit doc sheet commands depth)) = size_of files doc + (size_of files sheet + (size_of files commands + commands_size files (commands_in script)))
 form_size files script (Some (table sheet style from to)) = size_of files sheet
 form_size files script (Some (gen seed count)) = 0

@@ -1,21 +1,27 @@
 -- The words of a run (our own).
-use Rattle.std.specs.Prelude.{◌≡◌, ℕ, ℤ, pos, ◌≤◌, ◌≤ℤ◌, ◌+ℤ◌, List, [], ◌∷◌, get_or, codes, Option, Some, None}
+use Rattle.std.specs.Prelude.{◌≡◌, ℕ, ℤ, pos, ◌≤◌, ◌≤ℤ◌, ◌+ℤ◌, List, [], ◌∷◌, get_or, length, codes, Option, Some, None}
 use Rattle.std.specs.Fmt.{decimal, signed_decimal}
+use Rattle.dump_definitions.specs.Dump.{path_text}
+use Rattle.edit_script.specs.Scripts.{IsPath}
 use Rattle.plain_types.specs.declared.count.TheConstants.{COUNT_LOW, COUNT_HIGH}
+use Rattle.marker_cli.specs.declared.aspect.Aspect.{Aspect}
+use Rattle.marker_cli.specs.declared.aspect.Aspect.TheVariants.{Dump, Text, Why}
 use Rattle.marker_cli.specs.declared.form.Form.{Form as ReadForm}
 use Rattle.marker_cli.specs.declared.form.Form.TheVariants as read
 
--- what words ask for: a command with its operands. The commands of a script are done with a depth, so that as many edits can
--- be undone, or without one.
+-- what words ask for: a command with its operands. An aspect of a document is written; the commands of a script are done
+-- with a depth, so that as many edits can be undone, or without one.
 pub data Form : Type 0 where
-  dump : (document sheet : List ℕ) → Form
+  aspect : (what : Aspect) (document sheet : List ℕ) → Form
   edit : (document sheet script : List ℕ) (depth : Option ℕ) → Form
   table : (sheet style : List ℕ) (from to : ℤ) → Form
   gen : (seed count : ℕ) → Form
 
--- the words of it; numbers are in decimal
+-- the words of it; numbers are in decimal, and a path is as in a script
 abbrev pub words_of : Form → List (List ℕ)
-words_of (dump document sheet) = codes "dump" ∷ document ∷ sheet ∷ []
+words_of (aspect Dump document sheet) = codes "dump" ∷ document ∷ sheet ∷ []
+words_of (aspect Text document sheet) = codes "text" ∷ document ∷ sheet ∷ []
+words_of (aspect (Why path) document sheet) = codes "why" ∷ document ∷ sheet ∷ path_text path ∷ []
 words_of (edit document sheet script None) = codes "edit" ∷ document ∷ sheet ∷ script ∷ []
 words_of (edit document sheet script (Some depth)) = codes "history" ∷ document ∷ sheet ∷ script ∷ decimal depth ∷ []
 words_of (table sheet style from to) = codes "table" ∷ sheet ∷ style ∷ signed_decimal from ∷ signed_decimal to ∷ []
@@ -40,13 +46,15 @@ pub record IsTable (from to : ℤ) : Type 0 where
 abbrev pub IsRun : ℕ → ℕ → Type 0
 IsRun seed count = (seed ≤ 2147483647) × (1 ≤ count) × (count ≤ 100000)
 
--- of a script's edits 1 to 1000 can be undone
+-- a depth is 1 to 1000
 abbrev pub IsDepth : ℕ → Type 0
 IsDepth depth = (1 ≤ depth) × (depth ≤ 1000)
 
--- its numbers are as large as they may be
+-- its numbers, and those of a path, are within their bounds
 abbrev pub IsWithin : Form → Type 0
-IsWithin (dump document sheet) = Unit {0}
+IsWithin (aspect Dump document sheet) = Unit {0}
+IsWithin (aspect Text document sheet) = Unit {0}
+IsWithin (aspect (Why path) document sheet) = IsPath path
 IsWithin (edit document sheet script None) = Unit {0}
 IsWithin (edit document sheet script (Some depth)) = IsDepth depth
 IsWithin (table sheet style from to) = IsTable from to
@@ -62,9 +70,21 @@ abbrev pub ReadsAsForm : List (List ℕ) → Option Form → Type 0
 ReadsAsForm words (Some form) = IsForm words form
 ReadsAsForm words None = (form : Form) → IsForm words form → ⊥
 
+abbrev pub IsOfAspect : Form → Type 0
+IsOfAspect (aspect what document sheet) = Unit {0}
+IsOfAspect (edit document sheet script depth) = ⊥
+IsOfAspect (table sheet style from to) = ⊥
+IsOfAspect (gen seed count) = ⊥
+
+abbrev pub IsOfTable : Form → Type 0
+IsOfTable (aspect what document sheet) = ⊥
+IsOfTable (edit document sheet script depth) = ⊥
+IsOfTable (table sheet style from to) = Unit {0}
+IsOfTable (gen seed count) = ⊥
+
 -- what the code read of words
 abbrev pub form_of : ReadForm → Form
-form_of (read.Dump document sheet) = dump document.now sheet.now
+form_of (read.Aspect what document sheet) = aspect what document.now sheet.now
 form_of (read.Script document sheet script depth) = edit document.now sheet.now script.now depth
 form_of (read.Table sheet style from to) = table sheet.now style.now from to
 form_of (read.Gen seed count) = gen seed count
@@ -76,3 +96,7 @@ read_form_of (Some form) = Some (form_of form)
 -- the word at this place, from 0
 abbrev pub word : List (List ℕ) → ℕ → List ℕ
 word words place = get_or words place []
+
+-- the words are so many, and the first is this one
+abbrev pub IsCommand : List (List ℕ) → ℕ → List ℕ → Type 0
+IsCommand words count name = (length words ≡ count) × (word words 0 ≡ name)

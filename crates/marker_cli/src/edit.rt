@@ -5,7 +5,7 @@ ghost use Rattle.std.specs.Str.{chars};
 ghost use Rattle.edit_script.specs.declared.command.Command as command;
 ghost use Rattle.ports.specs.Causes.{Raises, Rose, RoseAbove};
 ghost use Rattle.ports.specs.Files.{Files};
-ghost use Rattle.marker_cli.specs.Dump.{DocumentReadsAs, Reading};
+ghost use Rattle.marker_cli.specs.Documents.{DocumentReadsAs, Reading};
 ghost use Rattle.marker_cli.specs.Edit.{ScriptReadsAs, edit_output, kind_of};
 ghost use Rattle.marker_cli.specs.Ends.{EndsAs, IsCaused, IsStop, ReadsFailed, part_status};
 ghost use Rattle.marker_cli.specs.Names.{TellsOfLine};

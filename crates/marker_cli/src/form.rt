@@ -1,20 +1,26 @@
 //! What the words ask for.
 
-ghost use Rattle.std.specs.Prelude.{◌≡◌, ◌<◌, ◌↔◌, ℤ, ℕ, ◌≤ℤ◌, IfNone, IfSome, IsTrue, length};
+ghost use Rattle.std.specs.Prelude.{◌≡◌, ◌<◌, ◌↔◌, ℤ, ℕ, ◌≤ℤ◌, IfNone, IfOk, IfSome, IsTrue, OnErr, codes, length};
 ghost use Rattle.std.specs.Fmt.{decimal, signed_decimal};
 ghost use Rattle.std.specs.Str.{chars};
-ghost use Rattle.marker_cli.specs.Words.{IsCount, IsDepth, IsRun, IsSpan, IsTable, ReadsAsForm, read_form_of, word};
+ghost use Rattle.marker_cli.specs.Words.{IsCommand, IsCount, IsDepth, IsForm, IsRun, IsSpan, IsTable, ReadsAsForm, form_of, read_form_of, word};
+ghost use Rattle.marker_cli.specs.Words as forms;
 
+use crate::aspect::Aspect;
+use edit_script::path::path_of_word;
 use edit_script::words::read_natural;
 use itoa::Buffer;
 use plain_types::count::Count;
+use plain_types::memory::Memory;
 use plain_types::text::Text;
+use std::alloc::Global;
 
 /// A form of words, with its operands.
-#[derive(Clone, Copy)]
+#[derive(Drop)]
 pub enum Form<'a> {
-    /// `dump DOC SHEET`
-    Dump {
+    /// `dump DOC SHEET`, `text DOC SHEET` or `why DOC SHEET PATH`
+    Aspect {
+        aspect: Aspect,
         document: &'a Text,
         sheet: &'a Text,
     },
@@ -48,7 +54,7 @@ fn is_word(word: &Text, name: &str) -> bool
 /// Whether the words are this command with its operands, so many words in all.
 fn is_command(name: &str, count: usize, words: &[Text]) -> bool
     requires { 0 < count }
-    ensures same { IsTrue result ↔ ((length words.now ≡ count) × (word words.now 0 ≡ chars name.now)) }
+    ensures same { IsTrue result ↔ IsCommand words.now count (chars name.now) }
 {
     words.len() == count && is_word(&words[0], name)
 }
@@ -127,15 +133,25 @@ fn read_depth(text: &Text) -> Option<u32>
     if is_depth(depth) { Some(depth) } else { None }
 }
 
-/// The form that the words are of, if they are of one. It takes no memory.
-pub fn read_form(words: &[Text]) -> Option<Form<'_>>
+/// The form that asks for this aspect of the document and the sheet that the words name.
+fn aspect_form(aspect: Aspect, words: &[Text]) -> Form<'_>
+    requires { 2 < length words.now }
+    ensures form { form_of result ≡ forms.aspect aspect (word words.now 1) (word words.now 2) }
+{
+    Form::Aspect {
+        aspect,
+        document: &words[1],
+        sheet: &words[2],
+    }
+}
+
+/// The form that words are of which don't ask why, if they are of one. It takes no memory.
+fn read_plain_form(words: &[Text]) -> Option<Form<'_>>
+    requires other { ¬ (IsCommand words.now 4 (codes "why")) }
     ensures form { ReadsAsForm words.now (read_form_of result) }
 {
     if is_command("dump", 3, words) {
-        Some(Form::Dump {
-            document: &words[1],
-            sheet: &words[2],
-        })
+        Some(aspect_form(Aspect::Dump, words))
     } else if is_command("edit", 4, words) {
         Some(Form::Script {
             document: &words[1],
@@ -162,7 +178,33 @@ pub fn read_form(words: &[Text]) -> Option<Form<'_>>
             script: &words[3],
             depth: Some(depth),
         })
+    } else if is_command("text", 3, words) {
+        Some(aspect_form(Aspect::Text, words))
     } else {
         None
     }
+}
+
+/// The form of words that ask why, if the last is a path. Whether it is one is told without memory.
+fn read_why_form(alloc: Global, words: &[Text]) -> Result<Option<Form<'_>>, Memory>
+    requires command { IsCommand words.now 4 (codes "why") }
+    ensures form { IfOk result (λ form. ReadsAsForm words.now (read_form_of form)) }
+    ensures memory { OnErr result ((form : forms.Form) × IsForm words.now form) }
+{
+    match path_of_word(alloc, words[3].as_str())? {
+        Some(path) => Ok(Some(aspect_form(Aspect::Why(path), words))),
+        None => Ok(None),
+    }
+}
+
+/// The form that the words are of, if they are of one. Memory is taken for a path alone, once it is told that the words are
+/// of a form.
+pub fn read_form(alloc: Global, words: &[Text]) -> Result<Option<Form<'_>>, Memory>
+    ensures form { IfOk result (λ form. ReadsAsForm words.now (read_form_of form)) }
+    ensures memory { OnErr result ((form : forms.Form) × IsForm words.now form) }
+{
+    if is_command("why", 4, words) {
+        return read_why_form(alloc, words);
+    }
+    Ok(read_plain_form(words))
 }

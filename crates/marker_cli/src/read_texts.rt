@@ -7,7 +7,7 @@ ghost use Rattle.edit_script.specs.Scripts.{FailsAsScript, IsScript, ReadsAsScri
 ghost use Rattle.edit_script.specs.declared.command.Command as command;
 ghost use Rattle.node_arena.specs.Document.{HasElementRoot};
 ghost use Rattle.xhtml_reader.specs.Readings.{ReadsAsDocument};
-ghost use Rattle.marker_cli.specs.Dump.{Reading, tree_of};
+ghost use Rattle.marker_cli.specs.Documents.{Reading, tree_of};
 ghost use Rattle.marker_cli.specs.Edit.{commands_of, kind_of};
 ghost use Rattle.marker_cli.specs.Ends.{Gives, IsCaused, IsStop, part_status};
 ghost use Rattle.marker_cli.specs.Names.{TellsOfLine};

@@ -134,7 +134,7 @@ fn put_message<E: Sink>(
         Status::Memory => put_all(err, b"marker: out of memory\n"),
         Status::Usage => put_all(
             err,
-            b"marker: usage: dump DOC SHEET | edit DOC SHEET SCRIPT | table SHEET STYLE FROM TO | gen SEED COUNT | history DOC SHEET SCRIPT DEPTH\n",
+            b"marker: usage: dump DOC SHEET | edit DOC SHEET SCRIPT | table SHEET STYLE FROM TO | gen SEED COUNT | history DOC SHEET SCRIPT DEPTH | text DOC SHEET | why DOC SHEET PATH\n",
         ),
         Status::ReadFault { file } => put_about(words, commands, file, b": read failed\n", err),
         Status::TooLarge { file } => {

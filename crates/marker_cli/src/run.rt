@@ -1,22 +1,23 @@
 //! A run.
 
-ghost use Rattle.std.specs.Prelude.{◌≡◌, ◌⊎◌, ◌≤◌, ◌+◌, ℕ, false, [], List, IsTrue, None, Ok};
+ghost use Rattle.std.specs.Prelude.{◌≡◌, ◌⊎◌, ◌≤◌, ◌+◌, ℕ, false, [], IfErr, List, IsTrue, None, Ok, OnOk, Some};
 ghost use Rattle.ports.specs.Causes.{Raises, Rose, RoseAbove};
 ghost use Rattle.ports.specs.Files.{Files};
 ghost use Rattle.ports.specs.Grown.{grown};
 ghost use Rattle.edit_script.specs.declared.command.Command as command;
-ghost use Rattle.marker_cli.specs.Dump.{most_steps};
-ghost use Rattle.marker_cli.specs.Ends.{EndsAs, IsCaused, IsSettled, ReadsFailed, part_status};
+ghost use Rattle.marker_cli.specs.Aspects.{most_steps};
+ghost use Rattle.marker_cli.specs.Ends.{EndsAs, IsCaused, IsSettled, IsStop, ReadsFailed, part_status};
 ghost use Rattle.marker_cli.specs.Lines.{GoesOut, message};
 ghost use Rattle.marker_cli.specs.Output.{bytes_of, status_of};
 ghost use Rattle.marker_cli.specs.Names.{TellsOfLine};
-ghost use Rattle.marker_cli.specs.Run.{AreReadings, HasTurn, OverTold, Readings, TakesNoStep, commands_in, name_in, output, read_size};
-ghost use Rattle.marker_cli.specs.Words.{IsForm, ReadsAsForm};
+ghost use Rattle.marker_cli.specs.Run.{AreReadings, HasTurn, OverTexts, OverTold, Readings, TakesNoStep, commands_in, form_output, form_size, name_in, output, read_size};
+ghost use Rattle.marker_cli.specs.Words.{IsForm, IsOfAspect, IsOfTable, ReadsAsForm, form_of};
 ghost use Rattle.marker_cli.specs.Words as forms;
+ghost use Rattle.marker_cli.specs.declared.aspect.Aspect.{Aspect};
 ghost use Rattle.marker_cli.specs.declared.status.FileAt.{FileAt};
 ghost use Rattle.marker_cli.specs.declared.status.Status.TheVariants as status;
 
-use crate::dump::dump;
+use crate::aspect::write_aspect;
 use crate::edit::edit;
 use crate::form::{Form, read_form};
 use crate::generated::generated;
@@ -41,8 +42,71 @@ fn status_of(outcome: Result<(), Status>) -> Status
     }
 }
 
-/// Does what the words say. The commands of a script are left in `commands`.
+/// Does what words of this form ask for. The commands of a script are left in `commands`.
 fn perform<S: Shelf, O: Sink, L: Ledger>(
+    alloc: Global,
+    form: Form<'_>,
+    commands: &mut List<Command>,
+    shelf: &mut S,
+    out: &mut O,
+    steps: &mut Steps<L>,
+) -> Result<(), Status>
+    ensures told { OverTexts (S.held shelf.old) (form_of form.entry) (λ files document script.
+        EndsAs (ReadsFailed (S.honest shelf.old) (S.faults shelf.old) (S.faults shelf.new)) (Rose (O.faults out.old) (O.faults out.new))
+        (form_output files document script (Some (form_of form.entry))) (O.out out.old) (O.out out.new) (part_status result)) }
+    ensures commands { OverTexts (S.held shelf.old) (form_of form.entry) (λ files document script. TellsOfLine (part_status result) → script ≡ Ok commands.new) }
+    ensures cause { IsCaused ⊥ (Rose (S.faults shelf.old) (S.faults shelf.new)) (RoseAbove 16777216 (S.taken shelf.old) (S.taken shelf.new))
+        (Rose (O.faults out.old) (O.faults out.new)) (part_status result) }
+    ensures stops { IfErr result IsStop }
+    ensures faults { O.faults out.old ≤ O.faults out.new }
+    ensures reads { OverTexts (S.held shelf.old) (form_of form.entry) (λ files document script.
+        OnOk result (Raises (S.taken shelf.old) (S.taken shelf.new) (form_size files script (Some (form_of form.entry))))) }
+    ensures steps { OverTexts (S.held shelf.old) (form_of form.entry) (λ files document script.
+        IsOfAspect (form_of form.entry) → steps.new ≤ steps.old + most_steps document) }
+    ensures no_steps { IsOfTable (form_of form.entry) → steps.new ≡ steps.old }
+{
+    match form {
+        Form::Aspect {
+            aspect,
+            document,
+            sheet,
+        } => write_aspect(
+            alloc,
+            &aspect,
+            document.as_str(),
+            sheet.as_str(),
+            shelf,
+            out,
+            steps,
+        ),
+        Form::Script {
+            document,
+            sheet,
+            script,
+            depth,
+        } => edit(
+            alloc,
+            document.as_str(),
+            sheet.as_str(),
+            script.as_str(),
+            depth,
+            commands,
+            shelf,
+            out,
+            steps,
+        ),
+        Form::Table {
+            sheet,
+            style,
+            from,
+            to,
+        } => table(alloc, sheet.as_str(), style.as_str(), from, to, shelf, out),
+        Form::Gen { seed, count } => generated(alloc, seed, count, out, steps),
+    }
+}
+
+/// Does what the words say. The commands of a script are left in `commands`.
+fn perform_words<S: Shelf, O: Sink, L: Ledger>(
     alloc: Global,
     words: &[Text],
     commands: &mut List<Command>,
@@ -63,46 +127,13 @@ fn perform<S: Shelf, O: Sink, L: Ledger>(
     ensures reads { OverTold (S.held shelf.old) words.now (λ files readings.
         result ≡ status.Ok → Raises (S.taken shelf.old) (S.taken shelf.new) (read_size files readings)) }
     ensures steps { OverTold (S.held shelf.old) words.now (λ files readings.
-        (document sheet : List ℕ) → IsForm words.now (forms.dump document sheet) → steps.new ≤ steps.old + most_steps readings.document) }
+        (aspect : Aspect) (document sheet : List ℕ) → IsForm words.now (forms.aspect aspect document sheet) → steps.new ≤ steps.old + most_steps readings.document) }
     ensures no_steps { TakesNoStep words.now → steps.new ≡ steps.old }
 {
-    match read_form(words) {
-        Some(Form::Dump { document, sheet }) => status_of(dump(
-            alloc,
-            document.as_str(),
-            sheet.as_str(),
-            shelf,
-            out,
-            steps,
-        )),
-        Some(
-            Form::Script {
-                document,
-                sheet,
-                script,
-                depth,
-            },
-        ) => status_of(edit(
-            alloc,
-            document.as_str(),
-            sheet.as_str(),
-            script.as_str(),
-            depth,
-            commands,
-            shelf,
-            out,
-            steps,
-        )),
-        Some(
-            Form::Table {
-                sheet,
-                style,
-                from,
-                to,
-            },
-        ) => status_of(table(alloc, sheet.as_str(), style.as_str(), from, to, shelf, out)),
-        Some(Form::Gen { seed, count }) => status_of(generated(alloc, seed, count, out, steps)),
-        None => Status::Usage,
+    match read_form(alloc, words) {
+        Ok(Some(form)) => status_of(perform(alloc, form, commands, shelf, out, steps)),
+        Ok(None) => Status::Usage,
+        Err(_) => Status::Memory,
     }
 }
 
@@ -137,12 +168,14 @@ fn flushed<O: Sink>(outcome: Status, out: &mut O) -> Status
 /// are read in their order, each checked for its length and for UTF-8 before the next one, then the document is
 /// read, and then the script; its commands are done in their order, and the file of a `sheet` line is read when
 /// that line is done. The first status other than Ok ends the run; what was written until then stays. A refused
-/// edit is told in the output and ends nothing. At the end `out` is flushed, and where that fails the status is
-/// `WriteFault`, if it isn't `Usage` or `Memory`. A fault of `err` changes no status.
+/// edit, an undo or redo that finds nothing, and a path to no element are told in the output and end nothing. At the
+/// end `out` is flushed, and where that fails the status is `WriteFault`, if it isn't `Usage` or `Memory`. A fault of
+/// `err` changes no status.
 ///
-/// It takes time linear in the files and the output, and what an evaluation of the document costs, once and for each
-/// accepted edit and `sheet` line; memory for the files, the commands, the document and what is kept of its elements.
-/// A run that is made up takes time and memory for its COUNT edits too.
+/// It takes time linear in the files and the output, and what one evaluation of the document costs; for each accepted
+/// edit, undo, redo and `sheet` line what `Engine::apply` of such an edit costs. It takes memory for the files, the commands,
+/// the document and what is kept of its elements, and for the edits that can be undone and redone. A run that is made up takes
+/// time and memory for its COUNT edits too.
 pub fn run<S: Shelf, O: Sink, E: Sink, L: Ledger>(
     alloc: Global,
     words: &[Text],
@@ -180,11 +213,11 @@ pub fn run<S: Shelf, O: Sink, E: Sink, L: Ledger>(
     ensures sheet_line { OverTold (S.held shelf.old) words.now (λ files readings.
         TellsOfLine result → GoesOut (Rose (E.faults err.old) (E.faults err.new)) (E.out err.old) (E.out err.new) (message words.now (commands_in readings.script) result)) }
     ensures steps { OverTold (S.held shelf.old) words.now (λ files readings.
-        (document sheet : List ℕ) → IsForm words.now (forms.dump document sheet) → steps.new ≤ steps.old + most_steps readings.document) }
+        (aspect : Aspect) (document sheet : List ℕ) → IsForm words.now (forms.aspect aspect document sheet) → steps.new ≤ steps.old + most_steps readings.document) }
     ensures no_steps { TakesNoStep words.now → steps.new ≡ steps.old }
 {
     let mut commands = List::new(alloc);
-    let status = perform(alloc, words, &mut commands, shelf, out, steps);
+    let status = perform_words(alloc, words, &mut commands, shelf, out, steps);
     let status = flushed(status, out);
     report(words, commands.as_slice(), status, err);
     status

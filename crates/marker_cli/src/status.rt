@@ -22,7 +22,7 @@ pub enum FileAt {
 /// How a run ended.
 #[derive(Clone, Copy, Debug, PartialEq, Eq)]
 pub enum Status {
-    /// All output was written; of a script each command was done, or its edit refused.
+    /// All output was written; of a script each command was done, or its edit refused, or there was nothing to undo or redo.
     Ok,
     /// Memory was wanting.
     Memory,

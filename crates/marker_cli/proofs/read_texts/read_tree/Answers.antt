@@ -1,7 +1,7 @@
 use Rattle.std.proofs.Common.{ap}
 use Rattle.std.specs.Prelude.{Ok, Err}
 use Rattle.std.specs.Str.{chars}
-use Rattle.marker_cli.specs.Dump.{tree_of}
+use Rattle.marker_cli.specs.Documents.{tree_of}
 use Rattle.marker_cli.proofs.FaultLemmas.{no_tree, tree_caused, tree_file, tree_stops}
 use Rattle.marker_cli.proofs.TreeLemmas.{document_element}
 use Rattle.marker_cli.proofs.read_texts.read_tree.Goals as goal

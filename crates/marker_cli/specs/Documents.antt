@@ -1,17 +1,13 @@
--- The command `dump DOC SHEET` (our own).
-use Rattle.std.specs.Prelude.{◌≡◌, ℕ, ◌*◌, List, Result, Ok, Err}
-use Rattle.document_walk.specs.Elements.{element_count}
+-- What DOC reads as (our own).
+use Rattle.std.specs.Prelude.{◌≡◌, ℕ, List, Result, Ok, Err}
 use Rattle.forest.specs.Forest.{Forest}
-use Rattle.generated_texts.specs.Lines.{fresh_dump}
 use Rattle.plain_types.specs.declared.node.Node.{Node}
 use Rattle.ports.specs.Files.{Files}
 use Rattle.xhtml_reader.specs.Readings.{ReadsAsDocument}
 use Rattle.marker_cli.specs.declared.status.FileAt.TheVariants.{Word}
 use Rattle.marker_cli.specs.declared.status.Status.{Status}
 use Rattle.marker_cli.specs.declared.status.Status.TheVariants.{BadDocument}
-use Rattle.marker_cli.specs.declared.status.Status.TheVariants as status
-use Rattle.marker_cli.specs.Output.{Output, ends, writes, goes_on}
-use Rattle.marker_cli.specs.Turns.{text_in, with_text}
+use Rattle.marker_cli.specs.Turns.{text_in}
 
 -- what a text reads as, which is to be a document: its tree, or the line and the column of its fault
 abbrev pub Reading : Type 0
@@ -26,16 +22,3 @@ DocumentReadsAs files document sheet reading =
 abbrev pub tree_of : Reading → Result (Forest Node) Status
 tree_of (Ok tree) = Ok tree
 tree_of (Err place) = Err (BadDocument place.0 place.1)
-
--- the output of `dump DOC SHEET`, where DOC reads as this
-abbrev pub dump_output : Files → List ℕ → List ℕ → Reading → Output
-dump_output files document sheet reading =
-    with_text files (Word 1) document (λ text.
-    with_text files (Word 2) sheet (λ style.
-    goes_on (tree_of reading) (λ tree.
-    writes (fresh_dump style tree) (ends status.Ok))))
-
--- of each element an evaluation takes three steps in each of its two walks, its entry is kept, and it is shown
-abbrev pub most_steps : Reading → ℕ
-most_steps (Ok tree) = 8 * element_count tree
-most_steps (Err place) = 0

@@ -1,16 +1,16 @@
 use Rattle.std.proofs.Common.{◌≡◌, ◌∙◌, refl, sym, arith}
 use Rattle.std.specs.Prelude.{Ok}
 use Rattle.std.specs.Str.{chars}
-use Rattle.generated_texts.specs.Lines.{fresh_dump}
 use Rattle.marker_cli.specs.declared.status.FileAt.TheVariants.{Word}
 use Rattle.marker_cli.specs.declared.status.Status.TheVariants as status
+use Rattle.marker_cli.specs.Aspects.{aspect_bytes}
 use Rattle.marker_cli.specs.Output.{ends, writes}
 use Rattle.marker_cli.specs.Turns.{text_in}
 use Rattle.marker_cli.proofs.EndsLemmas.{at_same, at_start, at_text, at_value, caused_as, caused_within, ends_no_text, ends_not_given, ends_put, ends_stopped, part_status_is, reads_after}
 use Rattle.marker_cli.proofs.TreeLemmas.{most_of}
 use Rattle.ports.proofs.CauseLemmas.{raises_more}
 use Rattle.marker_cli.proofs.ReadLemmas.{on_ok}
-use Rattle.marker_cli.proofs.dump.dump.Goals as goal
+use Rattle.marker_cli.proofs.aspect.write_aspect.Goals as goal
 
 pub returns-in_err-text-clause-told : goal.returns-in_err-text-clause-told
 returns-in_err-text-clause-told g c files reading told reads =
@@ -40,19 +40,19 @@ pub returns-clause-told : goal.returns-clause-told
 returns-clause-told g c files reading told reads =
     let text : text_in (Word 1) (files (chars c.args.document.now)) ≡ Ok c.in_ok-text.text = c.in_ok-text.ensures.told files told in
     let style : text_in (Word 2) (files (chars c.args.sheet.now)) ≡ Ok c.in_ok-style.style = c.in_ok-style.ensures.told files (c.in_ok-text.ensures.held ∙ told) in
-    ends_put c.put_dump.result
-    (at_same (λ i. writes (fresh_dump (sym c.as_str-2.ensures.characters i) c.in_ok-tree.tree) (ends status.Ok))
+    ends_put c.put_aspect.result
+    (at_same (λ i. writes (aspect_bytes c.args.aspect.now (sym c.as_str-2.ensures.characters i) c.in_ok-tree.tree) (ends status.Ok))
     (at_value _ (at_text files _ _ _ (at_text files _ _ _ (at_start _ _) text) style)
     (c.in_ok-tree.ensures.tree reading (rw c.as_str.ensures.characters (reads c.in_ok-text.text c.in_ok-style.style text style)))))
-    c.put_dump.ensures.ok c.put_dump.ensures.failed c.put_dump.ensures.cause
+    c.put_aspect.ensures.ok c.put_aspect.ensures.failed c.put_aspect.ensures.cause
 
 pub returns-clause-steps : goal.returns-clause-steps
 returns-clause-steps g c files reading told reads =
     let text : text_in (Word 1) (files (chars c.args.document.now)) ≡ Ok c.in_ok-text.text = c.in_ok-text.ensures.told files told in
     let style : text_in (Word 2) (files (chars c.args.sheet.now)) ≡ Ok c.in_ok-style.style = c.in_ok-style.ensures.told files (c.in_ok-text.ensures.held ∙ told) in
     let most = most_of reading c.in_ok-tree.tree (c.in_ok-tree.ensures.tree reading (rw c.as_str.ensures.characters (reads c.in_ok-text.text c.in_ok-style.style text style))) in
-    omega (arith, most, c.put_dump.ensures.steps)
+    omega (arith, most, c.put_aspect.ensures.steps)
 
 pub returns-clause-reads : goal.returns-clause-reads
 returns-clause-reads g c files told =
-    on_ok c.put_dump.result (raises_more _ _ _ _ _ _ (c.in_ok-text.ensures.came files told) (c.in_ok-style.ensures.came files (c.in_ok-text.ensures.held ∙ told)) refl)
+    on_ok c.put_aspect.result (raises_more _ _ _ _ _ _ (c.in_ok-text.ensures.came files told) (c.in_ok-style.ensures.came files (c.in_ok-text.ensures.held ∙ told)) refl)
