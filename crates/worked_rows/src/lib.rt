@@ -7,6 +7,7 @@
 //! | `scripts` | runs of `edit DOC SHEET SCRIPT` and of `gen SEED COUNT` |
 //! | `histories` | runs of `history DOC SHEET SCRIPT DEPTH` |
 //! | `style_elements`, `style_attributes` | runs of both over documents that have these |
+//! | `texts`, `accounts` | runs of `text DOC SHEET` and of `why DOC SHEET PATH` |
 //! | `tables` | runs of `table SHEET STYLE FROM TO`, with the author's styles |
 //! | `predefined` | the same with the predefined styles, at the ends of their ranges |
 //!
@@ -15,6 +16,8 @@
 //! above the other crates, so that those are proved once.
 #![tactic(auto)]
 
+#[cfg(test)]
+mod accounts;
 #[cfg(test)]
 mod dumps;
 #[cfg(test)]
@@ -33,3 +36,5 @@ mod style_elements;
 mod tables;
 #[cfg(test)]
 mod tests;
+#[cfg(test)]
+mod texts;

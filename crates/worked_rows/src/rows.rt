@@ -42,6 +42,14 @@ pub fn dumped<'a>(document: &'a str, sheet: &'a str, out: &'a str) -> Row<'a> {
     }
 }
 
+/// The lines of this document under this sheet.
+pub fn viewed<'a>(document: &'a str, sheet: &'a str, out: &'a str) -> Row<'a> {
+    Row {
+        words: &["text", "d.xhtml", "s.css"],
+        ..dumped(document, sheet, out)
+    }
+}
+
 /// A dump that ends with this line and code, and writes nothing.
 pub fn refused<'a>(document: &'a [u8], sheet: &'a [u8], err: &'a str, code: u8) -> Row<'a> {
     Row {
