@@ -14,22 +14,10 @@ PYTHONPATH=$here/bench python3 - "$here/crates/marker/out/marker" "${@:-}" <<'PY
 import sys
 import time
 from seconds import peak_mebibytes, ratio, seconds
+from section_pages import SHEET, write_files
 
 program = sys.argv[1]
 sizes = [int(word) for word in sys.argv[2:] if word] or [1_000, 10_000, 100_000]
-SHEET = (
-    'body{counter-reset:s}section{counter-increment:s;counter-reset:i}li{counter-increment:i list-item}'
-    'h2::before{content:counter(s)". "}li::before{content:counters(i,".")}'
-    'a::after{content:"("target-counter(attr(href),s)")"}'
-)
-
-
-def document(elements):
-    sections = elements // 8
-    return "<body>" + "".join(
-        f'<section id="s{k}"><h2>{k}</h2><ol><li/><li/><li/></ol><p><a href="#s{k * 7919 % sections}"/></p></section>'
-        for k in range(sections)
-    ) + "</body>"
 
 
 def weasyprint_seconds(path):
@@ -42,12 +30,9 @@ def weasyprint_seconds(path):
     return time.process_time() - start
 
 
-with open("sheet.css", "w") as file:
-    file.write(SHEET)
 before = None
 for size in sizes:
-    with open("document.xhtml", "w") as file:
-        file.write(document(size))
+    write_files(size)
     words = (program, "dump", "document.xhtml", "sheet.css")
     taken = seconds(*words)
     parsing = seconds("xmllint", "--huge", "--noout", "document.xhtml")
