@@ -78,10 +78,10 @@ module _ (rekey : ℕ → ℕ) where
             ∙ map_or_map (rekeyed_set rekey) (target_counters table name between style) (target_counters table name between style) (same_targets name between style) (counters_at old url) []
         same_piece (piece.TargetText url part) = same_target_text url part
 
-      same_flat : (pieces : List Piece) → flat_text table new pieces ≡ flat_text table old pieces
+      pub same_flat : (pieces : List Piece) → flat_text table new pieces ≡ flat_text table old pieces
       same_flat pieces = flat_map_same (piece_text table new (λ url part. [])) (piece_text table old (λ url part. [])) (same_piece (λ url part. []) (λ url part. []) (λ url part. refl)) pieces
 
-      same_full : (pieces : List Piece) → full_text table new pieces ≡ full_text table old pieces
+      pub same_full : (pieces : List Piece) → full_text table new pieces ≡ full_text table old pieces
       same_full pieces =
           let texts : List ℕ → Part → List ℕ = λ url part. unwrap_or (flat_at old url part) [] in
           let texts_too : List ℕ → Part → List ℕ = λ url part. unwrap_or (flat_at new url part) [] in
@@ -98,7 +98,7 @@ module _ (rekey : ℕ → ℕ) where
       texts_rekeyed : (made : Option Made) → option_map (box_text table new) (option_map (rekeyed_made rekey) made) ≡ option_map (box_text table old) made
       texts_rekeyed made = option_map_map (rekeyed_made rekey) (box_text table old) (box_text table new) text_rekeyed made
 
-      entry_rekeyed : (element : ElementRecord) → node_entry table new (rekeyed_record rekey element) ≡ rekeyed_entry rekey (node_entry table old element)
+      pub entry_rekeyed : (element : ElementRecord) → node_entry table new (rekeyed_record rekey element) ≡ rekeyed_entry rekey (node_entry table old element)
       entry_rekeyed element =
           let make : (marker before after : Option BoxText) → NodeEntry = λ marker before after. record {
             has_box = element.has_box;
@@ -129,7 +129,7 @@ module _ (rekey : ℕ → ℕ) where
 
   -- References.
 
-  holder_rekeyed : (document : Forest (Keyed Node)) (id : List ℕ) → first_holder (rekeyed rekey document) id ≡ option_map rekey (first_holder document id)
+  pub holder_rekeyed : (document : Forest (Keyed Node)) (id : List ℕ) → first_holder (rekeyed rekey document) id ≡ option_map rekey (first_holder document id)
   holder_rekeyed document id =
       let test : Keyed Node → Bool = λ node. has_id id node.label in
       let key : Keyed Node → ℕ = λ node. node.key in
@@ -137,7 +137,7 @@ module _ (rekey : ℕ → ℕ) where
       ∙ ap (option_map key) (find_map (rekeyed_node rekey) test test (λ _. refl) (labels document))
       ∙ option_map_past (rekeyed_node rekey) rekey key key (λ _. refl) (find test (labels document))
 
-  same_characters : (trees : Forest (Keyed Node)) → characters_in (rekeyed rekey trees) ≡ characters_in trees
+  pub same_characters : (trees : Forest (Keyed Node)) → characters_in (rekeyed rekey trees) ≡ characters_in trees
   same_characters trees =
       let read : Keyed Node → List ℕ = λ node. unwrap_or (node_characters node.label) [] in
       ap (flat_map read) (labels_rekeyed rekey trees) ∙ flat_map_map (rekeyed_node rekey) read read (λ _. refl) (labels trees)
@@ -152,7 +152,7 @@ module _ (rekey : ℕ → ℕ) where
   pub same_sheet : (sheet_text : List ℕ) (document : Forest (Keyed Node)) → author_sheet sheet_text (rekeyed rekey document) ≡ author_sheet sheet_text document
   same_sheet sheet_text document = ap (λ texts. sheets (sheet_text ∷ texts)) (same_style_texts document)
 
-  asked_rekeyed : (element : ElementRecord) (part : Part) → asked_box (rekeyed_record rekey element) part ≡ option_map (rekeyed_made rekey) (asked_box element part)
+  pub asked_rekeyed : (element : ElementRecord) (part : Part) → asked_box (rekeyed_record rekey element) part ≡ option_map (rekeyed_made rekey) (asked_box element part)
   asked_rekeyed element Content = refl
   asked_rekeyed element Before = refl
   asked_rekeyed element After = refl
@@ -163,7 +163,7 @@ module _ (rekey : ℕ → ℕ) where
 
   module _ (apart : AreApart rekey) where
     -- what is kept under a key
-    kept_rekeyed : {V : Type 0} (f : V → V) (kept : List (ℕ × V)) (key : ℕ) → kept_at (map (λ (entry : ℕ × V). (rekey entry.0, f entry.1)) kept) (rekey key) ≡ option_map f (kept_at kept key)
+    pub kept_rekeyed : {V : Type 0} (f : V → V) (kept : List (ℕ × V)) (key : ℕ) → kept_at (map (λ (entry : ℕ × V). (rekey entry.0, f entry.1)) kept) (rekey key) ≡ option_map f (kept_at kept key)
     kept_rekeyed {V} f kept key =
         let renamed : ℕ × V → ℕ × V = λ entry. (rekey entry.0, f entry.1) in
         let test : ℕ × V → Bool = λ entry. entry.0 == key in
@@ -179,25 +179,25 @@ module _ (rekey : ℕ → ℕ) where
       abbrev records_too : List (ℕ × ElementRecord)
       records_too = rekeyed_records rekey records
 
-      target_rekeyed : (id : List ℕ) → target_record table document_too records_too id ≡ option_map (rekeyed_record rekey) (target_record table document records id)
+      pub target_rekeyed : (id : List ℕ) → target_record table document_too records_too id ≡ option_map (rekeyed_record rekey) (target_record table document records id)
       target_rekeyed id =
           ap (option_and_then (kept_at records_too)) (holder_rekeyed document id)
           ∙ then_past rekey (rekeyed_record rekey) (kept_at records) (kept_at records_too) (kept_rekeyed (rekeyed_record rekey) records) (first_holder document id)
 
-      counters_rekeyed : (id : List ℕ) → known_counters table document_too records_too id ≡ option_map (rekeyed_set rekey) (known_counters table document records id)
+      pub counters_rekeyed : (id : List ℕ) → known_counters table document_too records_too id ≡ option_map (rekeyed_set rekey) (known_counters table document records id)
       counters_rekeyed id =
           let own : ElementRecord → Option (List Counter) = λ element. cond element.has_box (Some element.own) None in
           ap (option_and_then own) (target_rekeyed id)
           ∙ then_past (rekeyed_record rekey) (rekeyed_set rekey) own own (λ (element : ElementRecord). own_rekeyed element element.has_box) (target_record table document records id)
 
-      characters_rekeyed : (id : List ℕ) → known_characters document_too id ≡ known_characters document id
+      pub characters_rekeyed : (id : List ℕ) → known_characters document_too id ≡ known_characters document id
       characters_rekeyed id =
           let below : ℕ → List ℕ = λ key. characters_in (children_of document key) in
           let below_too : ℕ → List ℕ = λ key. characters_in (children_of document_too key) in
           ap (λ key. option_map_or below_too key []) (holder_rekeyed document id)
           ∙ map_or_map rekey below below_too (λ key. ap (λ trees. characters_in trees) (children_of_rekeyed rekey apart document key) ∙ same_characters (children_of document key)) (first_holder document id) []
 
-      to_flat_rekeyed : IsRekeyed (known_to_flat_texts table document records) (known_to_flat_texts table document_too records_too)
+      pub to_flat_rekeyed : IsRekeyed (known_to_flat_texts table document records) (known_to_flat_texts table document_too records_too)
       to_flat_rekeyed = record { counters = counters_rekeyed; characters = characters_rekeyed; flat = λ id part. refl }
 
       flat_rekeyed : (id : List ℕ) (part : Part) → known_flat table document_too records_too id part ≡ known_flat table document records id part
@@ -249,7 +249,7 @@ module _ (rekey : ℕ → ℕ) where
             ∙ map_or_map (rekeyed_entry rekey) (λ (e : NodeEntry). lines_of document key kind.After e.after) (λ (e : NodeEntry). lines_of (rekeyed rekey document) (rekey key) kind.After e.after)
             (λ (entry : NodeEntry). lines_rekeyed key kind.After entry.after) (old key) []
 
-        trees_rekeyed : (trees : Forest (Keyed Node)) → tree_lines (rekeyed rekey document) new (rekeyed rekey trees) ≡ tree_lines document old trees
+        pub trees_rekeyed : (trees : Forest (Keyed Node)) → tree_lines (rekeyed rekey document) new (rekeyed rekey trees) ≡ tree_lines document old trees
         trees_rekeyed Empty = refl
         trees_rekeyed (Tree node children after) =
             let lines = tree_lines (rekeyed rekey document) new in
