@@ -5,3 +5,4 @@ mod CountLaws
 mod WalkLaws
 mod TagLaws
 mod BookLaws
+mod SilentLaws

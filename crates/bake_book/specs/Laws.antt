@@ -4,14 +4,18 @@ use Rattle.std.specs.List.{flat_map}
 use Rattle.bake_definitions.specs.Baked.{without_insertions}
 use Rattle.bake_definitions.specs.Places.{left_out, placed}
 use Rattle.bake_definitions.specs.Tags.{tags_of}
+use Rattle.bake_definitions.specs.Woven.{IsBaked}
 use Rattle.bake_book.specs.Dressing.{dressed_document, dressed_trees, insertion_of_line, insertions_of, keyed_dressed}
 use Rattle.bake_book.specs.Walks.{dressed_tag, tree_tags}
 use Rattle.forest.specs.Forest.{Forest}
-use Rattle.forest.specs.Keys.{HasDistinctKeys, Keyed, without_keys}
+use Rattle.forest.specs.Keys.{HasDistinctKeys, Keyed, numbered, without_keys}
 use Rattle.generated_texts.specs.Lines.{document_lines}
+use Rattle.generated_texts.specs.StyleElements.{author_sheet}
 use Rattle.generated_texts.specs.declared.entry.NodeEntry.{NodeEntry}
 use Rattle.node_arena.specs.Document.{IsKeyedDocument}
+use Rattle.plain_types.specs.Tree.{AreSound}
 use Rattle.plain_types.specs.declared.node.Node.{Node}
+use Rattle.silent_sheets.specs.Silence.{IsSilent}
 
 -- What is put into a document, tag by tag, are the texts of its dump, line by line, but for the empty ones.
 abbrev pub InsertionsAreLines : Type 0
@@ -37,3 +41,10 @@ abbrev pub WalksGiveTheTags : Type 0
 WalksGiveTheTags =
     (document : Forest (Keyed Node)) (entry_of : ℕ → Option NodeEntry) → IsKeyedDocument document
     → tags_of (dressed_trees entry_of document) ≡ map (dressed_tag document entry_of) (tree_tags document)
+
+-- Where the sheets of its author are silent together, nothing is put into a document, so its text stays as it is: baked again
+-- behind such a sheet, a baked text does not change.
+abbrev pub SilentDocumentsBakeToThemselves : Type 0
+SilentDocumentsBakeToThemselves =
+    (sheet_text text output : List ℕ) (tree : Forest Node) → AreSound tree → IsSilent (author_sheet sheet_text (numbered 0 tree))
+    → IsBaked text (placed (dressed_document sheet_text tree)) output → output ≡ text

@@ -1,7 +1,8 @@
 //! Laws of what a sheet puts into a document. The functions do nothing: each contract is a law.
 
-ghost use Rattle.bake_book.specs.Laws.{DocumentsStay, InsertionsAreLines, KeysDoNotMatter, NoneIsLost, WalksGiveTheTags};
+ghost use Rattle.bake_book.specs.Laws.{DocumentsStay, InsertionsAreLines, KeysDoNotMatter, NoneIsLost, SilentDocumentsBakeToThemselves, WalksGiveTheTags};
 
+use baked_text::laws::bakes_to_itself;
 use generated_texts::laws::{elements_have_entries, keys_do_not_matter};
 
 /// What is put into a document are the texts of its dump that are not empty, in their order. So none is lost: each line
@@ -29,3 +30,10 @@ pub fn dressing_keeps_no_keys()
 pub fn walks_give_the_tags()
     ensures tags { WalksGiveTheTags }
 {}
+
+/// Under a silent sheet (`silent_sheets`) nothing is put into a document, and its text bakes to itself.
+pub fn silent_documents_bake_to_themselves()
+    ensures stays { SilentDocumentsBakeToThemselves }
+{
+    bakes_to_itself();
+}
