@@ -4,4 +4,6 @@ pub mod UrlLemmas
 pub mod ClosedChapters
 pub mod BareEntries
 pub mod TargetLaws
+pub mod RekeyedVolumes
+pub mod PieceLemmas
 mod Examples

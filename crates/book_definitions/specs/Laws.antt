@@ -13,6 +13,7 @@ use Rattle.generated_texts.specs.Entries.{document_entries}
 use Rattle.generated_texts.specs.Lines.{fresh_dump, keyed_lines}
 use Rattle.book_definitions.specs.Aims.{Address, Aim, address, aim, chapter_at, target}
 use Rattle.book_definitions.specs.Chapters.{Chapter, IsVolume, chapter_records, chapter_sheet}
+use Rattle.book_definitions.specs.Fresh.{chapter_source, fresh_chapter_dump, fresh_chapter_lines}
 use Rattle.book_definitions.specs.Lines.{chapter_dump, chapter_entries, chapter_lines}
 use Rattle.book_definitions.specs.Texts.{url_of}
 
@@ -125,3 +126,19 @@ abbrev pub NamesAimAtTheirChapters : Type 0
 NamesAimAtTheirChapters =
     (volume : List Chapter) (own : Chapter) (place : ℕ) (chapter : Chapter) (id : List ℕ) → IsVolume volume → slice_get volume place ≡ Some chapter
     → aim volume own (chapter.name ++ number_sign ∷ id) ≡ Some (record { chapter = chapter; id = id })
+
+-- Whichever distinct keys the nodes of each document of a volume have, the lines of a chapter are those of the documents
+-- without their keys; and so is its dump.
+
+abbrev pub HaveDistinctKeys : List Chapter → Type 0
+HaveDistinctKeys volume = AllByRecursion (λ (chapter : Chapter). HasDistinctKeys chapter.document) volume
+
+abbrev pub ChapterLinesAreThoseOfTheTrees : Type 0
+ChapterLinesAreThoseOfTheTrees =
+    (volume : List Chapter) (own : Chapter) → HaveDistinctKeys volume → HasDistinctKeys own.document
+    → chapter_lines volume own ≡ fresh_chapter_lines (map chapter_source volume) (chapter_source own)
+
+abbrev pub ChapterDumpIsThatOfTheTrees : Type 0
+ChapterDumpIsThatOfTheTrees =
+    (volume : List Chapter) (own : Chapter) → HaveDistinctKeys volume → HasDistinctKeys own.document
+    → chapter_dump volume own ≡ fresh_chapter_dump (map chapter_source volume) (chapter_source own)

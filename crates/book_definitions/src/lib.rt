@@ -10,10 +10,13 @@
 //! | `Aims.antt` | at which chapter and which of its elements a url aims |
 //! | `Texts.antt` | the flat and full texts of a box in a volume |
 //! | `Lines.antt` | the lines of a chapter, and its dump |
-//! | `Laws.antt` | that a chapter whose urls give no name has the lines of its document alone, that only texts cross chapters, and on which chapters they rest |
+//! | `Fresh.antt` | the lines and the dump of a chapter, by documents whose nodes have no keys |
+//! | `Laws.antt` | that keys do not matter, that a chapter whose urls give no name has the lines of its document alone, that only texts cross chapters, and on which chapters they rest |
+//! | `BoxLaws.antt` | what the texts of a box in a volume rest on, piece by piece |
 //!
-//! The layers above know it by `chapter_dump volume chapter` (`Lines.antt`): the dump of a fresh evaluation of the volume, of
-//! this chapter. The crate has no code: the functions of [`laws`] do nothing, and each contract is a law.
+//! The layers above know it by `fresh_chapter_dump volume chapter` (`Fresh.antt`): the dump of a fresh evaluation of the
+//! volume, of this chapter; and by `chapter_dump` (`Lines.antt`), the same where nodes have keys. The crate has no code: the
+//! functions of [`laws`] do nothing, and each contract is a law.
 //!
 //! ```text
 //! chapter a    <p><a href="b#t"/></p>         under    a::after { content: target-counter(attr(href), s) }
