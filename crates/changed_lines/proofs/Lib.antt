@@ -1,0 +1,4 @@
+pub mod SameLemmas
+pub mod PathLemmas
+pub mod PutLemmas
+pub mod DumpLemmas

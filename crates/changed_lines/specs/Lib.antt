@@ -1,0 +1,5 @@
+pub mod ShownTexts
+pub mod Changes
+pub mod Replays
+pub mod Dumps
+pub mod Laws
