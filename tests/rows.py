@@ -72,11 +72,13 @@ def small(here):
     edited = (here / "crates/marker/stdout").read_text()
     told = f"show 1\n{LIST}end\nrefused 2 no-place\n"
     gen = "elements 10\nboxes 20\naccepted 2\nrefused 0\nlines 10\n"
+    silenced = "".join((here / f"examples/{name}.css").read_text() for name in ("house", "baked"))
     rows = [
         ("a list", "dump list.xhtml empty.css", 0, LIST, ""),
         ("the example of a list", "dump examples/list.xhtml examples/empty.css", 0, LIST, ""),
         ("the example of README", "dump examples/figures.xhtml examples/figures.css", 0, FIGURES, ""),
         ("the article", "dump examples/article.xhtml examples/house.css", 0, ARTICLE, ""),
+        ("the article, silenced", "dump examples/article.xhtml silenced.css", 0, "", ""),
         ("the chapter", "dump examples/chapter.xhtml examples/house.css", 0, CHAPTER, ""),
         ("no style element", "edit examples/chapter.xhtml empty.css plain.txt", 0, PLAIN_CHAPTER, ""),
         ("the article, edited", "edit examples/article.xhtml examples/house.css examples/script.txt", 0, edited, ""),
@@ -103,7 +105,8 @@ def small(here):
         ("a sheet of a space", "dump list.xhtml space.css", 0, LIST, ""),
         ("a list without items", "dump ul.xhtml empty.css", 0, "", ""),
     ]
-    return [Case(name, words.split(), status, output, line, FILES) for name, words, status, output, line in rows]
+    files = FILES | {"silenced.css": silenced}
+    return [Case(name, words.split(), status, output, line, files) for name, words, status, output, line in rows]
 
 
 # Large documents and sheets: each row is made when its turn comes, and needs the proved program.
