@@ -2,8 +2,8 @@
 # The mean time of an edit by `marker edit`, over documents of sections with a heading, a list and a link each, of 10,
 # 1,000, 10,000 and 100,000 elements: the time of a script of edits and one `show`, less that of the `show` alone, by
 # the number of edits; and how many times as long an edit takes as at the size before. Under a plain sheet no link is a
-# reference, so that an edit is evaluated from its place; in another plain one selectors look at siblings, so that an
-# edit reaches the list that it changes and what is beside that. With two programs, also how many times as long the
+# reference; in another plain one selectors look at siblings, so that an edit reaches the list that it changes and what is
+# beside that; in a third each section has a reference. With two programs, also how many times as long the
 # second takes as the first, so that a change can be compared with what was before. Under the plain sheet also the mean time
 # of an undo or a redo, by `marker history`, and how many times as long it takes as an edit in the same history.
 #   bench/edits.sh [--plain] [PROGRAM [OTHER]] [ELEMENTS..]      the repository's program where none is named
@@ -80,9 +80,8 @@ def an_edit(program, count):
 
 def measure(kind, size, before):
     """Says what an edit takes at this size, and gives it; `before` is what it took at the size before."""
-    # An edit that evaluates the whole document takes the longer the larger that is, and the other program may do so.
-    is_from_place = kind.startswith("plain") and len(programs) == 1
-    count = 10_000 if is_from_place else max(5, min(10_000, 500_000 // size))
+    # Another program may evaluate the whole document, and so take the longer the larger that is.
+    count = 10_000 if len(programs) == 1 else max(5, min(10_000, 500_000 // size))
     put("edits.txt", edits(size, count))
     taken, *others = [an_edit(program, count) for program in programs]
     line = f"{kind}, {size} elements, {count} edits: {taken * 1e6:.0f} µs an edit"

@@ -3,7 +3,7 @@
 ghost use Rattle.std.specs.Prelude.{◌≡◌, ◌↔◌, IfOk, IsTrue, is_some, option_map};
 ghost use Rattle.box_eval.specs.declared.made.Made.{Made};
 ghost use Rattle.content_eval.specs.Targets.{reference};
-ghost use Rattle.box_pieces.specs.BoxPieces.{pieces_in, pieces_of, referring_pieces, refers, refers_in, some_refers};
+ghost use Rattle.box_pieces.specs.BoxPieces.{has_url, has_url_in, has_urls, pieces_in, pieces_of, pieces_with_urls, refers, refers_in, some_has_url, some_refers};
 
 use crate::same_pieces::are_same_boxes;
 use box_eval::element_record::ElementRecord;
@@ -52,6 +52,40 @@ pub fn refers(element: &ElementRecord) -> bool
     refers_in(&element.marker) || refers_in(&element.before) || refers_in(&element.after)
 }
 
+fn has_url(piece: &Piece) -> bool
+    ensures { result ≡ has_url piece.now }
+{
+    match piece {
+        Piece::Chars(_) => false,
+        Piece::TargetCounter { .. } | Piece::TargetCounters { .. } | Piece::TargetText { .. } => {
+            true
+        }
+    }
+}
+
+/// Whether a piece has a url, whatever the url names: a target function gives it. It takes no memory, and time linear in the
+/// pieces.
+pub fn some_has_url(pieces: &[Piece]) -> bool
+    ensures test { result ≡ some_has_url pieces.now }
+{
+    pieces.iter().any(|piece| has_url(piece))
+}
+
+fn has_url_in(made: &Option<Made>) -> bool
+    ensures { result ≡ has_url_in made.now }
+{
+    match made {
+        Some(made) => some_has_url(made.pieces.as_slice()),
+        None => false,
+    }
+}
+
+fn has_urls(element: &ElementRecord) -> bool
+    ensures { result ≡ has_urls element.now }
+{
+    has_url_in(&element.marker) || has_url_in(&element.before) || has_url_in(&element.after)
+}
+
 fn pieces_in(alloc: Global, made: &Option<Made>) -> Result<Option<List<Piece>>, Memory>
     ensures pieces { IfOk result (λ pieces. pieces ≡ option_map pieces_in made.now) }
 {
@@ -72,12 +106,12 @@ fn pieces_of(alloc: Global, element: &ElementRecord) -> Result<BoxPieces, Memory
 }
 
 impl BoxPieces {
-    /// The pieces of the boxes of an element, where one of them refers to an id; of each other element none. It takes memory
-    /// and time in the pieces that it answers.
+    /// The pieces of the boxes of an element, where one of them has a url, whatever it names; of each other element none. It
+    /// takes memory in the pieces that it answers, and time linear in the element's pieces.
     pub fn of(alloc: Global, element: &ElementRecord) -> Result<Option<BoxPieces>, Memory>
-        ensures pieces { IfOk result (λ pieces. pieces ≡ referring_pieces element.now) }
+        ensures pieces { IfOk result (λ pieces. pieces ≡ pieces_with_urls element.now) }
     {
-        if refers(element) {
+        if has_urls(element) {
             Ok(Some(pieces_of(alloc, element)?))
         } else {
             Ok(None)

@@ -1,4 +1,4 @@
--- Plain documents ask for no start, so they may be evaluated with all starts 0.
+-- Documents that ask for no start may be evaluated with all starts 0.
 use Rattle.std.proofs.Common.{◌≡◌, ◌++◌, ◌&&◌, ◌||◌, ℕ, ℤ, List, [], ◌∷◌, Bool, true, false, cond, Option, Some, None, refl, sym, ap₂, ◌∙◌, map, filter}
 use Rattle.std.specs.Prelude.{is_some, not}
 use Rattle.forest.specs.Forest.{Forest, Empty, Tree}
@@ -21,9 +21,9 @@ use Rattle.merged_walk.specs.Evaluators.{told_all}
 use Rattle.surroundings.specs.StyledEvaluators.{root_surroundings, styled_evaluator}
 use Rattle.surroundings.proofs.Asking.{asks-all}
 use Rattle.kept_elements.specs.Evaluations.{told_of}
-use Rattle.dirty_walk.specs.Plain.{are_plain}
-use Rattle.dirty_walk.proofs.PlainLemmas.{no_asks}
+use Rattle.dirty_walk.specs.Plain.{are_plain, are_unstarted}
 use Rattle.dirty_walk.proofs.StartLemmas.{unasked_told}
+use Rattle.dirty_walk.proofs.UnstartedLemmas.{not_true, plain_unstarted}
 
 has_mapped : {A : Type 0} (f g : A → Start) (items : List A) → has_starts (map f items) ≡ has_starts (map g items)
 has_mapped f g [] = refl
@@ -78,15 +78,23 @@ module _ (style : ℕ → Option Style → ElementStyle) (start : BoxId → List
           ap₂ (λ a b. a || b) (node_same has one other (has_same start key styles)) (ap₂ (λ a b. a || b) (below has (Some styles.own)) beside)
 
 module _ (table : List CounterStyle) (style : ℕ → Option Style → ElementStyle) (tree : Forest (Keyed Node)) where
-  -- where what is told is plain, it is so with all starts 0
-  pub plain_without_starts : are_plain (told_of table style tree) ≡ true → told_all (styled_evaluator table) root_surroundings (styled style no_starts tree) ≡ told_of table style tree
-  plain_without_starts plain =
+  -- where no element asks for a start, what is told is so with all starts 0
+  pub unstarted_without_starts : are_unstarted (told_of table style tree) ≡ true → told_all (styled_evaluator table) root_surroundings (styled style no_starts tree) ≡ told_of table style tree
+  unstarted_without_starts unstarted =
       unasked_told table style tree
-      (sym (asks_same style (document_starts table style tree) tree true None) ∙ sym (asks-all table (started table style tree) root_surroundings) ∙ no_asks (told_of table style tree) plain)
+      (sym (asks_same style (document_starts table style tree) tree true None) ∙ sym (asks-all table (started table style tree) root_surroundings) ∙ not_true _ unstarted)
 
   -- and the other way round
+  pub without_starts_unstarted : are_unstarted (told_all (styled_evaluator table) root_surroundings (styled style no_starts tree)) ≡ true
+      → told_all (styled_evaluator table) root_surroundings (styled style no_starts tree) ≡ told_of table style tree
+  without_starts_unstarted unstarted =
+      unasked_told table style tree
+      (sym (asks-all table (styled style no_starts tree) root_surroundings) ∙ not_true _ unstarted)
+
+  -- so it is where what is told is plain
+  pub plain_without_starts : are_plain (told_of table style tree) ≡ true → told_all (styled_evaluator table) root_surroundings (styled style no_starts tree) ≡ told_of table style tree
+  plain_without_starts plain = unstarted_without_starts (plain_unstarted (told_of table style tree) plain)
+
   pub without_starts_plain : are_plain (told_all (styled_evaluator table) root_surroundings (styled style no_starts tree)) ≡ true
       → told_all (styled_evaluator table) root_surroundings (styled style no_starts tree) ≡ told_of table style tree
-  without_starts_plain plain =
-      unasked_told table style tree
-      (sym (asks-all table (styled style no_starts tree) root_surroundings) ∙ no_asks (told_all (styled_evaluator table) root_surroundings (styled style no_starts tree)) plain)
+  without_starts_plain plain = without_starts_unstarted (plain_unstarted (told_all (styled_evaluator table) root_surroundings (styled style no_starts tree)) plain)

@@ -16,7 +16,7 @@ use Rattle.node_arena.specs.Nodes.{name_of}
 use Rattle.content_eval.specs.Targets.{Known}
 use Rattle.box_eval.specs.declared.element_record.ElementRecord.{ElementRecord}
 use Rattle.box_eval.specs.declared.made.Made.{Made}
-use Rattle.box_pieces.specs.BoxPieces.{pieces_in, referring_pieces, refers}
+use Rattle.box_pieces.specs.BoxPieces.{has_urls, pieces_in, pieces_with_urls}
 use Rattle.generated_texts.specs.Documents.{counter_styles}
 use Rattle.generated_texts.specs.References.{kept_at, known_targets}
 use Rattle.edit_work.specs.KeyedSources.{is_among, references_of}
@@ -29,7 +29,7 @@ use Rattle.kept_elements.specs.Renewals.{is_told}
 use Rattle.kept_elements.specs.Evaluations.{document_kept, document_told, evaluated_document, kept_of, said_of}
 use Rattle.dirty_walk.specs.ReferenceExchanges.{ChangesReferences, references_in, references_kept, references_of_boxes}
 use Rattle.kept_elements.proofs.KnownLemmas.{kept_mapped}
-use Rattle.kept_elements.proofs.NoReferences.{of_element}
+use Rattle.kept_elements.proofs.NoReferences.{without_urls}
 use Rattle.kept_elements.proofs.RenewalLemmas.{at_first, key_there, kept_there, once_there}
 use Rattle.kept_elements.proofs.ToldLemmas.{kept_keys, told_once}
 
@@ -39,11 +39,11 @@ in_box : (made : Option Made) → references_in (option_map pieces_in made) ≡ 
 in_box None = refl
 in_box (Some made) = refl
 
-pub pieces_refer : (said : ElementRecord) → option_map_or references_of_boxes (referring_pieces said) [] ≡ references_of said
-pieces_refer said = elim (cases_Bool (refers said)) [
+pub pieces_refer : (said : ElementRecord) → option_map_or references_of_boxes (pieces_with_urls said) [] ≡ references_of said
+pieces_refer said = elim (cases_Bool (has_urls said)) [
   | inl e ↦
       rw e (ap₂ (λ (first rest : List (List ℕ)). first ++ rest) (in_box said.marker) (ap₂ (λ (first rest : List (List ℕ)). first ++ rest) (in_box said.before) (in_box said.after)))
-  | inr e ↦ rw e (sym (of_element said e))
+  | inr e ↦ rw e (sym (without_urls said e))
 ]
 
 module _ (author : Sheet) (document : Forest (Keyed Node)) where
@@ -57,7 +57,7 @@ module _ (author : Sheet) (document : Forest (Keyed Node)) where
   abbrev refers_by : Option Told → List (List ℕ)
   refers_by told = option_map_or (λ (one : Told). references_of one.said) told []
 
-  references_told : (key : ℕ) → references_at (evaluated_document author document) key ≡ refers_by (kept_at told_of_it key)
+  pub references_told : (key : ℕ) → references_at (evaluated_document author document) key ≡ refers_by (kept_at told_of_it key)
   references_told key =
       ap (λ (o : Option ElementRecord). option_map_or references_of o []) (kept_mapped (λ (one : Told). one.said) told_of_it key) ∙ by (kept_at told_of_it key)
     where
@@ -79,7 +79,7 @@ module _ (author : Sheet) (document : Forest (Keyed Node)) where
       by (Some one) = pieces_refer one.said
 
   module _ (distinct : HasDistinctKeys document) where
-    told_keys : (key : ℕ) → is_some (kept_at told_of_it key) ≡ is_some (name_of document key)
+    pub told_keys : (key : ℕ) → is_some (kept_at told_of_it key) ≡ is_some (name_of document key)
     told_keys key =
         by (kept_at told_of_it key)
         ∙ ap (λ (o : Option Kept). is_some o) (sym (kept_mapped (kept_of (counter_styles author) known) told_of_it key))
@@ -97,7 +97,7 @@ module _ (author : Sheet) (document : Forest (Keyed Node)) where
         by None is = refl
         by (Some one) is = absurd (true≢false is)
 
-    told_refers : (element : ℕ × Told) → Contains told_of_it element → references_at (evaluated_document author document) element.0 ≡ references_of element.1.said
+    pub told_refers : (element : ℕ × Told) → Contains told_of_it element → references_at (evaluated_document author document) element.0 ≡ references_of element.1.said
     told_refers element there = references_told element.0 ∙ ap refers_by (once_there told_of_it (told_once author document distinct) element there)
 
 turned : (key : ℕ) (takes : List ℕ) → is_among takes key ≡ list_any (nat_eq key) takes

@@ -54,15 +54,18 @@ use Rattle.styled_merge.proofs.StopLemmas.{styled_reaches_are_walkable}
 use Rattle.dirty_walk.specs.declared.document_styles.DocumentStyles.{DocumentStyles}
 use Rattle.kept_elements.specs.declared.kept.Kept.{Kept}
 use Rattle.dirty_walk.specs.declared.local_stops.LocalStops.{LocalStops}
+use Rattle.dirty_walk.specs.declared.read_ahead.ReadAhead.{ReadAhead}
 use Rattle.dirty_walk.specs.declared.styled_arena.StyledArena.{StyledArena}
+use Rattle.target_index.specs.declared.index.Index.{Index}
 use Rattle.kept_elements.specs.Changes.{AreChanges, Renews}
 use Rattle.dirty_walk.specs.DocumentStyles.{document_styles, read_styles}
 use Rattle.kept_elements.specs.Evaluations.{all_kept_of, document_kept, document_told, kept_of, said_of}
 use Rattle.dirty_walk.specs.PlaceReadings.{read_of}
 use Rattle.dirty_walk.specs.PlaceStyles.{StandsBefore}
+use Rattle.dirty_walk.specs.ReadAhead.{StandsRead, WasReadOf}
 use Rattle.dirty_walk.specs.Places.{IsLocalEdit, IsSomePlace, IsWithinPlace, nothing_known, place_budget, place_merge, reading_of, walked_at}
-use Rattle.dirty_walk.specs.Plain.{are_plain, is_plain, rests_on_others}
-use Rattle.dirty_walk.proofs.AskLemmas.{plain_without_starts, without_starts_plain}
+use Rattle.dirty_walk.specs.Plain.{are_plain, is_plain, is_unstarted, rests_on_others}
+use Rattle.dirty_walk.proofs.AskLemmas.{plain_without_starts, unstarted_without_starts, without_starts_plain}
 use Rattle.kept_elements.proofs.KnownLemmas.{kept_mapped}
 use Rattle.dirty_walk.proofs.PlainLemmas.{all_plain, each_plain, same_kept}
 use Rattle.dirty_walk.proofs.PlanLemmas.{its_author}
@@ -158,7 +161,7 @@ module _ (edit : Edit) (text : List ℕ) (held : FinMap nat_cmp Kept) (stops : L
   can = subst (λ (a : Sheet). CanCatchUp (under a) (walked_at held) stops (place_merge edit text old new) told_at) (sym sheet_stays) (record {
     new = forests.new ∙ ap (λ (a : Sheet). styled (document_style a new) no_starts new) sheet_stays;
     holds = subst (λ (trees : Forest (Keyed StyledNode)). Holds told_at (told_all (styled_evaluator table) root_surroundings trees)) (sym forests.old)
-        (subst (λ (told : List (ℕ × Told)). Holds told_at told) (sym (plain_without_starts table (document_style author old) old at.plain)) holds);
+        (subst (λ (told : List (ℕ × Told)). Holds told_at told) (sym (unstarted_without_starts table (document_style author old) old at.unstarted)) holds);
     read = read;
     stops = stops_are ∙ walkable.stops;
     leaves = walkable.leaves;
@@ -187,9 +190,9 @@ module _ (edit : Edit) (text : List ℕ) (held : FinMap nat_cmp Kept) (stops : L
       | inr not ↦ not
     ]
 
-  -- And where that is plain, so is the document.
+  -- And where that is plain, and the document was so, it is so still.
 
-  module _ (caught : List (ℕ × Told)) (covers_all : CoversAll (reading_of text new) (walked_at held) stops caught) (among_all : AreAllAmong (reading_of text new) (walked_at held) stops caught)
+  module _ (was_plain : is_plain (author_sheet text old) old ≡ true) (caught : List (ℕ × Told)) (covers_all : CoversAll (reading_of text new) (walked_at held) stops caught) (among_all : AreAllAmong (reading_of text new) (walked_at held) stops caught)
       (plain : are_plain caught ≡ true) where
     covers : Covers caught told_at told_now
     covers = subst (λ (a : Sheet). Covers caught told_at (told_under a)) sheet_stays (covers_all (place_merge edit text old new) told_at can)
@@ -200,7 +203,7 @@ module _ (edit : Edit) (text : List ℕ) (held : FinMap nat_cmp Kept) (stops : L
     each : All (λ (one : ℕ × Told). rests_on_others one.1 ≡ false) told_now
     each =
         All-weaker (λ (one : ℕ × Told). Contains caught one ⊎ (told_at one.0 ≡ Some one.1)) (λ (one : ℕ × Told). rests_on_others one.1 ≡ false)
-        (λ one is. elim is [ inl there ↦ each_plain caught plain one there | inr is ↦ each_plain told_before at.plain one (before one is) ])
+        (λ one is. elim is [ inl there ↦ each_plain caught plain one there | inr is ↦ each_plain told_before was_plain one (before one is) ])
         told_now covers
 
     told_is : told_now ≡ document_told author new
@@ -242,7 +245,7 @@ module _ (edit : Edit) (text : List ℕ) (held : FinMap nat_cmp Kept) (stops : L
       covered one (inr is) =
           inr (kept_before one.0
           ∙ ap (option_map (kept_of table known_before)) (sym (at_first told_before one.0) ∙ is)
-          ∙ ap (λ (kept : Kept). Some kept) (same_kept table known_before known_now one.1 (each_plain told_before at.plain one (before one is))))
+          ∙ ap (λ (kept : Kept). Some kept) (same_kept table known_before known_now one.1 (each_plain told_before was_plain one (before one is))))
 
       all_covered : Covers changes (get held) all
       all_covered =
@@ -266,7 +269,7 @@ module _ (edit : Edit) (text : List ℕ) (held : FinMap nat_cmp Kept) (stops : L
 -- The same where a document and its styles are known, and some edit.
 
 -- what a walk reads of a document and its styles
-reads : (document : StyledArena) → document.agent.now ≡ agent_sheet → document.styles.now ≡ document_styles document.styles.now.sheet document.arena.now.tree
+pub reads : (document : StyledArena) → document.agent.now ≡ agent_sheet → document.styles.now ≡ document_styles document.styles.now.sheet document.arena.now.tree
     → read_of document ≡ reading_of document.styles.now.sheet document.arena.now.tree
 unfolding read_styles
 reads document is_agent styles_are =
@@ -278,7 +281,7 @@ reads document is_agent styles_are =
     reading_by : List CounterStyle → (ℕ → Option Style → ElementStyle) → Forest (Keyed Node) → Reading
     reading_by table style tree = record { table = table; style = style; start = no_starts; tree = tree }
 
-its_table : (styles : DocumentStyles) (text : List ℕ) (tree : Forest (Keyed Node)) → styles ≡ document_styles text tree → styles.table ≡ counter_styles (author_sheet text tree)
+pub its_table : (styles : DocumentStyles) (text : List ℕ) (tree : Forest (Keyed Node)) → styles ≡ document_styles text tree → styles.table ≡ counter_styles (author_sheet text tree)
 unfolding read_styles
 its_table styles text tree are = ap (λ (s : DocumentStyles). s.table) are
 
@@ -312,7 +315,8 @@ module _ (document : StyledArena) (is_agent : document.agent.now ≡ agent_sheet
       rests_now place.edit text held stops place.old tree place.at place.stops_are caught
       (subst (λ (from : Reading). AreAllAmong from (walked_at held) stops caught) (reads document is_agent styles_are) among) is
 
-  module _ (caught : List (ℕ × Told)) (covers : CoversAll (read_of document) (walked_at held) stops caught) (among : AreAllAmong (read_of document) (walked_at held) stops caught) (plain : are_plain caught ≡ true) where
+  module _ (was_plain : is_plain (author_sheet text place.old) place.old ≡ true) (caught : List (ℕ × Told)) (covers : CoversAll (read_of document) (walked_at held) stops caught)
+      (among : AreAllAmong (read_of document) (walked_at held) stops caught) (plain : are_plain caught ≡ true) where
     covers_now : CoversAll (reading_of text tree) (walked_at held) stops caught
     covers_now = subst (λ (from : Reading). CoversAll from (walked_at held) stops caught) (reads document is_agent styles_are) covers
 
@@ -320,12 +324,12 @@ module _ (document : StyledArena) (is_agent : document.agent.now ≡ agent_sheet
     among_now = subst (λ (from : Reading). AreAllAmong from (walked_at held) stops caught) (reads document is_agent styles_are) among
 
     pub is_plain_now : is_plain (author_sheet text tree) tree ≡ true
-    is_plain_now = plain_now place.edit text held stops place.old tree place.at place.stops_are caught covers_now among_now plain
+    is_plain_now = plain_now place.edit text held stops place.old tree place.at place.stops_are was_plain caught covers_now among_now plain
 
     pub renews_now : (changes : List (ℕ × Kept)) → AreChanges held (all_kept_of document.styles.now.table nothing_known caught) changes → length caught ≤ element_count (without_keys tree)
         → Renews held (document_kept (author_sheet text tree) tree) changes
     renews_now changes are few =
-        renewed place.edit text held stops place.old tree place.at place.stops_are caught covers_now among_now plain changes
+        renewed place.edit text held stops place.old tree place.at place.stops_are was_plain caught covers_now among_now plain changes
         (subst (λ (table : List CounterStyle). AreChanges held (all_kept_of table nothing_known caught) changes)
         (its_table document.styles.now text tree styles_are ∙ ap counter_styles (sheet_stays place.edit text held stops place.old tree place.at place.stops_are)) are)
         few
@@ -390,18 +394,20 @@ its_reach edit agent styles old is_agent styles_are =
 module _ (edit : Edit) (styles : DocumentStyles) (held : FinMap nat_cmp Kept) (old new : Forest (Keyed Node)) (styles_are : styles ≡ document_styles styles.sheet old) (finished : IsDone edit old new)
     (kept : (key : ℕ) → get held key ≡ kept_at (document_kept (author_sheet styles.sheet old) old) key) where
   -- where the edit's walk may begin, before the edit is done
-  abbrev pub stands_there : (local : LocalStops) → is_plain (author_sheet styles.sheet old) old ≡ true → local.extent ≡ reach (looks_beside styles.sheet old) old edit → local.extent ≢ Everywhere
+  abbrev pub stands_there : (local : LocalStops) → is_unstarted (author_sheet styles.sheet old) old ≡ true → local.extent ≡ reach (looks_beside styles.sheet old) old edit → local.extent ≢ Everywhere
       → local.stops.items ≡ reach_stops local.extent edit 0 old → StandsBefore edit styles held local new
-  stands_there local plain extent other stops_are = record {
+  stands_there local unstarted extent other stops_are = record {
     old = old;
     styles_are = styles_are;
-    at = record { done = finished; local = λ all. other (extent ∙ all); kept = kept; plain = plain };
+    at = record { done = finished; local = λ all. other (extent ∙ all); kept = kept; unstarted = unstarted };
     extent_is = extent;
     stops_are = stops_are;
   }
 
-  pub stands_before : (stops : Option LocalStops) → IfSome stops (λ _. is_plain (author_sheet styles.sheet old) old ≡ true)
+  -- and what was read of it then
+  pub stands_read : (ahead : ReadAhead) (index : Index) → WasReadOf edit (author_sheet styles.sheet old) old ahead index
+      → (stops : Option LocalStops) → IfSome stops (λ _. is_unstarted (author_sheet styles.sheet old) old ≡ true)
       → IfSome stops (λ local. local.extent ≡ reach (looks_beside styles.sheet old) old edit) → IfSome stops (λ local. local.extent ≢ Everywhere)
-      → IfSome stops (λ local. local.stops.items ≡ reach_stops local.extent edit 0 old) → IfSome stops (λ local. StandsBefore edit styles held local new)
-  stands_before None plain extent other stops_are = tt
-  stands_before (Some local) plain extent other stops_are = stands_there local plain extent other stops_are
+      → IfSome stops (λ local. local.stops.items ≡ reach_stops local.extent edit 0 old) → IfSome stops (λ local. StandsRead edit styles held local new ahead index)
+  stands_read ahead index read None unstarted extent other stops_are = tt
+  stands_read ahead index read (Some local) unstarted extent other stops_are = record { before = stands_there local unstarted extent other stops_are; read = read }

@@ -11,7 +11,7 @@ use Rattle.content_eval.specs.TargetLaws.{AgreeBelow, AgreeOn, OfEachReference}
 use Rattle.content_eval.proofs.ReferenceLemmas.{flat_depends, full_depends}
 use Rattle.box_eval.specs.declared.element_record.ElementRecord.{ElementRecord}
 use Rattle.box_eval.specs.declared.made.Made.{Made}
-use Rattle.box_pieces.specs.BoxPieces.{referring_pieces, refers, refers_in, some_refers}
+use Rattle.box_pieces.specs.BoxPieces.{pieces_with_urls, refers, refers_in, some_refers}
 use Rattle.generated_texts.specs.declared.entry.BoxText.{BoxText}
 use Rattle.generated_texts.specs.declared.entry.NodeEntry.{NodeEntry}
 use Rattle.generated_texts.specs.Entries.{box_text, node_entry}
@@ -63,7 +63,7 @@ module _ (table : List CounterStyle) (one other : Known) where
   -- whatever is known of targets, the same is kept of an element that refers to none
   pub same_kept : (told : Told) → rests_on_others told ≡ false → kept_of table one told ≡ kept_of table other told
   same_kept told none =
-      ap (λ (entry : NodeEntry). record { entry = entry; walked = told.walked; pieces = referring_pieces told.said }) (same_entry told.said (or_parts told.asks (refers told.said) none).1)
+      ap (λ (entry : NodeEntry). record { entry = entry; walked = told.walked; pieces = pieces_with_urls told.said }) (same_entry told.said (or_parts told.asks (refers told.said) none).1)
 
 -- Lists.
 

@@ -1,5 +1,5 @@
 -- Books under edits that are planned.
-use Rattle.std.proofs.Common.{◌≡◌, ◌<◌, ◌≤◌, ℕ, Bool, true, List, Option, Some, None, option_copied, unwrap_or, refl, ap, sym, ◌∙◌, arith}
+use Rattle.std.proofs.Common.{◌≡◌, ◌<◌, ◌≤◌, ℕ, Bool, true, List, Option, Some, None, IfSome, option_copied, unwrap_or, refl, ap, sym, subst, ◌∙◌, arith}
 use Rattle.std.specs.Prelude.{is_some}
 use Rattle.std.specs.Borrow.{Bor}
 use Rattle.std.specs.FinMap.{FinMap, get}
@@ -14,6 +14,7 @@ use Rattle.node_arena.specs.Document.{Document}
 use Rattle.node_arena.specs.Nodes.{name_of}
 use Rattle.kept_elements.specs.declared.kept.Kept.{Kept}
 use Rattle.css_reader.specs.Features.{features}
+use Rattle.generated_texts.specs.Documents.{counter_styles}
 use Rattle.generated_texts.specs.StyleElements.{author_sheet, style_texts}
 use Rattle.node_arena.specs.Reversals.{IsSettled}
 use Rattle.dirty_walk.specs.declared.document_styles.DocumentStyles.{DocumentStyles}
@@ -23,6 +24,7 @@ use Rattle.target_index.specs.declared.index.Index.{Index}
 use Rattle.target_index.specs.Holders.{is_holder, is_reference}
 use Rattle.referring_elements.specs.Indexes.{IsIndexOf, holds_id}
 use Rattle.dirty_walk.specs.Plain.{is_plain}
+use Rattle.dirty_walk.specs.Referring.{IsReferringIn}
 use Rattle.dirty_walk.specs.Books.{StyledDocument, fresh_kept, HasRoomFor, IsBook, KeepsAll, UsesItsKeys}
 use Rattle.dirty_walk.proofs.ReferenceLemmas.{refers_where}
 
@@ -62,6 +64,10 @@ pub its_features : (styles : DocumentStyles) (text : List ℕ) (tree : Forest (K
 unfolding read_styles
 its_features styles text tree are = ap (λ (styles : DocumentStyles). styles.features) are
 
+pub its_table : (styles : DocumentStyles) (text : List ℕ) (tree : Forest (Keyed Node)) → styles ≡ document_styles text tree → styles.table ≡ counter_styles (author_sheet text tree)
+unfolding read_styles
+its_table styles text tree are = ap (λ (styles : DocumentStyles). styles.table) are
+
 -- what a book of these stands for
 abbrev pub stands : Forest (Keyed Node) → List ℕ → Option Reversal → FinMap nat_cmp Kept → StyledDocument
 stands tree text planned entries = record { tree = tree; sheet = text; settled = is_none planned; kept = entries }
@@ -95,6 +101,11 @@ index_where tree other index new same answers indexed id key = answers id key �
 pub plain_where : (tree other : Forest (Keyed Node)) (text : List ℕ) (plain : Bool) → other ≡ tree → plain ≡ is_plain (author_sheet text tree) tree → plain ≡ is_plain (author_sheet text other) other
 plain_where tree other text plain same is = is ∙ ap (λ (t : Forest (Keyed Node)). is_plain (author_sheet text t) t) (sym same)
 
+-- and which element of it refers
+pub referring_where : (tree other : Forest (Keyed Node)) (text : List ℕ) (referring : Option ℕ) → other ≡ tree → IfSome referring (IsReferringIn (author_sheet text tree) tree)
+    → IfSome referring (IsReferringIn (author_sheet text other) other)
+referring_where tree other text referring same is = subst (λ (t : Forest (Keyed Node)). IfSome referring (IsReferringIn (author_sheet text t) t)) (sym same) is
+
 -- and its room, or more
 pub room_where : (tree other : Forest (Keyed Node)) (room more : ℕ) → other ≡ tree → room ≤ more → HasRoomFor room tree → HasRoomFor more other
 room_where tree other room more same grown has key named =
@@ -103,14 +114,14 @@ room_where tree other room more same grown has key named =
 
 -- Where no edit is planned, a book may have another arena of the same document, which uses its keys alone, another board
 -- that holds the same and has as much room, and another index of the same answers.
-pub same_document : (old new : Document) (agent : Sheet) (styles : DocumentStyles) (planned : Option Reversal) (board other : Records Kept) (index changed : Index) (plain : Bool)
+pub same_document : (old new : Document) (agent : Sheet) (styles : DocumentStyles) (planned : Option Reversal) (board other : Records Kept) (index changed : Index) (plain : Bool) (referring : Option ℕ)
     → is_none planned ≡ true → new.tree ≡ old.tree → (IsSettled old → IsSettled new)
     → other.held ≡ board.held → board.room ≤ other.room → ((id : List ℕ) (key : ℕ) → is_holder changed id key ≡ is_holder index id key)
     → ((id : List ℕ) (key : ℕ) → is_reference changed id key ≡ is_reference index id key)
-    → IsBook old agent styles board index plain planned (stands old.tree styles.sheet planned board.held)
-    → IsBook new agent styles other changed plain planned (stands new.tree styles.sheet planned other.held)
-same_document old new agent styles (Some reversal) board other index changed plain none same still held grown answers references book = cc
-same_document old new agent styles None board other index changed plain none same still held grown answers references book = record {
+    → IsBook old agent styles board index plain referring planned (stands old.tree styles.sheet planned board.held)
+    → IsBook new agent styles other changed plain referring planned (stands new.tree styles.sheet planned other.held)
+same_document old new agent styles (Some reversal) board other index changed plain referring none same still held grown answers references book = cc
+same_document old new agent styles None board other index changed plain referring none same still held grown answers references book = record {
   agent_is = book.agent_is;
   styles_are = book.styles_are ∙ ap (λ (tree : Forest (Keyed Node)). document_styles styles.sheet tree) (sym same);
   kept = λ settled. kept_where old.tree new.tree styles.sheet styles.sheet board.held other.held true true same refl held (book.kept settled);
@@ -118,6 +129,7 @@ same_document old new agent styles None board other index changed plain none sam
   indexed = index_where old.tree new.tree index changed same answers book.indexed;
   refers = refers_where old.tree new.tree styles.sheet index changed same references book.refers;
   plain_is = plain_where old.tree new.tree styles.sheet plain same book.plain_is;
+  referring_is = referring_where old.tree new.tree styles.sheet referring same book.referring_is;
   back = tt;
   keys = still book.keys;
 }

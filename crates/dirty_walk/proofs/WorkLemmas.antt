@@ -1,5 +1,5 @@
 -- The steps of an edit are within its work.
-use Rattle.std.proofs.Common.{◌≡◌, ◌≢◌, ◌≤◌, ◌+◌, ◌*◌, ◌⊎◌, ◌∙◌, ℕ, true, false, List, Option, Some, None, IfSome, sym, ap, inl, inr, arith}
+use Rattle.std.proofs.Common.{◌≡◌, ◌≢◌, ◌≤◌, ◌+◌, ◌*◌, ◌⊎◌, ◌∙◌, ℕ, Bool, true, false, List, Option, Some, None, IfSome, sym, ap, inl, inr, arith}
 use Rattle.std.specs.Prelude.{IfNone, is_some}
 use Rattle.std.specs.FinMap.{FinMap, get}
 use Rattle.std.specs.Ordering.{nat_cmp}
@@ -44,7 +44,7 @@ use Rattle.dirty_walk.specs.DocumentStyles.{document_styles}
 use Rattle.kept_elements.specs.Evaluations.{document_kept}
 use Rattle.dirty_walk.specs.PlaceStyles.{IsWithinPlaceOf, StandsBefore}
 use Rattle.dirty_walk.specs.Places.{place_budget}
-use Rattle.dirty_walk.specs.Plain.{is_plain}
+use Rattle.dirty_walk.specs.Plain.{is_plain, is_unstarted}
 use Rattle.dirty_walk.specs.WorkBounds.{IsWithinWork, StaysPlain}
 use Rattle.dirty_walk.proofs.GoneLemmas.{gone-reached}
 use Rattle.dirty_walk.proofs.PlaceLemmas.{stands_there}
@@ -117,28 +117,28 @@ module _ (edit : Edit) (styles : DocumentStyles) (held : FinMap nat_cmp Kept) (o
   is = record { tree = new; sheet = next }
 
   -- its steps are within the work of the edit, where it walks from the stops of the edit, or by all elements
-  pub within_work : (from now taken total : ℕ) → IfSome stops (λ _. is_plain (author_sheet styles.sheet old) old ≡ true)
+  pub within_work : (was_plain : Bool) → was_plain ≡ is_plain (author_sheet styles.sheet old) old → (from now taken total : ℕ) → IfSome stops (λ _. is_unstarted (author_sheet styles.sheet old) old ≡ true)
       → IfSome stops (λ local. local.extent ≡ reach (looks_beside styles.sheet old) old edit) → IfSome stops (λ local. local.extent ≢ All)
       → IfSome stops (λ local. local.stops.items ≡ reach_stops local.extent edit 0 old)
       → IfNone stops ((is_plain (author_sheet styles.sheet old) old ≡ false) ⊎ (reach (looks_beside styles.sheet old) old edit ≡ All))
-      → IfSome stops (λ local. IsWithinPlaceOf edit styles held local new from now)
+      → IfSome stops (λ local. IsWithinPlaceOf was_plain edit styles held local new from now)
       → taken ≤ gone_count is_element (edit_merge edit old new) → total ≤ now + taken → total ≤ from + (13 * element_count (without_keys new) + element_count (without_keys old))
       → IsWithinWork edit was is from total
-  within_work from now taken total plain extent other stops_are none within goes sum few measured = elim measured [
-    | inl stays ↦ by stops stays plain extent other stops_are none within
+  within_work was_plain plain_is from now taken total unstarted extent other stops_are none within goes sum few measured = elim measured [
+    | inl stays ↦ by stops stays unstarted extent other stops_are none within
     | inr all ↦ everywhere edit styles.sheet next old new done next_is from total all few
   ]
     where
-      by : (found : Option LocalStops) → StaysPlain edit was is → IfSome found (λ _. is_plain (author_sheet styles.sheet old) old ≡ true)
+      by : (found : Option LocalStops) → StaysPlain edit was is → IfSome found (λ _. is_unstarted (author_sheet styles.sheet old) old ≡ true)
           → IfSome found (λ local. local.extent ≡ reach (looks_beside styles.sheet old) old edit) → IfSome found (λ local. local.extent ≢ All)
           → IfSome found (λ local. local.stops.items ≡ reach_stops local.extent edit 0 old)
           → IfNone found ((is_plain (author_sheet styles.sheet old) old ≡ false) ⊎ (reach (looks_beside styles.sheet old) old edit ≡ All))
-          → IfSome found (λ local. IsWithinPlaceOf edit styles held local new from now) → total ≤ from + 24 * (work edit was is + 1)
-      by None stays plain extent other stops_are none within = elim none [
+          → IfSome found (λ local. IsWithinPlaceOf was_plain edit styles held local new from now) → total ≤ from + 24 * (work edit was is + 1)
+      by None stays unstarted extent other stops_are none within = elim none [
         | inl rests ↦ absurd (true≢false (sym stays.was ∙ rests))
         | inr all ↦ everywhere edit styles.sheet next old new done next_is from total all few
       ]
-      by (Some local) stays plain extent other stops_are none within =
-          let there : StandsBefore edit styles held local new = stands_there edit styles held old new styles_are done kept local plain extent other stops_are in
+      by (Some local) stays unstarted extent other stops_are none within =
+          let there : StandsBefore edit styles held local new = stands_there edit styles held old new styles_are done kept local unstarted extent other stops_are in
           at_place edit styles.sheet next old new done next_is from now taken total there.at.local
-          (within (ap (λ (text : List ℕ). is_plain (author_sheet text new) new) (sym next_is) ∙ stays.is) there) goes sum
+          (within (plain_is ∙ stays.was) (ap (λ (text : List ℕ). is_plain (author_sheet text new) new) (sym next_is) ∙ stays.is) there) goes sum

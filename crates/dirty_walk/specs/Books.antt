@@ -24,6 +24,7 @@ use Rattle.dirty_walk.specs.DocumentStyles.{document_styles}
 use Rattle.kept_elements.specs.Evaluations.{document_kept, evaluated_document}
 use Rattle.referring_elements.specs.Indexes.{IsIndexOf, TellsReferences}
 use Rattle.dirty_walk.specs.Plain.{is_plain}
+use Rattle.dirty_walk.specs.Referring.{IsReferringIn}
 
 -- a document whose nodes have keys, the text of its style sheet, whether they are settled, which is that no edit is
 -- planned, and what is kept of the document's elements under their keys
@@ -73,9 +74,9 @@ HasRoomFor room document = (key : ℕ) → IsSome (name_of document key) → key
 
 -- A book stands for its arena's tree, its sheet's text, what its board holds, and whether no edit is planned. It has the
 -- user agent's sheet, that document's styles and the index of its ids and references, room for what is kept of its elements,
--- and knows whether they rest on more than what they are handed. A settled one keeps what a fresh evaluation does, and uses the keys of
+-- and knows whether they rest on more than what they are handed, and where it knows one that refers to an id, it is one. A settled one keeps what a fresh evaluation does, and uses the keys of
 -- its nodes alone; an edit that is planned can be taken back.
-pub record IsBook (arena : Document) (agent : Sheet) (styles : DocumentStyles) (board : Records Kept) (index : Index) (plain : Bool) (planned : Option Reversal) (styled : StyledDocument) : Type 0 where
+pub record IsBook (arena : Document) (agent : Sheet) (styles : DocumentStyles) (board : Records Kept) (index : Index) (plain : Bool) (referring : Option ℕ) (planned : Option Reversal) (styled : StyledDocument) : Type 0 where
   pub agent_is : agent ≡ agent_sheet
   pub styles_are : styles ≡ document_styles styled.sheet styled.tree
   pub kept : styled.settled ≡ true → KeepsAll styled
@@ -83,5 +84,6 @@ pub record IsBook (arena : Document) (agent : Sheet) (styles : DocumentStyles) (
   pub indexed : IsIndexOf index styled.tree
   pub refers : TellsReferences index (evaluated_document (author_sheet styled.sheet styled.tree) styled.tree)
   pub plain_is : plain ≡ is_plain (author_sheet styled.sheet styled.tree) styled.tree
+  pub referring_is : IfSome referring (IsReferringIn (author_sheet styled.sheet styled.tree) styled.tree)
   pub back : IfSome planned (λ reversal. IsReversal arena reversal)
   pub keys : UsesItsKeys arena planned

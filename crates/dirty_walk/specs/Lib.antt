@@ -3,6 +3,7 @@ pub mod DocumentStyles
 pub mod EditedArenas
 pub mod Exchanges
 pub mod FormerTargets
+pub mod FreshPieces
 pub mod Machinery
 pub mod NamedElements
 pub mod PlaceReadings
@@ -10,5 +11,7 @@ pub mod PlaceStyles
 pub mod Places
 pub mod Plain
 pub mod Plans
+pub mod ReadAhead
 pub mod ReferenceExchanges
+pub mod Referring
 pub mod WorkBounds

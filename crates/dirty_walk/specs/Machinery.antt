@@ -1,3 +1,4 @@
 -- What the contracts of private functions say: lists as the code makes them. No promise of the crate rests on these.
 pub mod FormerLists
+pub mod KeptPieces
 pub mod ReferenceLists

@@ -1,5 +1,5 @@
 -- Where a book stands while an edit is evaluated, whose walk may begin at its place (our own).
-use Rattle.std.specs.Prelude.{◌≡◌, ◌≤◌, ◌+◌, ◌*◌, ℕ, true}
+use Rattle.std.specs.Prelude.{◌≡◌, ◌≤◌, ◌+◌, ◌*◌, ℕ, Bool, true}
 use Rattle.std.specs.FinMap.{FinMap}
 use Rattle.std.specs.Ordering.{nat_cmp}
 use Rattle.forest.specs.Forest.{Forest}
@@ -27,9 +27,10 @@ pub record StandsBefore (edit : Edit) (styles : DocumentStyles) (held : FinMap n
   pub extent_is : local.extent ≡ reach (looks_beside styles.sheet old) old edit
   pub stops_are : local.stops.items ≡ reach_stops local.extent edit 0 old
 
--- Where the edited document is plain, between one number of steps and another are no more than a walk from the place of the
--- edit takes, and one for each record that it finds, of which there are no more than its budget.
-abbrev pub IsWithinPlaceOf : Edit → DocumentStyles → FinMap nat_cmp Kept → LocalStops → Forest (Keyed Node) → (before now : ℕ) → Type 0
-IsWithinPlaceOf edit styles held local new before now =
-    is_plain (author_sheet (edited_sheet edit styles.sheet) new) new ≡ true
+-- Where the document was plain and the edited one is so, between one number of steps and another are no more than a walk from
+-- the place of the edit takes, and one for each record that it finds, of which there are no more than its budget.
+abbrev pub IsWithinPlaceOf : (was_plain : Bool) → Edit → DocumentStyles → FinMap nat_cmp Kept → LocalStops → Forest (Keyed Node) → (before now : ℕ) → Type 0
+IsWithinPlaceOf was_plain edit styles held local new before now =
+    was_plain ≡ true
+    → is_plain (author_sheet (edited_sheet edit styles.sheet) new) new ≡ true
     → (there : StandsBefore edit styles held local new) → now ≤ before + 2 * place_budget edit styles.sheet there.old new

@@ -27,19 +27,19 @@ use Rattle.surroundings.specs.declared.walked.Walked.{Walked}
 use Rattle.surroundings.specs.StyledEvaluators.{root_surroundings, styled_evaluator}
 use Rattle.kept_elements.specs.declared.kept.Kept.{Kept}
 use Rattle.kept_elements.specs.Evaluations.{document_kept}
-use Rattle.dirty_walk.specs.Plain.{is_plain}
+use Rattle.dirty_walk.specs.Plain.{is_unstarted}
 
 -- nothing is known of any element
 abbrev pub nothing_known : Known
 nothing_known = record { counters = λ id. None; characters = λ id. []; flat = λ id part. None }
 
 -- A document has become another by an edit that does not change styles everywhere, so the text of the sheet stays. The
--- first was plain, and this is kept of it.
+-- first asked for no start of a reversed counter, and this is kept of it.
 pub record IsLocalEdit (edit : Edit) (text : List ℕ) (held : FinMap nat_cmp Kept) (old new : Forest (Keyed Node)) : Type 0 where
   pub done : IsDone edit old new
   pub local : reach (looks_beside text old) old edit ≢ All
   pub kept : (key : ℕ) → get held key ≡ kept_at (document_kept (author_sheet text old) old) key
-  pub plain : is_plain (author_sheet text old) old ≡ true
+  pub unstarted : is_unstarted (author_sheet text old) old ≡ true
 
 -- the merge of an edit where what it reaches goes and comes, with the styles of both documents and all starts 0
 abbrev pub place_merge : Edit → List ℕ → (old new : Forest (Keyed Node)) → Merge StyledNode

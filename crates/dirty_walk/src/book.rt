@@ -1,6 +1,6 @@
 //! A document and its sheet, evaluated.
 
-ghost use Rattle.std.specs.Prelude.{◌≡◌, ◌≢◌, ◌≤◌, ◌+◌, ◌*◌, ◌⊎◌, true, false, Some, None, IfNone, IfSome, IsSome, unwrap_or, IfOk, OnErr};
+ghost use Rattle.std.specs.Prelude.{◌≡◌, ◌≢◌, ◌≤◌, ◌+◌, ◌*◌, ◌⊎◌, true, false, Some, None, IfNone, IfSome, IsSome, unwrap_or, IfOk, OnErr, option_copied};
 ghost use Rattle.std.specs.Str.{chars};
 ghost use Rattle.forest.specs.Keys.{without_keys};
 ghost use Rattle.node_arena.specs.Document.{HasElementRoot};
@@ -8,6 +8,8 @@ ghost use Rattle.node_arena.specs.Edits.{place_fault, edited, edited_sheet, IsEd
 ghost use Rattle.node_arena.specs.Nodes.{name_of};
 ghost use Rattle.node_arena.specs.Reversals.{IsSettled};
 ghost use Rattle.css_reader.specs.Features.{features};
+ghost use Rattle.generated_texts.specs.Documents.{counter_styles};
+ghost use Rattle.generated_texts.specs.References.{first_holder};
 ghost use Rattle.generated_texts.specs.StyleElements.{author_sheet};
 ghost use Rattle.document_walk.specs.Elements.{element_count};
 ghost use Rattle.style_reach.specs.Reaches.{reach};
@@ -17,7 +19,9 @@ ghost use Rattle.styled_merge.specs.ReachStops.{reach_stops};
 ghost use Rattle.dirty_walk.specs.Books.{entry_at, fresh_entry, Keeps};
 ghost use Rattle.dirty_walk.specs.DocumentStyles.{document_styles};
 ghost use Rattle.dirty_walk.specs.Exchanges.{elements_in, leaving, taken_keys};
-ghost use Rattle.dirty_walk.specs.Plain.{is_plain};
+ghost use Rattle.dirty_walk.specs.FormerTargets.{AreFormerTargetsOf};
+ghost use Rattle.dirty_walk.specs.FreshPieces.{fresh_pieces};
+ghost use Rattle.dirty_walk.specs.Plain.{is_plain, is_unstarted};
 ghost use Rattle.dirty_walk.specs.Plans.{settled_after, IsPlannedBy, plan_size};
 ghost use Rattle.dirty_walk.specs.WorkBounds.{IsWithinWork, StopsWithinWork, keyed_source};
 
@@ -25,23 +29,32 @@ use crate::board::{put_changes, take_entries};
 use crate::document_styles::DocumentStyles;
 use crate::edited_arena::EditedArena;
 use crate::exchange::{ElementId, inserts_one_tree, leaving_elements, taken_keys};
+use crate::former_targets::former_targets;
 use crate::fresh::{Fresh, agent_sheet, fresh_board};
+use crate::kept_pieces::kept_pieces;
 use crate::local_stops::LocalStops;
 use crate::places::stops_at_place;
 use crate::plan::Plan;
 use crate::planning::{Renewal, evaluated};
+use crate::read_ahead::ReadAhead;
+use crate::referring::is_unstarted;
 use crate::style_elements::style_texts;
+use content_eval::generated::Piece;
 use generated_texts::entry::NodeEntry;
 use kept_elements::kept::Kept;
 use node_arena::arena::Arena;
 use node_arena::laws::arena_holds_document;
 use node_arena::reversal::Reversal;
+use plain_types::box_kind::BoxKind;
 use plain_types::edit::Edit;
 use plain_types::list::List;
 use plain_types::memory::Memory;
 use plain_types::sheet::{Features, Sheet};
+use plain_types::table::Table;
 use plain_types::text::Text;
 use plain_types::tree::Tree;
+use referring_elements::former::FormerTarget;
+use referring_elements::holders::first_holder;
 use snapshot_board::board::Board;
 use std::alloc::Global;
 use std::marker::Model;
@@ -66,6 +79,8 @@ pub struct Book {
     /// Whether no element of the document rests on more than what it is handed: no box asks for the start of a reversed
     /// counter, and none holds a reference to an id.
     is_plain: bool,
+    /// An element that refers to an id, where no box asks for the start of a reversed counter.
+    referring: Option<usize>,
     /// The way back from an edit that is planned.
     planned: Option<Reversal>,
 }
@@ -82,7 +97,7 @@ impl Model for Book {
 
     ghost view = { λ book. record { tree = book.arena.tree; sheet = book.styles.sheet; settled = is_none book.planned; kept = book.board.held } };
 
-    ghost invariant = { λ book. IsBook book.arena book.agent book.styles book.board book.index book.is_plain book.planned (record { tree = book.arena.tree; sheet = book.styles.sheet; settled = is_none book.planned; kept = book.board.held }) };
+    ghost invariant = { λ book. IsBook book.arena book.agent book.styles book.board book.index book.is_plain book.referring book.planned (record { tree = book.arena.tree; sheet = book.styles.sheet; settled = is_none book.planned; kept = book.board.held }) };
 }
 
 /// The styles of a document under the sheet of this text, read.
@@ -119,6 +134,8 @@ struct Ahead {
     takes: List<usize>,
     /// Where a walk for the edit goes, where a walk can tell what the edit changes.
     stops: Option<LocalStops>,
+    /// What the ids name that the edit can give another target.
+    former: List<FormerTarget>,
 }
 
 impl Book {
@@ -148,6 +165,7 @@ impl Book {
             kept: board,
             index,
             is_plain,
+            referring,
         } = fresh_board(alloc, &arena, &agent, &styles, steps)?;
         Ok(Book {
             arena,
@@ -156,6 +174,7 @@ impl Book {
             board,
             index,
             is_plain,
+            referring,
             planned: None,
         })
     }
@@ -166,7 +185,8 @@ impl Book {
         requires allowed { place_fault edit.now (without_keys self.now.tree) ≡ None }
         ensures gone { IfOk result (λ ahead. ahead.gone ≡ elements_in (leaving edit.now self.now.tree)) }
         ensures takes { IfOk result (λ ahead. ahead.takes ≡ taken_keys edit.now (elements_in (leaving edit.now self.now.tree))) }
-        ensures plain { IfOk result (λ ahead. IfSome ahead.stops (λ _. is_plain (author_sheet self.now.sheet self.now.tree) self.now.tree ≡ true)) }
+        ensures former { IfOk result (λ ahead. AreFormerTargetsOf edit.now self.now.tree ahead.former) }
+        ensures unstarted { IfOk result (λ ahead. IfSome ahead.stops (λ _. is_unstarted (author_sheet self.now.sheet self.now.tree) self.now.tree ≡ true)) }
         ensures extent { IfOk result (λ ahead. IfSome ahead.stops (λ local. local.extent ≡ reach (looks_beside self.now.sheet self.now.tree) self.now.tree edit.now)) }
         ensures local { IfOk result (λ ahead. IfSome ahead.stops (λ local. local.extent ≢ reaches.All)) }
         ensures stops { IfOk result (λ ahead. IfSome ahead.stops (λ local. local.stops.items ≡ reach_stops local.extent edit.now 0 self.now.tree)) }
@@ -179,19 +199,27 @@ impl Book {
             &self.arena,
             &self.agent,
             &self.styles.author,
-            self.is_plain,
+            is_unstarted(self.is_plain, self.referring),
             edit,
         )?;
-        Ok(Ahead { gone, takes, stops })
+        let former = former_targets(alloc, &self.arena, &self.index, edit, gone.as_slice())?;
+        Ok(Ahead {
+            gone,
+            takes,
+            stops,
+            former,
+        })
     }
 
     /// Makes ready for an edit that the document allows. The document and its styles are then the edited ones, and all
     /// memory is taken that `commit` needs; `Memory` where that is wanting, and then the book is as before.
     ///
-    /// Where the document is plain before the edit and after it, only what the edit touches is evaluated, and the elements
-    /// whose styles it can change. Else, and where it can change all styles, the edited document is evaluated whole, which
-    /// costs what `begin` costs, and may come on top of a walk that found it to be plain no more; where the texts of the
-    /// sheet and of the style elements are as before, none is read. Beside that come the arena's `prepare` and `commit`.
+    /// Where no box of the document asks for the start of a reversed counter, before the edit and after it, only what the
+    /// edit touches is evaluated, and the elements whose styles it can change; and the texts are made again of the elements that
+    /// refer to any of these, or to an id that names another element now, and of those that refer to such ones. Else, and where
+    /// it can change all styles, the edited document is evaluated whole, which costs what `begin` costs, and may come on top of a
+    /// walk that did not tell all; where the texts of the sheet and of the style elements are as before, none is read. Beside
+    /// that come the arena's `prepare` and `commit`.
     /// What is as before stays where it is, and with it what it has in memory. With those of `commit` its steps are bounded
     /// by the work of the edit, where the document is plain before and after it, and where the edit can change all styles;
     /// so are its own where it answers `Memory`.
@@ -215,7 +243,12 @@ impl Book {
     {
         arena_holds_document(&self.arena);
         inserts_one_tree(edit);
-        let Ahead { gone, takes, stops } = self.ahead(alloc, edit)?;
+        let Ahead {
+            gone,
+            takes,
+            stops,
+            former,
+        } = self.ahead(alloc, edit)?;
         let prepared = self.arena.prepare(alloc, edit)?;
         let reversal = self.arena.commit(prepared);
         arena_holds_document(&self.arena);
@@ -225,20 +258,28 @@ impl Book {
             styles: &self.styles,
             edit,
         };
+        let ahead = ReadAhead {
+            takes: takes.as_slice(),
+            former: former.as_slice(),
+            is_plain: self.is_plain,
+            referring: self.referring,
+        };
         let gone = gone.as_slice();
         let index = &mut self.index;
         let board = &mut self.board;
-        match evaluated(alloc, &document, index, board, gone, stops, steps) {
+        match evaluated(alloc, &document, &ahead, index, board, gone, stops, steps) {
             Ok(made) => {
                 let Renewal {
                     styles,
                     index,
                     changes,
                     is_plain,
+                    referring,
                 } = made;
                 replace_styles(&mut self.styles, styles);
                 replace_index(&mut self.index, index);
                 self.is_plain = is_plain;
+                self.referring = referring;
                 self.planned = Some(reversal);
                 Ok(Plan {
                     puts: changes,
@@ -315,5 +356,41 @@ impl Book {
         // The document has distinct keys, and then something is kept of exactly its elements.
         arena_holds_document(&self.arena);
         &self.board.get(key, steps).unwrap().entry
+    }
+
+    /// The counter styles under the document's sheet. It takes no memory and constant time.
+    pub fn table(&self) -> &Table
+        requires settled { self.now.settled ≡ true }
+        ensures table { result.now ≡ counter_styles (author_sheet self.now.sheet self.now.tree) }
+    {
+        &self.styles.table
+    }
+
+    /// The first element in tree order that has this id, which is compared as written. It takes no memory, and time in the
+    /// number of elements that have it, for each of them linear in how deep they are.
+    pub fn first(&self, id: &str) -> Option<usize>
+        requires settled { self.now.settled ≡ true }
+        ensures first { result ≡ first_holder self.now.tree (chars id.now) }
+        ensures element { IfSome result (λ key. IsSome (name_of self.now.tree key)) }
+    {
+        arena_holds_document(&self.arena);
+        first_holder(&self.index, &self.arena, id)
+    }
+
+    /// The pieces of this box of the element of this key, where one of them has a url, whatever the url names. None where
+    /// there is no such box, and where its pieces are characters alone, which then are the texts in the element's entry. It
+    /// takes no memory, time linear in the pieces, and one step at most.
+    pub fn pieces<L: Ledger>(
+        &self,
+        key: usize,
+        kind: BoxKind,
+        steps: &mut Steps<L>,
+    ) -> Option<&[Piece]>
+        requires settled { self.now.settled ≡ true }
+        ensures pieces { option_copied result ≡ fresh_pieces self.now key kind }
+        ensures steps { steps.new ≤ steps.old + 1 }
+    {
+        arena_holds_document(&self.arena);
+        kept_pieces(self.board.get(key, steps), kind)
     }
 }

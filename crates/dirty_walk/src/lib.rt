@@ -3,26 +3,30 @@
 //! A [`book::Book`] is made from a tree and the text of a style sheet, and tells the [`NodeEntry`] of each element: its
 //! counters, its depths, and the texts of its boxes. What that is is said by `generated_texts`. With its entry what an
 //! element was handed is kept, and what was handed on behind its children, and the pieces of its boxes where one of them
-//! refers to an id ([`Kept`]). It lies on a board of `snapshot_board`, under the key of the element: each element has
+//! has a url ([`Kept`]). It lies on a board of `snapshot_board`, under the key of the element: each element has
 //! it, and a text has not.
 //!
 //! The author's sheet is that of the text, and behind it those of the document's style elements. A book keeps it read:
 //! an edit that leaves these texts as they are reads none, one that changes some reads all of them anew, and the user
 //! agent's sheet is read when the book begins. It keeps the index of the document's ids too, of which an edit changes
-//! those of the elements that come and go, and of the references to them. Where a document is evaluated whole its index is
-//! made anew.
+//! those of the elements that come and go, and the references of those that are evaluated. Where a document is evaluated
+//! whole its index is made anew.
 //!
 //! An edit is planned and then committed. `plan` evaluates the edited document, and compares what is to be kept of each
 //! element with what the board keeps; the [`plan::Plan`] has what is new, and the keys of the elements that are gone. It
 //! does all that can want memory, and leaves the board as it is. `commit` takes and puts, and cannot fail; between the
 //! two the book isn't settled, and can't be asked. What is as before stays, with its texts and counters.
 //!
-//! Where a document is plain, which is that no box asks for the start of a reversed counter and none holds a reference
-//! to an id, what is kept of an element rests on its styles and on what it is handed. Then `plan` walks from the place of
-//! the edit (`document_walk::catch_up`), and evaluates only what the edit touches and the nodes that it reaches, with all
-//! that is in them: in these alone it can change other styles (`style_reach`). Where it reaches everywhere, or where the
-//! edited document turns out not to be plain, it evaluates the whole document: by one walk, and by a second one with the
-//! starts, where a box asks for one.
+//! Where no box of a document asks for the start of a reversed counter, what is told of an element rests on its styles and
+//! on what it is handed. Then `plan` walks from the place of the edit (`document_walk::catch_up`), and evaluates only what the
+//! edit touches and the nodes that it reaches, with all that is in them: in these alone it can change other styles
+//! (`style_reach`). The texts of an element that refers to ids rest on their targets too. They are made again where it refers
+//! to one that was evaluated or is another than before, or to one that refers so (`kept_elements::renewed_texts`). Where an
+//! edit reaches everywhere, or where a box of the edited document turns out to ask for a start, `plan` evaluates the whole
+//! document: by one walk, and by a second one with the starts, where a box asks for one. It does so too where elements refer to
+//! ids and more than three times as many elements go as the walk evaluates, and where the one element that is known to refer to
+//! an id does so no longer and the walk has told of no other. A document is plain where no box asks for a start and none
+//! holds a reference to an id.
 //!
 //! Steps are counted. A whole evaluation takes at most 6 for each element, a walk from a place at most 4, and it is one
 //! for each record that is read, put or taken. Where an edit of a plain document leaves it plain, or where it can change
@@ -32,7 +36,9 @@
 //! stands for, what a fresh evaluation keeps of an element, and that the book keeps it; and by `settled_after`,
 //! `IsPlannedBy` and `plan_size` of `specs/Plans.antt`: what a planned edit makes of a book, which plans are a book's,
 //! and how much comes and goes. `specs/WorkBounds.antt` says of which edits the work bounds the steps, and
-//! `specs/Places.antt` where a walk from a place stands.
+//! `specs/Places.antt` where a walk from a place stands. What a volume of several documents needs of each, beside entries, a
+//! settled book tells too: its counter styles, the first element of an id, and by `fresh_pieces` of
+//! `specs/FreshPieces.antt` the pieces of a box where one of them has a url.
 //!
 //! ```text
 //! let mut book = Book::begin(alloc, &tree, "h1 { counter-increment: section }", steps)?;
@@ -54,13 +60,16 @@ mod exchange;
 mod former_targets;
 mod fresh;
 mod index;
+mod kept_pieces;
 mod local_stops;
 mod named_elements;
 mod places;
 mod plain;
 pub mod plan;
 mod planning;
+mod read_ahead;
 mod reference_exchange;
+mod referring;
 mod style_elements;
 mod styled_arena;
 mod targets;

@@ -9,10 +9,13 @@ ghost use Rattle.document_walk.specs.Elements.{element_count};
 ghost use Rattle.target_index.specs.Holders.{is_holder, is_reference};
 ghost use Rattle.kept_elements.specs.Changes.{AreBelow, Renews};
 ghost use Rattle.dirty_walk.specs.DocumentStyles.{document_styles, read_styles};
-ghost use Rattle.dirty_walk.specs.EditedArenas.{evaluated_after, is_plain_after, kept_after, styles_after};
+ghost use Rattle.dirty_walk.specs.EditedArenas.{author_after, evaluated_after, is_plain_after, kept_after, styles_after};
 ghost use Rattle.dirty_walk.specs.Exchanges.{IsIndexBefore};
 ghost use Rattle.referring_elements.specs.Indexes.{IsIndexOf, TellsReferences};
-ghost use Rattle.dirty_walk.specs.PlaceStyles.{IsWithinPlaceOf, StandsBefore};
+ghost use Rattle.dirty_walk.specs.PlaceStyles.{IsWithinPlaceOf};
+ghost use Rattle.dirty_walk.specs.ReadAhead.{StandsRead};
+ghost use Rattle.dirty_walk.specs.ReferenceExchanges.{HoldersStayReserved};
+ghost use Rattle.dirty_walk.specs.Referring.{IsReferringIn};
 
 use crate::document_styles::DocumentStyles;
 use crate::edited_arena::EditedArena;
@@ -20,6 +23,7 @@ use crate::exchange::{ElementId, exchange_ids};
 use crate::fresh::{Fresh, fresh_changes};
 use crate::local_stops::LocalStops;
 use crate::places::changes_from_place;
+use crate::read_ahead::ReadAhead;
 use crate::style_elements::style_texts;
 use crate::styled_arena::StyledArena;
 use kept_elements::kept::Kept;
@@ -72,30 +76,41 @@ pub(crate) struct Renewal {
     pub(crate) changes: Vec<(usize, Kept)>,
     /// Whether no element rests on more than what it is handed.
     pub(crate) is_plain: bool,
+    /// An element that refers to an id, where no box asks for the start of a reversed counter.
+    pub(crate) referring: Option<usize>,
 }
 
 /// What an edit makes of a book by a walk from the stops of the edit, where the key of what it put in is known now: none
-/// where there are no such stops, or an element rests on more than what it is handed. What the sheets say stays.
+/// where there are no such stops, or the walk does not tell it. What the sheets say stays.
 fn from_place<L: Ledger>(
     alloc: Global,
     document: &EditedArena,
+    ahead: &ReadAhead,
+    index: &mut Index,
     board: &mut Board<Kept>,
     stops: Option<LocalStops>,
     steps: &mut Steps<L>,
 ) -> Result<Option<Renewal>, Memory>
-    requires place { IfSome stops (λ local. StandsBefore document.now.edit.now document.now.styles.now board.old.held local document.now.arena.now.tree) }
+    requires place { IfSome stops (λ local. StandsRead document.now.edit.now document.now.styles.now board.old.held local document.now.arena.now.tree ahead.now index.old) }
+    requires indexed { IsIndexOf index.old document.now.arena.now.tree }
     ensures styles { IfOk result (λ found. IfSome found (λ made. unwrap_or made.styles document.now.styles.now ≡ styles_after document.now)) }
     ensures changes { IfOk result (λ found. IfSome found (λ made. Renews board.old.held (kept_after document.now) made.changes.items)) }
     ensures plain { IfOk result (λ found. IfSome found (λ made. made.is_plain ≡ is_plain_after document.now)) }
+    ensures referring { IfOk result (λ found. IfSome found (λ made. IfSome made.referring (IsReferringIn (author_after document.now) document.now.arena.now.tree))) }
     ensures index { IfOk result (λ found. IfSome found (λ made. made.index ≡ None)) }
-    ensures walked { IfOk result (λ found. IfSome found (λ made. (is_some stops ≡ true) × (is_plain_after document.now ≡ true))) }
-    ensures none { IfOk result (λ found. IfNone found (IfSome stops (λ _. is_plain_after document.now ≡ false))) }
+    ensures refers { IfOk result (λ found. IfSome found (λ _. TellsReferences index.new (evaluated_after document.now))) }
+    ensures unmoved { IfOk result (λ found. IfNone found ((id : List ℕ) (key : ℕ) → is_reference index.new id key ≡ is_reference index.old id key)) }
+    ensures err { OnErr result ((id : List ℕ) (key : ℕ) → is_reference index.new id key ≡ is_reference index.old id key) }
+    ensures holders { (id : List ℕ) (key : ℕ) → is_holder index.new id key ≡ is_holder index.old id key }
+    ensures stay { HoldersStayReserved index.old index.new }
+    ensures none { IfOk result (λ found. IfNone found (IfSome stops (λ _. ahead.now.is_plain ≡ true → is_plain_after document.now ≡ false))) }
     ensures room { IfOk result (λ found. IfSome found (λ made. AreBelow board.new.room made.changes.items)) }
     ensures held { board.new.held ≡ board.old.held }
     ensures grown { board.old.room ≤ board.new.room }
-    ensures few { IfOk result (λ found. IfSome found (λ made. IfSome stops (λ local. IsWithinPlaceOf document.now.edit.now document.now.styles.now board.old.held local document.now.arena.now.tree steps.old (steps.new + length made.changes.items)))) }
-    ensures most { IfSome stops (λ local. IsWithinPlaceOf document.now.edit.now document.now.styles.now board.old.held local document.now.arena.now.tree steps.old steps.new) }
-    ensures steps { steps.new ≤ steps.old + 5 * element_count (without_keys document.now.arena.now.tree) }
+    ensures few { IfOk result (λ found. IfSome found (λ made. IfSome stops (λ local. IsWithinPlaceOf ahead.now.is_plain document.now.edit.now document.now.styles.now board.old.held local document.now.arena.now.tree steps.old (steps.new + length made.changes.items)))) }
+    ensures most { IfSome stops (λ local. IsWithinPlaceOf ahead.now.is_plain document.now.edit.now document.now.styles.now board.old.held local document.now.arena.now.tree steps.old steps.new) }
+    ensures walk { IfOk result (λ found. IfNone found (steps.new ≤ steps.old + 5 * element_count (without_keys document.now.arena.now.tree))) }
+    ensures steps { steps.new ≤ steps.old + 12 * element_count (without_keys document.now.arena.now.tree) }
 {
     let Some(LocalStops { extent, mut stops }) = stops else {
         return Ok(None);
@@ -106,12 +121,13 @@ fn from_place<L: Ledger>(
         agent: document.agent,
         styles: document.styles,
     };
-    match changes_from_place(alloc, &styled, board, stops, steps)? {
-        Some(changes) => Ok(Some(Renewal {
+    match changes_from_place(alloc, &styled, ahead, index, board, stops, steps)? {
+        Some(made) => Ok(Some(Renewal {
             styles: None,
             index: None,
-            changes,
-            is_plain: true,
+            changes: made.changes,
+            is_plain: made.is_plain,
+            referring: made.referring,
         })),
         None => Ok(None),
     }
@@ -127,6 +143,7 @@ fn from_whole<L: Ledger>(
     ensures styles { IfOk result (λ made. unwrap_or made.styles document.now.styles.now ≡ styles_after document.now) }
     ensures changes { IfOk result (λ made. Renews board.old.held (kept_after document.now) made.changes.items) }
     ensures plain { IfOk result (λ made. made.is_plain ≡ is_plain_after document.now) }
+    ensures referring { IfOk result (λ made. IfSome made.referring (IsReferringIn (author_after document.now) document.now.arena.now.tree)) }
     ensures index { IfOk result (λ made. IfSome made.index (λ index. IsIndexOf index document.now.arena.now.tree × TellsReferences index (evaluated_after document.now))) }
     ensures some { IfOk result (λ made. is_some made.index ≡ true) }
     ensures room { IfOk result (λ made. AreBelow board.new.room made.changes.items) }
@@ -144,12 +161,14 @@ fn from_whole<L: Ledger>(
         kept,
         index,
         is_plain,
+        referring,
     } = fresh_changes(alloc, &styled, board, steps)?;
     Ok(Renewal {
         styles: new,
         index: Some(index),
         changes: kept,
         is_plain,
+        referring,
     })
 }
 
@@ -157,35 +176,42 @@ fn from_whole<L: Ledger>(
 fn renewed<L: Ledger>(
     alloc: Global,
     document: &EditedArena,
+    ahead: &ReadAhead,
+    index: &mut Index,
     board: &mut Board<Kept>,
     stops: Option<LocalStops>,
     steps: &mut Steps<L>,
 ) -> Result<Renewal, Memory>
-    requires place { IfSome stops (λ local. StandsBefore document.now.edit.now document.now.styles.now board.old.held local document.now.arena.now.tree) }
+    requires place { IfSome stops (λ local. StandsRead document.now.edit.now document.now.styles.now board.old.held local document.now.arena.now.tree ahead.now index.old) }
+    requires indexed { IsIndexOf index.old document.now.arena.now.tree }
     ensures styles { IfOk result (λ made. unwrap_or made.styles document.now.styles.now ≡ styles_after document.now) }
     ensures changes { IfOk result (λ made. Renews board.old.held (kept_after document.now) made.changes.items) }
     ensures plain { IfOk result (λ made. made.is_plain ≡ is_plain_after document.now) }
+    ensures referring { IfOk result (λ made. IfSome made.referring (IsReferringIn (author_after document.now) document.now.arena.now.tree)) }
     ensures index { IfOk result (λ made. IfSome made.index (λ index. IsIndexOf index document.now.arena.now.tree × TellsReferences index (evaluated_after document.now))) }
-    ensures walked { IfOk result (λ made. IfNone made.index ((is_some stops ≡ true) × (is_plain_after document.now ≡ true))) }
+    ensures refers { IfOk result (λ made. IfNone made.index (TellsReferences index.new (evaluated_after document.now))) }
+    ensures err { OnErr result ((id : List ℕ) (key : ℕ) → is_reference index.new id key ≡ is_reference index.old id key) }
+    ensures holders { (id : List ℕ) (key : ℕ) → is_holder index.new id key ≡ is_holder index.old id key }
+    ensures stay { HoldersStayReserved index.old index.new }
     ensures room { IfOk result (λ made. AreBelow board.new.room made.changes.items) }
     ensures held { board.new.held ≡ board.old.held }
     ensures grown { board.old.room ≤ board.new.room }
-    ensures few { IfOk result (λ made. IfSome stops (λ local. IsWithinPlaceOf document.now.edit.now document.now.styles.now board.old.held local document.now.arena.now.tree steps.old (steps.new + length made.changes.items))) }
-    ensures most { IfSome stops (λ local. IsWithinPlaceOf document.now.edit.now document.now.styles.now board.old.held local document.now.arena.now.tree steps.old steps.new) }
+    ensures few { IfOk result (λ made. IfSome stops (λ local. IsWithinPlaceOf ahead.now.is_plain document.now.edit.now document.now.styles.now board.old.held local document.now.arena.now.tree steps.old (steps.new + length made.changes.items))) }
+    ensures most { IfSome stops (λ local. IsWithinPlaceOf ahead.now.is_plain document.now.edit.now document.now.styles.now board.old.held local document.now.arena.now.tree steps.old steps.new) }
     ensures steps { steps.new ≤ steps.old + 12 * element_count (without_keys document.now.arena.now.tree) }
 {
-    match from_place(alloc, document, board, stops, steps)? {
+    match from_place(alloc, document, ahead, index, board, stops, steps)? {
         Some(made) => Ok(made),
         None => from_whole(alloc, document, board, steps),
     }
 }
 
 /// What an edit makes of a book where the elements of its document that go are these. The index has the holders of the edited
-/// document then, and what refers to them as before; where memory is wanting it stays as it was. Of a plain document no
-/// element refers to an id.
+/// document then, and its references; where memory is wanting it stays as it was.
 pub(crate) fn evaluated<L: Ledger>(
     alloc: Global,
     document: &EditedArena,
+    ahead: &ReadAhead,
     index: &mut Index,
     board: &mut Board<Kept>,
     gone: &[ElementId],
@@ -193,24 +219,24 @@ pub(crate) fn evaluated<L: Ledger>(
     steps: &mut Steps<L>,
 ) -> Result<Renewal, Memory>
     requires before { IsIndexBefore document.now.edit.now gone.now index.old document.now.arena.now.tree }
-    requires none { IfSome stops (λ _. (id : List ℕ) (key : ℕ) → is_reference index.old id key ≡ false) }
-    requires place { IfSome stops (λ local. StandsBefore document.now.edit.now document.now.styles.now board.old.held local document.now.arena.now.tree) }
+    requires place { IfSome stops (λ local. StandsRead document.now.edit.now document.now.styles.now board.old.held local document.now.arena.now.tree ahead.now index.old) }
     ensures styles { IfOk result (λ made. unwrap_or made.styles document.now.styles.now ≡ styles_after document.now) }
     ensures changes { IfOk result (λ made. Renews board.old.held (kept_after document.now) made.changes.items) }
     ensures plain { IfOk result (λ made. made.is_plain ≡ is_plain_after document.now) }
+    ensures referring { IfOk result (λ made. IfSome made.referring (IsReferringIn (author_after document.now) document.now.arena.now.tree)) }
     ensures indexed { IfOk result (λ made. IsIndexOf (unwrap_or made.index index.new) document.now.arena.now.tree) }
     ensures refers { IfOk result (λ made. TellsReferences (unwrap_or made.index index.new) (evaluated_after document.now)) }
     ensures err { OnErr result ((id : List ℕ) (key : ℕ) → is_holder index.new id key ≡ is_holder index.old id key) }
-    ensures references { (id : List ℕ) (key : ℕ) → is_reference index.new id key ≡ is_reference index.old id key }
+    ensures references { OnErr result ((id : List ℕ) (key : ℕ) → is_reference index.new id key ≡ is_reference index.old id key) }
     ensures room { IfOk result (λ made. AreBelow board.new.room made.changes.items) }
     ensures held { board.new.held ≡ board.old.held }
     ensures grown { board.old.room ≤ board.new.room }
-    ensures few { IfOk result (λ made. IfSome stops (λ local. IsWithinPlaceOf document.now.edit.now document.now.styles.now board.old.held local document.now.arena.now.tree steps.old (steps.new + length made.changes.items))) }
-    ensures most { IfSome stops (λ local. IsWithinPlaceOf document.now.edit.now document.now.styles.now board.old.held local document.now.arena.now.tree steps.old steps.new) }
+    ensures few { IfOk result (λ made. IfSome stops (λ local. IsWithinPlaceOf ahead.now.is_plain document.now.edit.now document.now.styles.now board.old.held local document.now.arena.now.tree steps.old (steps.new + length made.changes.items))) }
+    ensures most { IfSome stops (λ local. IsWithinPlaceOf ahead.now.is_plain document.now.edit.now document.now.styles.now board.old.held local document.now.arena.now.tree steps.old steps.new) }
     ensures steps { steps.new ≤ steps.old + 12 * element_count (without_keys document.now.arena.now.tree) }
 {
     let back = exchange_ids(alloc, index, document.arena, document.edit, gone)?;
-    match renewed(alloc, document, board, stops, steps) {
+    match renewed(alloc, document, ahead, index, board, stops, steps) {
         Ok(made) => Ok(made),
         Err(memory) => {
             index.commit(back);

@@ -24,8 +24,7 @@ use Rattle.content_eval.specs.TargetLaws.{AgreeBelow, AgreeOn, OfEachReference}
 use Rattle.content_eval.proofs.ReferenceLemmas.{flat_depends, full_depends}
 use Rattle.box_eval.specs.declared.element_record.ElementRecord.{ElementRecord}
 use Rattle.box_eval.specs.declared.made.Made.{Made}
-use Rattle.box_pieces.specs.BoxPieces.{pieces_of, referring_pieces}
-use Rattle.box_pieces.specs.BoxPieces.{refers as has_references}
+use Rattle.box_pieces.specs.BoxPieces.{has_urls, pieces_of, pieces_with_urls}
 use Rattle.generated_texts.specs.declared.entry.BoxText.{BoxText}
 use Rattle.generated_texts.specs.declared.entry.NodeEntry.{NodeEntry}
 use Rattle.generated_texts.specs.Entries.{box_text, node_entry}
@@ -51,7 +50,7 @@ use Rattle.kept_elements.proofs.AgainLemmas.{Tells, again_tells, all-again, kept
 use Rattle.kept_elements.proofs.ChangeLemmas.{HasKeysOnce, some-kept, some_of}
 use Rattle.kept_elements.proofs.HolderNames.{holder_named}
 use Rattle.kept_elements.proofs.KnownLemmas.{kept_mapped}
-use Rattle.kept_elements.proofs.NoReferences.{of_element}
+use Rattle.kept_elements.proofs.NoReferences.{without_urls}
 use Rattle.kept_elements.proofs.RenewalLemmas.{at_first, kept_there, key_there, once_there, renews}
 
 -- What holds of each reference of an element.
@@ -258,18 +257,18 @@ module _ (table : List CounterStyle) (merge : Merge Node) (old new : Forest (Key
   holding : (key : ℕ) (t : Told) → kept_at was key ≡ Some t → get held key ≡ Some (kept_of table known_before t)
   holding key t e = r.walk.held_are key ∙ ap (option_map (kept_of table known_before)) e
 
-  own_told : (key : ℕ) (t : Told) → kept_at was key ≡ Some t → has_references t.said ≡ true → own held key ≡ Some (told_again (kept_of table known_before t) (pieces_of t.said))
+  own_told : (key : ℕ) (t : Told) → kept_at was key ≡ Some t → has_urls t.said ≡ true → own held key ≡ Some (told_again (kept_of table known_before t) (pieces_of t.said))
   own_told key t e does =
       ap (λ (o : Option Kept). option_and_then (λ (kept : Kept). option_map (told_again kept) kept.pieces) o) (holding key t e)
       ∙ ap (λ (b : Bool). option_map (told_again (kept_of table known_before t)) (if b then Some (pieces_of t.said) else None)) does
 
-  own_none : (key : ℕ) (t : Told) → kept_at was key ≡ Some t → has_references t.said ≡ false → own held key ≡ None
+  own_none : (key : ℕ) (t : Told) → kept_at was key ≡ Some t → has_urls t.said ≡ false → own held key ≡ None
   own_none key t e lacks =
       ap (λ (o : Option Kept). option_and_then (λ (kept : Kept). option_map (told_again kept) kept.pieces) o) (holding key t e)
       ∙ ap (λ (b : Bool). option_map (told_again (kept_of table known_before t)) (if b then Some (pieces_of t.said) else None)) lacks
 
   own_tells : (key : ℕ) (t a : Told) → kept_at was key ≡ Some t → own held key ≡ Some a → Tells table a t
-  own_tells key t a e its = elim (cases_Bool (has_references t.said)) [
+  own_tells key t a e its = elim (cases_Bool (has_urls t.said)) [
     | inl does ↦ subst (λ (one : Told). Tells table one t) (same_Some _ a (sym (own_told key t e does) ∙ its)) (again_tells table known_before t)
     | inr lacks ↦ absurd (none-some a (sym (own_none key t e lacks) ∙ its))
   ]
@@ -292,10 +291,10 @@ module _ (table : List CounterStyle) (merge : Merge Node) (old new : Forest (Key
       by None e = absurd (true≢false (sym does ∙ at_after p key None e))
       by (Some t) e = (t, e, sym (at_after p key (Some t) e) ∙ does)
 
-  with_references : (p : List ℕ → Bool) (said : ElementRecord) → list_any p (references_of said) ≡ true → has_references said ≡ true
-  with_references p said does = elim (cases_Bool (has_references said)) [
+  with_references : (p : List ℕ → Bool) (said : ElementRecord) → list_any p (references_of said) ≡ true → has_urls said ≡ true
+  with_references p said does = elim (cases_Bool (has_urls said)) [
     | inl has ↦ has
-    | inr lacks ↦ absurd (true≢false (sym does ∙ ap (list_any p) (of_element said lacks)))
+    | inr lacks ↦ absurd (true≢false (sym does ∙ ap (list_any p) (without_urls said lacks)))
   ]
 
   -- What is told of elements, and told again.
@@ -518,7 +517,7 @@ module _ (table : List CounterStyle) (merge : Merge Node) (old new : Forest (Key
     kept_same key t a there e =
         let tells = all_tells key t there a e in
         tells.kept again_known
-        ∙ ap (λ (entry : NodeEntry). record { entry = entry; walked = t.walked; pieces = referring_pieces t.said })
+        ∙ ap (λ (entry : NodeEntry). record { entry = entry; walked = t.walked; pieces = pieces_with_urls t.said })
         (entry_depends table again_known known_after t.said (weaker Reached (AgreeOn again_known known_after) agree_on (references_of t.said) (reached key a t e tells)))
 
     -- what is kept of an element that is not told again is as before
@@ -537,7 +536,7 @@ module _ (table : List CounterStyle) (merge : Merge Node) (old new : Forest (Key
         ∙ same
         ∙ kept_mapped (node_entry table known_before) (said_of was) key ∙ ap (option_map (node_entry table known_before)) (kept_mapped said_in was key ∙ ap (option_map said_in) before_it)) in
         holding key t before_it
-        ∙ ap (λ (entry : NodeEntry). Some (record { entry = entry; walked = t.walked; pieces = referring_pieces t.said })) (sym entry)
+        ∙ ap (λ (entry : NodeEntry). Some (record { entry = entry; walked = t.walked; pieces = pieces_with_urls t.said })) (sym entry)
 
     module _ (keys : List ℕ) (keys_are : (key : ℕ) → is_among keys key ≡ is_told all key) (once : IsDistinct nat_eq keys) (changes : List (ℕ × Kept))
         (are : AreChanges held (renewed_kept table again_known (kept_at all) keys) changes) where

@@ -10,7 +10,7 @@ use Rattle.plain_types.specs.declared.style.Style.{Style}
 use Rattle.content_eval.specs.Targets.{Known}
 use Rattle.box_eval.specs.declared.element_record.ElementRecord.{ElementRecord}
 use Rattle.box_eval.specs.Starts.{started}
-use Rattle.box_pieces.specs.BoxPieces.{referring_pieces}
+use Rattle.box_pieces.specs.BoxPieces.{pieces_with_urls}
 use Rattle.generated_texts.specs.Documents.{counter_styles, document_style}
 use Rattle.generated_texts.specs.Entries.{node_entry}
 use Rattle.generated_texts.specs.References.{known_targets}
@@ -38,7 +38,7 @@ evaluated_document author document = record { tree = document; said = said_of (d
 module _ (table : List CounterStyle) (known : Known) where
   -- what is kept of an element of which this is told
   abbrev pub kept_of : Told → Kept
-  kept_of told = record { entry = node_entry table known told.said; walked = told.walked; pieces = referring_pieces told.said }
+  kept_of told = record { entry = node_entry table known told.said; walked = told.walked; pieces = pieces_with_urls told.said }
 
   abbrev pub all_kept_of : List (ℕ × Told) → List (ℕ × Kept)
   all_kept_of told = map (λ (element : ℕ × Told). (element.0, kept_of element.1)) told

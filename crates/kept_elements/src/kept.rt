@@ -12,7 +12,7 @@ use surroundings::walked::Walked;
 pub struct Kept {
     pub entry: NodeEntry,
     pub walked: Walked,
-    /// The pieces of its boxes, where one of them refers to an id.
+    /// The pieces of its boxes, where one of them has a url.
     pub pieces: Option<BoxPieces>,
 }
 

@@ -1,7 +1,7 @@
 //! What is kept of the elements of a document, and made again where the texts of other elements change.
 //!
 //! Of an element a board of `snapshot_board` keeps its entry, what a walk reads that does not come to it, and the pieces of its
-//! boxes where one of them refers to an id ([`kept::Kept`]). It is made from what the evaluation tells of the element
+//! boxes where one of them has a url ([`kept::Kept`]). It is made from what the evaluation tells of the element
 //! ([`node_texts`]); its texts can show what other elements have (CSS Generated Content 3, 2.6), and what is known of these is
 //! handed in (`content_eval`'s `Targets`).
 //!

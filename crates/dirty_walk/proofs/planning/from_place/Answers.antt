@@ -1,136 +1,157 @@
-use Rattle.std.proofs.Common.{◌≡◌, ◌∙◌, IfNone, IfSome, List, Option, Some, None, Global, true, false, ℕ, ap, refl, subst, sym}
-use Rattle.std.specs.Prelude.{Vec, is_some}
+use Rattle.std.proofs.Common.{◌≡◌, ◌∙◌, IfNone, IfSome, List, Option, Some, None, true, false, ℕ, ap, refl, subst, sym}
 use Rattle.std.specs.FinMap.{FinMap}
 use Rattle.std.specs.Ordering.{nat_cmp}
 use Rattle.forest.specs.Forest.{Forest}
 use Rattle.forest.specs.Keys.{Keyed}
 use Rattle.plain_types.specs.declared.edit.Edit.{Edit}
 use Rattle.plain_types.specs.declared.node.Node.{Node}
+use Rattle.node_arena.specs.Edits.{edited_sheet}
 use Rattle.generated_texts.specs.StyleElements.{author_sheet}
 use Rattle.merged_walk.specs.declared.stop.Stop.{Stop}
-use Rattle.dirty_walk.specs.declared.document_styles.DocumentStyles.{DocumentStyles}
+use Rattle.target_index.specs.declared.index.Index.{Index}
+use Rattle.target_index.specs.Holders.{is_reference}
+use Rattle.referring_elements.specs.Indexes.{TellsReferences}
 use Rattle.kept_elements.specs.declared.kept.Kept.{Kept}
-use Rattle.dirty_walk.specs.declared.local_stops.LocalStops.{LocalStops}
 use Rattle.kept_elements.specs.Changes.{Renews}
+use Rattle.kept_elements.specs.Evaluations.{document_kept, evaluated_document}
+use Rattle.dirty_walk.specs.declared.document_styles.DocumentStyles.{DocumentStyles}
+use Rattle.dirty_walk.specs.declared.edited_arena.EditedArena.{EditedArena}
+use Rattle.dirty_walk.specs.declared.local_stops.LocalStops.{LocalStops}
+use Rattle.dirty_walk.specs.declared.places.FromPlace.{FromPlace}
+use Rattle.dirty_walk.specs.declared.read_ahead.ReadAhead.{ReadAhead}
+use Rattle.dirty_walk.specs.DocumentStyles.{document_styles}
 use Rattle.dirty_walk.specs.EditedArenas.{is_plain_after}
-use Rattle.kept_elements.specs.Evaluations.{document_kept}
-use Rattle.dirty_walk.specs.PlaceStyles.{IsWithinPlaceOf, StandsBefore}
+use Rattle.dirty_walk.specs.PlaceStyles.{IsWithinPlaceOf}
 use Rattle.dirty_walk.specs.Places.{IsWithinPlace}
 use Rattle.dirty_walk.specs.Plain.{is_plain}
+use Rattle.dirty_walk.specs.ReadAhead.{IsSomePlaceRead, StandsRead}
+use Rattle.dirty_walk.specs.Referring.{IsReferringIn}
 use Rattle.dirty_walk.proofs.PlaceLemmas.{AreNamed, sheet_now, some_place, styles_after, styles_now}
 use Rattle.dirty_walk.proofs.planning.from_place.Goals as goal
 
--- what holds of stops that are there, and back
-there : (edit : Edit) (styles : DocumentStyles) (held : FinMap nat_cmp Kept) (new : Forest (Keyed Node)) (o : Option LocalStops) (local : LocalStops) → o ≡ Some local
-    → IfSome o (λ local. StandsBefore edit styles held local new) → StandsBefore edit styles held local new
-there edit styles held new o local is place = subst (λ (o : Option LocalStops). IfSome o (λ local. StandsBefore edit styles held local new)) is place
-
+-- what holds of stops that are there
 of_stops : (P : LocalStops → Type 0) (o : Option LocalStops) (local : LocalStops) → o ≡ Some local → P local → IfSome o P
 of_stops P o local is holds = subst (λ (o : Option LocalStops). IfSome o P) (sym is) holds
 
--- what holds of the changes that were found, or where none were
-of_found : (P : Vec (ℕ × Kept) Global → Type 0) (o : Option (Vec (ℕ × Kept) Global)) (changes : Vec (ℕ × Kept) Global) → o ≡ Some changes → IfSome o P → P changes
-of_found P o changes is holds = subst (λ (o : Option (Vec (ℕ × Kept) Global)). IfSome o P) is holds
+-- what holds of what was found, or where nothing was
+of_found : (P : FromPlace → Type 0) (o : Option FromPlace) (made : FromPlace) → o ≡ Some made → IfSome o P → P made
+of_found P o made is holds = subst (λ (o : Option FromPlace). IfSome o P) is holds
 
-of_none : (P : Type 0) (o : Option (Vec (ℕ × Kept) Global)) → o ≡ None → IfNone o P → P
-of_none P o is holds = subst (λ (o : Option (Vec (ℕ × Kept) Global)). IfNone o P) is holds
+of_none : (P : Type 0) (o : Option FromPlace) → o ≡ None → IfNone o P → P
+of_none P o is holds = subst (λ (o : Option FromPlace). IfNone o P) is holds
 
--- the steps of a walk from the place
-within : (edit : Edit) (styles : DocumentStyles) (held : FinMap nat_cmp Kept) (new : Forest (Keyed Node)) (o : Option LocalStops) (local : LocalStops) (named : List Stop) (before now : ℕ) → o ≡ Some local
-    → AreNamed edit local new named → IsWithinPlace styles.sheet held named new before now → IfSome o (λ local. IsWithinPlaceOf edit styles held local new before now)
-within edit styles held new o local named before now is names few =
-    of_stops (λ local. IsWithinPlaceOf edit styles held local new before now) o local is (λ plain there. few (some_place edit styles held local new there named names))
+module _ (document : EditedArena) (held : FinMap nat_cmp Kept) (ahead : ReadAhead) (index : Index) (o : Option LocalStops) (local : LocalStops) (is : o ≡ Some local)
+    (place : IfSome o (λ local. StandsRead document.edit.now document.styles.now held local document.arena.now.tree ahead index)) (named : List Stop)
+    (names : AreNamed document.edit.now local document.arena.now.tree named) where
+  abbrev edit : Edit
+  edit = document.edit.now
+
+  abbrev styles : DocumentStyles
+  styles = document.styles.now
+
+  abbrev tree : Forest (Keyed Node)
+  tree = document.arena.now.tree
+
+  read : StandsRead edit styles held local tree ahead index
+  read = subst (λ (o : Option LocalStops). IfSome o (λ local. StandsRead edit styles held local tree ahead index)) is place
+
+  styles_are : styles ≡ document_styles styles.sheet tree
+  styles_are = styles_now edit styles held local tree read.before named names
+
+  styles_stay : styles ≡ document_styles (edited_sheet edit styles.sheet) tree
+  styles_stay = styles_after edit styles held local tree read.before named names None refl
+
+  its_place : IsSomePlaceRead styles.sheet held named tree ahead index
+  its_place = record { place = some_place edit styles held local tree read.before named names; read = read.read }
+
+  -- the text of the sheet is that of the edited document
+  under_edited : (P : List ℕ → Type 0) → P styles.sheet → P (edited_sheet edit styles.sheet)
+  under_edited P holds = subst P (sym (sheet_now edit styles held local tree read.before named names)) holds
+
+  -- the steps of a walk from the place
+  within : (before now : ℕ) → (is_plain (author_sheet styles.sheet tree) tree ≡ true → IsWithinPlace styles.sheet held named tree before now)
+      → IfSome o (λ local. IsWithinPlaceOf ahead.is_plain edit styles held local tree before now)
+  within before now few =
+      of_stops (λ local. IsWithinPlaceOf ahead.is_plain edit styles held local tree before now) o local is
+      (λ was plain there.
+      few (ap (λ (text : List ℕ). is_plain (author_sheet text tree) tree) (sym (sheet_now edit styles held local tree there named names)) ∙ plain)
+      (some_place edit styles held local tree there named names))
 
 pub invariant_of-styled-clause-styles_are : goal.invariant_of-styled-clause-styles_are
 invariant_of-styled-clause-styles_are g c =
-    let document = c.args.document.now in
-    let local : LocalStops = c.in-Some.field-0 in
-    styles_now document.edit.now document.styles.now c.args.board.now.held local document.arena.now.tree
-    (there document.edit.now document.styles.now c.args.board.now.held document.arena.now.tree c.args.stops local c.in-Some.is c.requires.place)
-    c.name_inserted_root.new.stops.items c.name_inserted_root.ensures.stops
+    styles_are c.args.document.now c.args.board.now.held c.args.ahead.now c.args.index.now c.args.stops c.in-Some.field-0 c.in-Some.is c.requires.place c.name_inserted_root.new.stops.items c.name_inserted_root.ensures.stops
 
 pub changes_from_place-requires : goal.changes_from_place-requires
-changes_from_place-requires g c =
-    let document = c.args.document.now in
-    let local : LocalStops = c.in-Some.field-0 in
-    record {
-      place = some_place document.edit.now document.styles.now c.args.board.now.held local document.arena.now.tree
-          (there document.edit.now document.styles.now c.args.board.now.held document.arena.now.tree c.args.stops local c.in-Some.is c.requires.place)
-          c.name_inserted_root.new.stops.items c.name_inserted_root.ensures.stops;
-    }
+changes_from_place-requires g c = record {
+  place = its_place c.args.document.now c.args.board.now.held c.args.ahead.now c.args.index.now c.args.stops c.in-Some.field-0 c.in-Some.is c.requires.place c.name_inserted_root.new.stops.items c.name_inserted_root.ensures.stops;
+  indexed = c.requires.indexed;
+}
 
-pub returns-in_err-changes-clause-most : goal.returns-in_err-changes-clause-most
-returns-in_err-changes-clause-most g c =
-    let document = c.args.document.now in
-    within document.edit.now document.styles.now c.args.board.now.held document.arena.now.tree c.args.stops (c.in-Some.field-0) c.name_inserted_root.new.stops.items
-    c.args.steps.now c.changes_from_place.new.steps c.in-Some.is c.name_inserted_root.ensures.stops c.changes_from_place.ensures.most
+pub returns-in_err-made-clause-most : goal.returns-in_err-made-clause-most
+returns-in_err-made-clause-most g c =
+    within c.args.document.now c.args.board.now.held c.args.ahead.now c.args.index.now c.args.stops c.in-Some.field-0 c.in-Some.is c.requires.place c.name_inserted_root.new.stops.items c.name_inserted_root.ensures.stops
+    c.args.steps.now c.changes_from_place.new.steps c.changes_from_place.ensures.most
 
 pub returns-in-Some-2-clause-styles : goal.returns-in-Some-2-clause-styles
 returns-in-Some-2-clause-styles g c =
-    let document = c.args.document.now in
-    let local : LocalStops = c.in-Some.field-0 in
-    styles_after document.edit.now document.styles.now c.args.board.now.held local document.arena.now.tree
-    (there document.edit.now document.styles.now c.args.board.now.held document.arena.now.tree c.args.stops local c.in-Some.is c.requires.place)
-    c.name_inserted_root.new.stops.items c.name_inserted_root.ensures.stops None refl
+    styles_stay c.args.document.now c.args.board.now.held c.args.ahead.now c.args.index.now c.args.stops c.in-Some.field-0 c.in-Some.is c.requires.place c.name_inserted_root.new.stops.items c.name_inserted_root.ensures.stops
 
 pub returns-in-Some-2-clause-changes : goal.returns-in-Some-2-clause-changes
 returns-in-Some-2-clause-changes g c =
     let document = c.args.document.now in
     let tree = document.arena.now.tree in
-    let local : LocalStops = c.in-Some.field-0 in
-    let place = there document.edit.now document.styles.now c.args.board.now.held tree c.args.stops local c.in-Some.is c.requires.place in
-    subst (λ (text : List ℕ). Renews c.args.board.now.held (document_kept (author_sheet text tree) tree) c.in-Some-2.changes.items)
-    (sym (sheet_now document.edit.now document.styles.now c.args.board.now.held local tree place c.name_inserted_root.new.stops.items c.name_inserted_root.ensures.stops))
-    (of_found (λ changes. Renews c.args.board.now.held (document_kept (author_sheet document.styles.now.sheet tree) tree) changes.items) c.in_ok-changes.field-0 c.in-Some-2.changes c.in-Some-2.is c.in_ok-changes.ensures.changes)
+    under_edited document c.args.board.now.held c.args.ahead.now c.args.index.now c.args.stops c.in-Some.field-0 c.in-Some.is c.requires.place c.name_inserted_root.new.stops.items c.name_inserted_root.ensures.stops
+    (λ (text : List ℕ). Renews c.args.board.now.held (document_kept (author_sheet text tree) tree) c.in-Some-2.made.changes.items)
+    (of_found (λ made. Renews c.args.board.now.held (document_kept (author_sheet document.styles.now.sheet tree) tree) made.changes.items) c.in_ok-made.field-0 c.in-Some-2.made c.in-Some-2.is c.in_ok-made.ensures.changes)
 
 pub returns-in-Some-2-clause-plain : goal.returns-in-Some-2-clause-plain
 returns-in-Some-2-clause-plain g c =
     let document = c.args.document.now in
     let tree = document.arena.now.tree in
-    let local : LocalStops = c.in-Some.field-0 in
-    let place = there document.edit.now document.styles.now c.args.board.now.held tree c.args.stops local c.in-Some.is c.requires.place in
-    sym (ap (λ (text : List ℕ). is_plain (author_sheet text tree) tree)
-    (sheet_now document.edit.now document.styles.now c.args.board.now.held local tree place c.name_inserted_root.new.stops.items c.name_inserted_root.ensures.stops)
-    ∙ of_found (λ _. is_plain (author_sheet document.styles.now.sheet tree) tree ≡ true) c.in_ok-changes.field-0 c.in-Some-2.changes c.in-Some-2.is c.in_ok-changes.ensures.plain)
+    under_edited document c.args.board.now.held c.args.ahead.now c.args.index.now c.args.stops c.in-Some.field-0 c.in-Some.is c.requires.place c.name_inserted_root.new.stops.items c.name_inserted_root.ensures.stops
+    (λ (text : List ℕ). c.in-Some-2.made.is_plain ≡ is_plain (author_sheet text tree) tree)
+    (of_found (λ made. made.is_plain ≡ is_plain (author_sheet document.styles.now.sheet tree) tree) c.in_ok-made.field-0 c.in-Some-2.made c.in-Some-2.is c.in_ok-made.ensures.plain)
+
+pub returns-in-Some-2-clause-referring : goal.returns-in-Some-2-clause-referring
+returns-in-Some-2-clause-referring g c =
+    let document = c.args.document.now in
+    let tree = document.arena.now.tree in
+    under_edited document c.args.board.now.held c.args.ahead.now c.args.index.now c.args.stops c.in-Some.field-0 c.in-Some.is c.requires.place c.name_inserted_root.new.stops.items c.name_inserted_root.ensures.stops
+    (λ (text : List ℕ). IfSome c.in-Some-2.made.referring (IsReferringIn (author_sheet text tree) tree))
+    (of_found (λ made. IfSome made.referring (IsReferringIn (author_sheet document.styles.now.sheet tree) tree)) c.in_ok-made.field-0 c.in-Some-2.made c.in-Some-2.is c.in_ok-made.ensures.referring)
+
+pub returns-in-Some-2-clause-refers : goal.returns-in-Some-2-clause-refers
+returns-in-Some-2-clause-refers g c =
+    let document = c.args.document.now in
+    let tree = document.arena.now.tree in
+    under_edited document c.args.board.now.held c.args.ahead.now c.args.index.now c.args.stops c.in-Some.field-0 c.in-Some.is c.requires.place c.name_inserted_root.new.stops.items c.name_inserted_root.ensures.stops
+    (λ (text : List ℕ). TellsReferences c.changes_from_place.new.index (evaluated_document (author_sheet text tree) tree))
+    (of_found (λ _. TellsReferences c.changes_from_place.new.index (evaluated_document (author_sheet document.styles.now.sheet tree) tree)) c.in_ok-made.field-0 c.in-Some-2.made c.in-Some-2.is c.in_ok-made.ensures.refers)
 
 pub returns-in-Some-2-clause-few : goal.returns-in-Some-2-clause-few
 returns-in-Some-2-clause-few g c =
-    let document = c.args.document.now in
-    within document.edit.now document.styles.now c.args.board.now.held document.arena.now.tree c.args.stops (c.in-Some.field-0) c.name_inserted_root.new.stops.items
-    c.args.steps.now _ c.in-Some.is c.name_inserted_root.ensures.stops
-    (of_found _ c.in_ok-changes.field-0 c.in-Some-2.changes c.in-Some-2.is c.in_ok-changes.ensures.few)
+    within c.args.document.now c.args.board.now.held c.args.ahead.now c.args.index.now c.args.stops c.in-Some.field-0 c.in-Some.is c.requires.place c.name_inserted_root.new.stops.items c.name_inserted_root.ensures.stops
+    c.args.steps.now _ (of_found _ c.in_ok-made.field-0 c.in-Some-2.made c.in-Some-2.is c.in_ok-made.ensures.few)
 
 pub returns-in-Some-2-clause-most : goal.returns-in-Some-2-clause-most
 returns-in-Some-2-clause-most g c =
-    let document = c.args.document.now in
-    within document.edit.now document.styles.now c.args.board.now.held document.arena.now.tree c.args.stops (c.in-Some.field-0) c.name_inserted_root.new.stops.items
-    c.args.steps.now c.changes_from_place.new.steps c.in-Some.is c.name_inserted_root.ensures.stops c.changes_from_place.ensures.most
+    within c.args.document.now c.args.board.now.held c.args.ahead.now c.args.index.now c.args.stops c.in-Some.field-0 c.in-Some.is c.requires.place c.name_inserted_root.new.stops.items c.name_inserted_root.ensures.stops
+    c.args.steps.now c.changes_from_place.new.steps c.changes_from_place.ensures.most
 
 pub returns-in-None-clause-none : goal.returns-in-None-clause-none
 returns-in-None-clause-none g c =
     let document = c.args.document.now in
     let tree = document.arena.now.tree in
-    let local : LocalStops = c.in-Some.field-0 in
-    let place = there document.edit.now document.styles.now c.args.board.now.held tree c.args.stops local c.in-Some.is c.requires.place in
-    of_stops (λ _. is_plain_after document ≡ false) c.args.stops local c.in-Some.is
-    (ap (λ (text : List ℕ). is_plain (author_sheet text tree) tree)
-    (sheet_now document.edit.now document.styles.now c.args.board.now.held local tree place c.name_inserted_root.new.stops.items c.name_inserted_root.ensures.stops)
-    ∙ of_none (is_plain (author_sheet document.styles.now.sheet tree) tree ≡ false) c.in_ok-changes.field-0 c.in-None.is c.in_ok-changes.ensures.none)
+    of_stops (λ _. c.args.ahead.now.is_plain ≡ true → is_plain_after document ≡ false) c.args.stops c.in-Some.field-0 c.in-Some.is
+    (under_edited document c.args.board.now.held c.args.ahead.now c.args.index.now c.args.stops c.in-Some.field-0 c.in-Some.is c.requires.place c.name_inserted_root.new.stops.items c.name_inserted_root.ensures.stops
+    (λ (text : List ℕ). c.args.ahead.now.is_plain ≡ true → is_plain (author_sheet text tree) tree ≡ false)
+    (of_none (c.args.ahead.now.is_plain ≡ true → is_plain (author_sheet document.styles.now.sheet tree) tree ≡ false) c.in_ok-made.field-0 c.in-None.is c.in_ok-made.ensures.none))
+
+pub returns-in-None-clause-unmoved : goal.returns-in-None-clause-unmoved
+returns-in-None-clause-unmoved g c =
+    of_none ((id : List ℕ) (key : ℕ) → is_reference c.changes_from_place.new.index id key ≡ is_reference c.args.index.now id key) c.in_ok-made.field-0 c.in-None.is c.in_ok-made.ensures.unmoved
 
 pub returns-in-None-clause-most : goal.returns-in-None-clause-most
 returns-in-None-clause-most g c =
-    let document = c.args.document.now in
-    within document.edit.now document.styles.now c.args.board.now.held document.arena.now.tree c.args.stops (c.in-Some.field-0) c.name_inserted_root.new.stops.items
-    c.args.steps.now c.changes_from_place.new.steps c.in-Some.is c.name_inserted_root.ensures.stops c.changes_from_place.ensures.most
-
-pub returns-in-Some-2-clause-walked : goal.returns-in-Some-2-clause-walked
-returns-in-Some-2-clause-walked g c =
-    let document = c.args.document.now in
-    let tree = document.arena.now.tree in
-    let local : LocalStops = c.in-Some.field-0 in
-    let place = there document.edit.now document.styles.now c.args.board.now.held tree c.args.stops local c.in-Some.is c.requires.place in (
-      ap (λ (o : Option LocalStops). is_some o) c.in-Some.is,
-      ap (λ (text : List ℕ). is_plain (author_sheet text tree) tree)
-          (sheet_now document.edit.now document.styles.now c.args.board.now.held local tree place c.name_inserted_root.new.stops.items c.name_inserted_root.ensures.stops)
-          ∙ of_found (λ _. is_plain (author_sheet document.styles.now.sheet tree) tree ≡ true) c.in_ok-changes.field-0 c.in-Some-2.changes c.in-Some-2.is c.in_ok-changes.ensures.plain,
-    )
+    within c.args.document.now c.args.board.now.held c.args.ahead.now c.args.index.now c.args.stops c.in-Some.field-0 c.in-Some.is c.requires.place c.name_inserted_root.new.stops.items c.name_inserted_root.ensures.stops
+    c.args.steps.now c.changes_from_place.new.steps c.changes_from_place.ensures.most

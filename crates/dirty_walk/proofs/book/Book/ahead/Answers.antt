@@ -1,5 +1,5 @@
-use Rattle.std.proofs.Common.{◌≡◌, ◌⊎◌, ◌∙◌, ap, subst, true, false, Bool, IfSome}
-use Rattle.std.specs.Prelude.{IfNone}
+use Rattle.std.proofs.Common.{◌≡◌, ◌∙◌, ◌||◌, ap, subst, sym, inl, inr, true, Bool, IfSome}
+use Rattle.std.specs.Prelude.{is_some}
 use Rattle.forest.specs.Forest.{Forest}
 use Rattle.forest.specs.Keys.{Keyed, without_keys}
 use Rattle.plain_types.specs.declared.edit.Edit.{Edit}
@@ -8,13 +8,14 @@ use Rattle.node_arena.specs.Edits.{place_fault}
 use Rattle.generated_texts.specs.StyleElements.{author_sheet}
 use Rattle.style_reach.specs.Reaches.{reach}
 use Rattle.style_reach.specs.declared.extent.Reach.{Reach}
-use Rattle.style_reach.specs.declared.extent.Reach.TheVariants.{All}
 use Rattle.styled_merge.specs.Laws.{looks_beside}
 use Rattle.styled_merge.specs.ReachStops.{reach_stops}
 use Rattle.dirty_walk.specs.Books.{StyledDocument}
 use Rattle.dirty_walk.specs.Exchanges.{elements_in, leaving, taken_keys}
-use Rattle.dirty_walk.specs.Plain.{is_plain}
+use Rattle.dirty_walk.specs.FormerTargets.{AreFormerTargetsOf}
+use Rattle.dirty_walk.specs.Plain.{is_plain, is_unstarted}
 use Rattle.dirty_walk.proofs.PlaceLemmas.{its_reach}
+use Rattle.dirty_walk.proofs.ReferringLemmas.{not_plain_where, of_no_value, of_value, unstarted_where}
 use Rattle.dirty_walk.proofs.book.Book.ahead.Goals as goal
 
 -- what is plain in a document, and how far its edit reaches
@@ -36,9 +37,21 @@ returns-clause-takes c =
     ∙ ap (taken_keys c.args.edit.now)
     (c.as_slice.ensures.items ∙ c.in_ok-gone.ensures.elements ∙ ap (λ (styled : StyledDocument). elements_in (leaving c.args.edit.now styled.tree)) c.self.view_is)
 
-pub returns-clause-plain : goal.returns-clause-plain
-returns-clause-plain c =
-    subst (λ (plain : Bool). IfSome c.in_ok-stops.stops (λ _. plain ≡ true)) (c.self.invariant.plain_is ∙ ap plain_in c.self.view_is) c.in_ok-stops.ensures.plain
+pub returns-clause-unstarted : goal.returns-clause-unstarted
+returns-clause-unstarted c =
+    let author = author_sheet c.self.inside.styles.sheet c.self.inside.arena.tree in
+    subst (λ (styled : StyledDocument). IfSome c.in_ok-stops.stops (λ _. is_unstarted (author_sheet styled.sheet styled.tree) styled.tree ≡ true)) c.self.view_is
+    (of_value _ _
+    (λ local known.
+    unstarted_where c.self.inside.is_plain c.self.inside.referring author c.self.inside.arena.tree c.self.invariant.plain_is c.self.invariant.referring_is (sym c.is_unstarted.ensures ∙ known))
+    c.in_ok-stops.stops c.in_ok-stops.ensures.unstarted)
+
+pub former_targets-requires : goal.former_targets-requires
+former_targets-requires c = record { indexed = c.self.invariant.indexed; gone = c.as_slice-2.ensures.items ∙ c.in_ok-gone.ensures.elements }
+
+pub returns-clause-former : goal.returns-clause-former
+returns-clause-former c =
+    subst (λ (tree : Forest (Keyed Node)). AreFormerTargetsOf c.args.edit.now tree c.in_ok-former.former) (ap (λ (styled : StyledDocument). styled.tree) c.self.view_is) c.in_ok-former.ensures.former
 
 pub returns-clause-extent : goal.returns-clause-extent
 returns-clause-extent c =
@@ -55,7 +68,10 @@ pub returns-clause-none : goal.returns-clause-none
 returns-clause-none c =
     let reaches : reach_in c.args.edit.now (record { tree = c.self.inside.arena.tree; sheet = c.self.inside.styles.sheet; settled = true; kept = c.self.inside.board.held }) ≡ reach_in c.args.edit.now c.args.self.now =
     ap (λ (styled : StyledDocument). reach_in c.args.edit.now styled) c.self.view_is in
-    subst (λ (plain : Bool). IfNone c.in_ok-stops.stops ((plain ≡ false) ⊎ (reach_in c.args.edit.now c.args.self.now ≡ All))) (c.self.invariant.plain_is ∙ ap plain_in c.self.view_is)
-    (subst (λ (extent : Reach). IfNone c.in_ok-stops.stops ((c.self.inside.is_plain ≡ false) ⊎ (extent ≡ All)))
-    (its_reach c.args.edit.now c.self.inside.agent c.self.inside.styles c.self.inside.arena.tree c.self.invariant.agent_is c.self.invariant.styles_are ∙ reaches)
-    c.in_ok-stops.ensures.none)
+    let flag : c.is_unstarted.result ≡ (c.self.inside.is_plain || is_some c.self.inside.referring) = c.is_unstarted.ensures in
+    of_no_value _ _
+    (λ either. elim either [
+      | inl known ↦ inl (sym (c.self.invariant.plain_is ∙ ap plain_in c.self.view_is) ∙ not_plain_where c.self.inside.is_plain c.self.inside.referring (sym flag ∙ known))
+      | inr all ↦ inr (sym (its_reach c.args.edit.now c.self.inside.agent c.self.inside.styles c.self.inside.arena.tree c.self.invariant.agent_is c.self.invariant.styles_are ∙ reaches) ∙ all)
+    ])
+    c.in_ok-stops.stops c.in_ok-stops.ensures.none

@@ -1,4 +1,4 @@
-use Rattle.std.proofs.Common.{◌≡◌, ◌⊎◌, ◌∙◌, ◌≤◌, ◌+◌, true, false, Option, Some, None, IfSome, refl, unwrap_or, ap, sym, subst, arith, inr, length, List, ℕ}
+use Rattle.std.proofs.Common.{◌≡◌, ◌⊎◌, ◌∙◌, ◌≤◌, ◌+◌, true, false, None, IfSome, refl, unwrap_or, ap, sym, subst, arith, inr, length, List, ℕ}
 use Rattle.std.specs.Prelude.{IfNone}
 use Rattle.std.specs.FinMap.{FinMap, get}
 use Rattle.std.specs.Option.{is_none}
@@ -17,10 +17,8 @@ use Rattle.snapshot_board.specs.Records.{put_all, take_all}
 use Rattle.kept_elements.specs.declared.kept.Kept.{Kept}
 use Rattle.dirty_walk.specs.Books.{StyledDocument}
 use Rattle.kept_elements.specs.Changes.{AreOthers}
-use Rattle.dirty_walk.specs.declared.local_stops.LocalStops.{LocalStops}
 use Rattle.kept_elements.specs.Evaluations.{document_kept, evaluated_document}
 use Rattle.target_index.specs.declared.index.Index.{Index}
-use Rattle.target_index.specs.Holders.{is_reference}
 use Rattle.referring_elements.specs.Indexes.{IsIndexOf, TellsReferences}
 use Rattle.edit_merge.specs.Laws.{InsertsOneTree, IsDone}
 use Rattle.style_reach.specs.Reaches.{reach}
@@ -28,13 +26,17 @@ use Rattle.style_reach.specs.declared.extent.Reach.TheVariants.{All}
 use Rattle.styled_merge.specs.Laws.{looks_beside}
 use Rattle.styled_merge.specs.ReachStops.{reach_stops}
 use Rattle.dirty_walk.specs.Exchanges.{elements_in, leaving, taken_keys}
-use Rattle.dirty_walk.specs.Plain.{is_plain}
+use Rattle.dirty_walk.specs.FormerTargets.{AreFormerTargetsOf}
+use Rattle.dirty_walk.specs.Plain.{is_plain, is_unstarted}
+use Rattle.dirty_walk.specs.ReadAhead.{WasReadOf}
+use Rattle.dirty_walk.specs.Referring.{IsReferringIn}
+use Rattle.dirty_walk.specs.declared.read_ahead.ReadAhead.{ReadAhead}
+use Rattle.referring_elements.specs.declared.former.FormerTarget.{FormerTarget}
 use Rattle.dirty_walk.specs.Plans.{settled_after, IsPlannedBy}
 use Rattle.dirty_walk.specs.WorkBounds.{IsWithinWork, StopsWithinWork, keyed_source}
 use Rattle.dirty_walk.proofs.GoneLemmas.{taken_gone}
-use Rattle.dirty_walk.proofs.PlaceLemmas.{stands_before}
+use Rattle.dirty_walk.proofs.PlaceLemmas.{stands_read}
 use Rattle.dirty_walk.proofs.PlanLemmas.{as_read, its_keys, its_text, same_document, under_its_text}
-use Rattle.dirty_walk.proofs.ReferenceLemmas.{none_where_plain}
 use Rattle.dirty_walk.proofs.SettlingLemmas.{few, has_room, keeps_all, of_elements}
 use Rattle.dirty_walk.proofs.WorkLemmas.{leads, within_work}
 use Rattle.dirty_walk.proofs.book.Book.plan.Goals as goal
@@ -69,27 +71,25 @@ evaluated-requires-clause-before g c = record {
 pub evaluated-requires-clause-place : goal.evaluated-requires-clause-place
 evaluated-requires-clause-place g c =
     let none : is_none c.self.inside.planned ≡ true = ap (λ (styled : StyledDocument). styled.settled) c.self.view_is ∙ c.requires.settled in
-    stands_before c.args.edit.now c.self.inside.styles c.self.inside.board.held c.self.inside.arena.tree c.commit-reversal.new.self.tree c.self.invariant.styles_are
+    let author = author_sheet c.self.inside.styles.sheet c.self.inside.arena.tree in
+    let ahead : ReadAhead = record { takes = c.as_slice.result; former = c.as_slice-2.result; is_plain = c.self.inside.is_plain; referring = c.self.inside.referring } in
+    let read : WasReadOf c.args.edit.now author c.self.inside.arena.tree ahead c.self.inside.index = record {
+      takes = c.as_slice.ensures.items ∙ c.in_ok-gone.ensures.takes ∙ ap (λ (styled : StyledDocument). taken_keys c.args.edit.now (elements_in (leaving c.args.edit.now styled.tree))) (sym c.self.view_is);
+      former = subst (λ (former : List FormerTarget). AreFormerTargetsOf c.args.edit.now c.self.inside.arena.tree former) (sym c.as_slice-2.ensures.items)
+          (ahead_of (λ styled. AreFormerTargetsOf c.args.edit.now styled.tree c.in_ok-gone.field-0.former) _ _ c.self.view_is c.in_ok-gone.ensures.former);
+      plain = c.self.invariant.plain_is;
+      referring = c.self.invariant.referring_is;
+      tells = c.self.invariant.refers;
+    } in
+    stands_read c.args.edit.now c.self.inside.styles c.self.inside.board.held c.self.inside.arena.tree c.commit-reversal.new.self.tree c.self.invariant.styles_are
     (done_by c.args.edit.now c.self.inside.arena.tree _ c.commit-reversal.new.self.tree c.args.self.now c.arena_holds_document.ensures.document c.arena_holds_document-2.ensures.document
     (ap (λ (styled : StyledDocument). styled.tree) c.self.view_is) c.requires.allowed c.inserts_one_tree.ensures c.in_ok-prepared.ensures.edits c.commit-reversal.ensures.tree)
-    (c.self.invariant.kept none) c.in_ok-gone.field-0.stops (ahead_of (λ styled. IfSome c.in_ok-gone.field-0.stops (λ _. is_plain (author_sheet styled.sheet styled.tree) styled.tree ≡ true)) _ _ c.self.view_is c.in_ok-gone.ensures.plain) (ahead_of (λ styled. IfSome c.in_ok-gone.field-0.stops (λ local. local.extent ≡ reach (looks_beside styled.sheet styled.tree) styled.tree c.args.edit.now)) _ _ c.self.view_is c.in_ok-gone.ensures.extent) c.in_ok-gone.ensures.local (ahead_of (λ styled. IfSome c.in_ok-gone.field-0.stops (λ local. local.stops.items ≡ reach_stops local.extent c.args.edit.now 0 styled.tree)) _ _ c.self.view_is c.in_ok-gone.ensures.stops)
-
--- where there are stops no element refers to an id
-none_there : (P Q : Type 0) → (P → Q) → (stops : Option LocalStops) → IfSome stops (λ _. P) → IfSome stops (λ _. Q)
-none_there P Q so None holds = tt
-none_there P Q so (Some local) holds = so holds
-
-pub evaluated-requires-clause-none : goal.evaluated-requires-clause-none
-evaluated-requires-clause-none g c =
-    let author = author_sheet c.self.inside.styles.sheet c.self.inside.arena.tree in
-    none_there (is_plain author c.self.inside.arena.tree ≡ true) ((id : List ℕ) (key : ℕ) → is_reference c.self.inside.index id key ≡ false)
-    (λ plain. none_where_plain author c.self.inside.arena.tree c.self.inside.index c.self.invariant.refers plain)
-    c.in_ok-gone.field-0.stops (ahead_of (λ styled. IfSome c.in_ok-gone.field-0.stops (λ _. is_plain (author_sheet styled.sheet styled.tree) styled.tree ≡ true)) _ _ c.self.view_is c.in_ok-gone.ensures.plain)
+    (c.self.invariant.kept none) ahead c.self.inside.index read c.in_ok-gone.field-0.stops (ahead_of (λ styled. IfSome c.in_ok-gone.field-0.stops (λ _. is_unstarted (author_sheet styled.sheet styled.tree) styled.tree ≡ true)) _ _ c.self.view_is c.in_ok-gone.ensures.unstarted) (ahead_of (λ styled. IfSome c.in_ok-gone.field-0.stops (λ local. local.extent ≡ reach (looks_beside styled.sheet styled.tree) styled.tree c.args.edit.now)) _ _ c.self.view_is c.in_ok-gone.ensures.extent) c.in_ok-gone.ensures.local (ahead_of (λ styled. IfSome c.in_ok-gone.field-0.stops (λ local. local.stops.items ≡ reach_stops local.extent c.args.edit.now 0 styled.tree)) _ _ c.self.view_is c.in_ok-gone.ensures.stops)
 
 pub invariant_of-self : goal.invariant_of-self
 invariant_of-self g c =
     let none : is_none c.self.inside.planned ≡ true = ap (λ (styled : StyledDocument). styled.settled) c.self.view_is ∙ c.requires.settled in
-    same_document _ _ _ _ _ _ _ _ _ _ none c.prepare.ensures.tree (λ were. still_settled _ _ were c.prepare.ensures.tree c.in_err-prepared.ensures.err) refl (omega arith) (λ id key. refl) (λ id key. refl) c.self.invariant
+    same_document _ _ _ _ _ _ _ _ _ _ _ none c.prepare.ensures.tree (λ were. still_settled _ _ were c.prepare.ensures.tree c.in_err-prepared.ensures.err) refl (omega arith) (λ id key. refl) (λ id key. refl) c.self.invariant
 
 pub invariant_of-self-in-Ok : goal.invariant_of-self-in-Ok
 invariant_of-self-in-Ok g c =
@@ -113,6 +113,10 @@ invariant_of-self-in-Ok g c =
           (subst (λ (t : List ℕ). TellsReferences (unwrap_or c.in-Ok.made.index c.evaluated.new.index) (evaluated_document (author_sheet t tree) tree))
           (sym (its_text c.replace_styles.new.styles text (style_texts tree) (c.replace_styles.ensures ∙ c.in-Ok.ensures.styles)))
           c.in-Ok.ensures.refers);
+      referring_is =
+          subst (λ (t : List ℕ). IfSome c.in-Ok.made.referring (IsReferringIn (author_sheet t tree) tree))
+          (sym (its_text c.replace_styles.new.styles text (style_texts tree) (c.replace_styles.ensures ∙ c.in-Ok.ensures.styles)))
+          c.in-Ok.ensures.referring;
       plain_is = c.in-Ok.ensures.plain ∙ ap (λ (t : List ℕ). is_plain (author_sheet t tree) tree) (sym (its_text c.replace_styles.new.styles text (style_texts tree) (c.replace_styles.ensures ∙ c.in-Ok.ensures.styles)));
       back = c.commit-reversal.ensures.reversal;
       keys =
@@ -123,12 +127,12 @@ invariant_of-self-in-Ok g c =
 pub invariant_of-self-in-Err : goal.invariant_of-self-in-Err
 invariant_of-self-in-Err g c =
     let none : is_none c.self.inside.planned ≡ true = ap (λ (styled : StyledDocument). styled.settled) c.self.view_is ∙ c.requires.settled in
-    same_document _ _ _ _ _ _ _ _ _ _ none (c.revert.ensures.tree ∙ c.commit-reversal.ensures.before ∙ c.prepare.ensures.tree)
+    same_document _ _ _ _ _ _ _ _ _ _ _ none (c.revert.ensures.tree ∙ c.commit-reversal.ensures.before ∙ c.prepare.ensures.tree)
     (λ were.
     reverted _ _ _
     (committed _ _ _ _ _ were c.prepare.ensures.tree c.in_ok-prepared.ensures.reserves c.commit-reversal.ensures.tree c.commit-reversal.ensures.before c.commit-reversal.ensures.used)
     c.revert.ensures.tree c.revert.ensures.freed)
-    c.evaluated.ensures.held c.evaluated.ensures.grown c.in-Err.ensures.err c.evaluated.ensures.references c.self.invariant
+    c.evaluated.ensures.held c.evaluated.ensures.grown c.in-Err.ensures.err c.in-Err.ensures.references c.self.invariant
 
 pub returns-in-Ok-clause-planned : goal.returns-in-Ok-clause-planned
 unfolding IsPlannedBy settled_after
@@ -233,8 +237,8 @@ returns-in-Ok-clause-within_work g c =
     (within_work c.args.edit.now c.self.inside.styles c.self.inside.board.held old tree c.in_ok-gone.field-0.stops
     c.self.invariant.styles_are done (c.self.invariant.kept none)
     c.replace_styles.new.styles.sheet (its_text c.replace_styles.new.styles text (style_texts tree) (c.replace_styles.ensures ∙ c.in-Ok.ensures.styles))
-    c.args.steps.now (c.evaluated.new.steps + length puts) (length takes) (c.evaluated.new.steps + (length puts + length takes))
-    (ahead_of (λ styled. IfSome c.in_ok-gone.field-0.stops (λ _. is_plain (author_sheet styled.sheet styled.tree) styled.tree ≡ true)) _ _ c.self.view_is c.in_ok-gone.ensures.plain) (ahead_of (λ styled. IfSome c.in_ok-gone.field-0.stops (λ local. local.extent ≡ reach (looks_beside styled.sheet styled.tree) styled.tree c.args.edit.now)) _ _ c.self.view_is c.in_ok-gone.ensures.extent) c.in_ok-gone.ensures.local (ahead_of (λ styled. IfSome c.in_ok-gone.field-0.stops (λ local. local.stops.items ≡ reach_stops local.extent c.args.edit.now 0 styled.tree)) _ _ c.self.view_is c.in_ok-gone.ensures.stops) (ahead_of (λ styled. IfNone c.in_ok-gone.field-0.stops ((is_plain (author_sheet styled.sheet styled.tree) styled.tree ≡ false) ⊎ (reach (looks_beside styled.sheet styled.tree) styled.tree c.args.edit.now ≡ All))) _ _ c.self.view_is c.in_ok-gone.ensures.none)
+    c.self.inside.is_plain c.self.invariant.plain_is c.args.steps.now (c.evaluated.new.steps + length puts) (length takes) (c.evaluated.new.steps + (length puts + length takes))
+    (ahead_of (λ styled. IfSome c.in_ok-gone.field-0.stops (λ _. is_unstarted (author_sheet styled.sheet styled.tree) styled.tree ≡ true)) _ _ c.self.view_is c.in_ok-gone.ensures.unstarted) (ahead_of (λ styled. IfSome c.in_ok-gone.field-0.stops (λ local. local.extent ≡ reach (looks_beside styled.sheet styled.tree) styled.tree c.args.edit.now)) _ _ c.self.view_is c.in_ok-gone.ensures.extent) c.in_ok-gone.ensures.local (ahead_of (λ styled. IfSome c.in_ok-gone.field-0.stops (λ local. local.stops.items ≡ reach_stops local.extent c.args.edit.now 0 styled.tree)) _ _ c.self.view_is c.in_ok-gone.ensures.stops) (ahead_of (λ styled. IfNone c.in_ok-gone.field-0.stops ((is_plain (author_sheet styled.sheet styled.tree) styled.tree ≡ false) ⊎ (reach (looks_beside styled.sheet styled.tree) styled.tree c.args.edit.now ≡ All))) _ _ c.self.view_is c.in_ok-gone.ensures.none)
     c.in-Ok.ensures.few
     (omega (arith, ap length taken, taken_gone c.args.edit.now old tree))
     (omega arith)
@@ -256,8 +260,8 @@ returns-clause-stops_within_work g c =
       leads c.args.edit.now before text old tree done refl,
       within_work c.args.edit.now c.self.inside.styles c.self.inside.board.held old tree c.in_ok-gone.field-0.stops
           c.self.invariant.styles_are done (c.self.invariant.kept none) text refl
-          c.args.steps.now c.evaluated.new.steps 0 c.evaluated.new.steps
-          (ahead_of (λ styled. IfSome c.in_ok-gone.field-0.stops (λ _. is_plain (author_sheet styled.sheet styled.tree) styled.tree ≡ true)) _ _ c.self.view_is c.in_ok-gone.ensures.plain) (ahead_of (λ styled. IfSome c.in_ok-gone.field-0.stops (λ local. local.extent ≡ reach (looks_beside styled.sheet styled.tree) styled.tree c.args.edit.now)) _ _ c.self.view_is c.in_ok-gone.ensures.extent) c.in_ok-gone.ensures.local (ahead_of (λ styled. IfSome c.in_ok-gone.field-0.stops (λ local. local.stops.items ≡ reach_stops local.extent c.args.edit.now 0 styled.tree)) _ _ c.self.view_is c.in_ok-gone.ensures.stops) (ahead_of (λ styled. IfNone c.in_ok-gone.field-0.stops ((is_plain (author_sheet styled.sheet styled.tree) styled.tree ≡ false) ⊎ (reach (looks_beside styled.sheet styled.tree) styled.tree c.args.edit.now ≡ All))) _ _ c.self.view_is c.in_ok-gone.ensures.none)
+          c.self.inside.is_plain c.self.invariant.plain_is c.args.steps.now c.evaluated.new.steps 0 c.evaluated.new.steps
+          (ahead_of (λ styled. IfSome c.in_ok-gone.field-0.stops (λ _. is_unstarted (author_sheet styled.sheet styled.tree) styled.tree ≡ true)) _ _ c.self.view_is c.in_ok-gone.ensures.unstarted) (ahead_of (λ styled. IfSome c.in_ok-gone.field-0.stops (λ local. local.extent ≡ reach (looks_beside styled.sheet styled.tree) styled.tree c.args.edit.now)) _ _ c.self.view_is c.in_ok-gone.ensures.extent) c.in_ok-gone.ensures.local (ahead_of (λ styled. IfSome c.in_ok-gone.field-0.stops (λ local. local.stops.items ≡ reach_stops local.extent c.args.edit.now 0 styled.tree)) _ _ c.self.view_is c.in_ok-gone.ensures.stops) (ahead_of (λ styled. IfNone c.in_ok-gone.field-0.stops ((is_plain (author_sheet styled.sheet styled.tree) styled.tree ≡ false) ⊎ (reach (looks_beside styled.sheet styled.tree) styled.tree c.args.edit.now ≡ All))) _ _ c.self.view_is c.in_ok-gone.ensures.none)
           c.evaluated.ensures.most
           (omega arith) (omega arith) (omega (arith, c.evaluated.ensures.steps)),
     ))

@@ -1,0 +1,16 @@
+//! What is read of a document before an edit of it is done.
+
+use referring_elements::former::FormerTarget;
+
+/// What was read of a document before an edit of it was done, and what was known of it.
+#[derive(Drop)]
+pub(crate) struct ReadAhead<'a> {
+    /// The keys of the elements that the document has no longer then.
+    pub(crate) takes: &'a [usize],
+    /// What the ids named that the edit can give another target.
+    pub(crate) former: &'a [FormerTarget],
+    /// Whether no element rested on more than what it was handed.
+    pub(crate) is_plain: bool,
+    /// An element that referred to an id, where no box asked for the start of a reversed counter.
+    pub(crate) referring: Option<usize>,
+}
