@@ -5,7 +5,8 @@
     script          edits of them
     history DEPTH   edits of them, which may be undone
 
-and then the block `dump`, with what is printed, or `lines`, with the text view of the document, or with what the call prints.
+and then the block `dump`, with what is printed, or `lines`, with the text view of the document, or `baked`, with the document
+and its generated texts in it, or with what the call prints.
 Each row of the tables that `TABLES` names makes one too, and the table of statuses says which form the line of each status
 has.
 """
@@ -17,7 +18,7 @@ from rows import Case
 
 BLOCK = re.compile(r"^```(\w+(?: \d+)?)\n(.*?)^```$", re.MULTILINE | re.DOTALL)
 # Which command prints what a block of this kind has.
-COMMANDS = {"dump": "dump", "lines": "text"}
+COMMANDS = {"dump": "dump", "lines": "text", "baked": "bake"}
 LIST = "<ol><li>a</li><li>b</li></ol>"
 
 
@@ -49,6 +50,8 @@ def example_of(name, command, parts, output, stem):
         return Case(name, words, output=output)
     files = {f"{stem}.xhtml": parts["xml"].strip(), f"{stem}.css": parts.get("css", "")}
     words = [command, *files]
+    if command == "bake":
+        output = output.removesuffix("\n")
     if "script" in parts:
         files[f"{stem}.txt"] = parts["script"]
         words = ["edit", *files]
@@ -91,6 +94,12 @@ def fault(name, stem, text, place, _why):
     yield Case(name, ["dump", *files], 6, line=line, files=files)
 
 
+def baked(name, stem, document, sheet, text):
+    """A document with its generated texts put in."""
+    files = {f"{stem}.xhtml": code(document), f"{stem}.css": code(sheet) if "`" in sheet else ""}
+    yield Case(name, ["bake", *files], output=code(text), files=files)
+
+
 def script_line(name, stem, line, reading):
     """Whether a line is a command; what the command does is not asked for."""
     files = {f"{stem}.xhtml": LIST, f"{stem}.css": "", f"{stem}.txt": code(line)}
@@ -107,6 +116,7 @@ def answered(name, stem, document, edit, answer):
 
 # The page, the heads of the columns, and what makes cases of a row.
 TABLES = (
+    ("bake.md", "| Document | Sheet | Baked |", baked),
     ("counter-styles.md", "| Descriptors | Number | Text | Why |", represented),
     ("counter-styles.md", "| `list-style-type` | Marker of the first item |", first_marker),
     ("counter-styles.md", "| Style | From | Style | From | Style | From |", digits),
@@ -156,5 +166,5 @@ def form_of_line(cell):
     if cell == "none":
         return re.compile("")
     form = re.sub("NAME", ".+", re.escape(code(cell)))
-    form = re.sub("LINE|COLUMN|NUMBER|OFFSET", "[0-9]+", form)
-    return re.compile(form + (".+\n" if cell.endswith("and the seven forms") else "\n"))
+    form = re.sub("LINE|COLUMN|NUMBER|OFFSET|COUNT", "[0-9]+", form)
+    return re.compile(form + (".+\n" if cell.endswith(" forms") else "\n"))

@@ -8,13 +8,14 @@ from collections import namedtuple
 # output and the standard error that are wanted.
 Case = namedtuple("Case", "name words status output line files", defaults=(0, "", "", {}))
 
-USAGE = "marker: usage: dump DOC SHEET | edit DOC SHEET SCRIPT | table SHEET STYLE FROM TO | gen SEED COUNT | history DOC SHEET SCRIPT DEPTH | text DOC SHEET | why DOC SHEET PATH\n"
+USAGE = "marker: usage: dump DOC SHEET | edit DOC SHEET SCRIPT | table SHEET STYLE FROM TO | gen SEED COUNT | history DOC SHEET SCRIPT DEPTH | text DOC SHEET | why DOC SHEET PATH | bake DOC SHEET\n"
 LIST = '/0 marker "1. "\n/1 marker "2. "\n'
 FILES = {
     "empty.css": "",
     "space.css": " ",
     "list.xhtml": "<ol><li>a</li><li>b</li></ol>",
     "ul.xhtml": "<ul/>",
+    "lists.css": "ul::before { content: 'x' }",
     "open.xhtml": "<ol><li>",
     "bytes.css": b"\xff",
     "plain.txt": "remove /0/1\nshow\n",
@@ -41,6 +42,24 @@ ARTICLE = """\
 /1/3/3/0 before "Fig. 2: "
 /1/5/0/0 marker "* "
 """
+# What bake puts into the article under house.css, in the order of the dump: where, and what stands there then.
+PUT_IN = (
+    ("<h2>Hive", '<h2><span class="baked-before">I. </span>Hive'),
+    ("the plan</a>", 'the plan<span class="baked-after"> (Fig. 2, Plan)</span></a>'),
+    ("<q>the ", '<q><span class="baked-before">«</span>the '),
+    ("<q>old</q>", '<q><span class="baked-before">“</span>old<span class="baked-after">”</span></q>'),
+    (" way</q>", ' way<span class="baked-after">»</span></q>'),
+    ('href="#n1"/>', 'href="#n1"><span class="baked-after">*</span></a>'),
+    ("Frame<", '<span class="baked-before">Fig. 1: </span>Frame<'),
+    ("<h2>Work", '<h2><span class="baked-before">II. </span>Work'),
+    ("Smoke<", '<span class="baked-marker">1. </span>Smoke<'),
+    ("Open<", '<span class="baked-marker">2. </span>Open<'),
+    ("lid<", '<span class="baked-marker">a. </span>lid<'),
+    ("frames<", '<span class="baked-marker">b. </span>frames<'),
+    ("veil<", '<span class="baked-marker">- </span>veil<'),
+    ("Plan</figcaption>", '<span class="baked-before">Fig. 2: </span>Plan</figcaption>'),
+    ("Langstroth<", '<span class="baked-marker">* </span>Langstroth<'),
+)
 CHAPTER = """\
 /1/1 before "Chapter 2: "
 /1/3 before "2.1 "
@@ -71,6 +90,9 @@ def small(here):
     """The rows that every build of the program can run."""
     edited = (here / "crates/marker/stdout").read_text()
     told = f"show 1\n{LIST}end\nrefused 2 no-place\n"
+    baked = (here / "examples/article.xhtml").read_text()
+    for place, text in PUT_IN:
+        baked = baked.replace(place, text)
     gen = "elements 10\nboxes 20\naccepted 2\nrefused 0\nlines 10\n"
     silenced = "".join((here / f"examples/{name}.css").read_text() for name in ("house", "baked"))
     rows = [
@@ -96,6 +118,8 @@ def small(here):
         ("lines of a document that is open", "text open.xhtml empty.css", 6, "", "marker: open.xhtml:1:9: not well-formed\n"),
         ("no element", "why list.xhtml empty.css /0/0", 0, "refused no-element\n", ""),
         ("no path", "why list.xhtml empty.css 7", 2, "", USAGE),
+        ("the article, baked", "bake examples/article.xhtml examples/house.css", 0, baked, ""),
+        ("a text without a place", "bake ul.xhtml lists.css", 11, "<ul/>", "marker: ul.xhtml: texts without a place: 1\n"),
         ("a table", "table empty.css lower-roman 3 4", 0, '3 "iii"\n4 "iv"\n', ""),
         ("the example of years", "table examples/styles.css year -1 1", 0, '-1 "1 BCE"\n0 "—"\n1 "1"\n', ""),
         ("the example of plates", "table examples/styles.css plate 7 7", 0, '7 "007"\n', ""),

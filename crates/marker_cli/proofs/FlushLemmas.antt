@@ -6,7 +6,7 @@ use Rattle.ports.proofs.GrownLemmas.{front_whole}
 use Rattle.marker_cli.specs.declared.status.FileAt.{FileAt}
 use Rattle.marker_cli.specs.declared.status.Status.{Status}
 use Rattle.marker_cli.specs.declared.status.Status.TheVariants.{WriteFault}
-use Rattle.marker_cli.specs.Ends.{EndsAs, IsCaused, IsSettled, whole, no_memory, not_written, not_read}
+use Rattle.marker_cli.specs.Ends.{EndsAs, IsCaused, IsSettled, IsWhole, whole, no_memory, not_written, not_read}
 use Rattle.marker_cli.specs.Names.{TellsOfLine}
 use Rattle.marker_cli.specs.Output.{ComesAfter, Output, bytes_of, ends, turn, writes}
 use Rattle.marker_cli.proofs.EndsLemmas.{ends_same, ends_weaker}
@@ -48,6 +48,11 @@ ends_flushed {R} {W} {V} {X} {all} {before} {now} {after} {outcome} {told} ended
 pub was_before : (V : Type 0) (outcome told other : Status) → Flushed V outcome told → told ≡ other → (WriteFault ≡ other → ⊥) → outcome ≡ other
 was_before V outcome told other (inl same) is differs = sym same ∙ is
 was_before V outcome told other (inr failed) is differs = absurd (differs (sym failed.1 ∙ is))
+
+-- a status of a run that was done to its end was there before
+pub was_whole : (V : Type 0) (outcome told : Status) → Flushed V outcome told → IsWhole told → IsWhole outcome
+was_whole V outcome told (inl same) whole_now = subst IsWhole same whole_now
+was_whole V outcome told (inr failed) whole_now = absurd (subst IsWhole failed.1 whole_now)
 
 -- a status that tells of no output stays
 pub stays : (V : Type 0) (outcome told other : Status) → Flushed V outcome told → outcome ≡ other → (IsSettled other → ⊥) → told ≡ other

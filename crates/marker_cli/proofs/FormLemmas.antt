@@ -18,7 +18,7 @@ use Rattle.edit_script.specs.Scripts.{IsPathText}
 use Rattle.edit_script.proofs.PathLaws.{same_path}
 use Rattle.marker_cli.specs.declared.aspect.Aspect.TheVariants.{Dump, Text, Why}
 use Rattle.marker_cli.specs.declared.form.Form.{Form as ReadForm}
-use Rattle.marker_cli.specs.Words.{Form, IsCommand, IsCount, IsDepth, IsForm, IsRun, IsTable, IsWithin, ReadsAsForm, aspect, edit, gen, read_form_of, table, word, words_of}
+use Rattle.marker_cli.specs.Words.{Form, IsCommand, IsCount, IsDepth, IsForm, IsRun, IsTable, IsWithin, ReadsAsForm, aspect, bake, edit, gen, read_form_of, table, word, words_of}
 
 -- what `==` of two texts says of their characters
 pub same_text : (answer : Bool) (xs ys cs : List ℕ) → IsUtf8 ys → xs ≡ encode_utf8_all cs → chars xs ≡ cs → answer ≡ bytes_eq xs ys
@@ -137,6 +137,22 @@ one_written (aspect (Why path) document sheet) (table first second from to) with
 one_written (table sheet style from to) (aspect (Why path) first second) within fits same = absurd (let letter : 116 ≡ 119 = ap first_letter same in omega (arith, letter))
 one_written (aspect (Why path) document sheet) (gen seed count) within fits same = absurd (let letter : 119 ≡ 103 = ap first_letter same in omega (arith, letter))
 one_written (gen seed count) (aspect (Why path) first second) within fits same = absurd (let letter : 103 ≡ 119 = ap first_letter same in omega (arith, letter))
+one_written (bake document sheet) (bake first second) within fits same =
+    let one : first ≡ document = cc same in let two : second ≡ sheet = cc same in λ i. bake (one i) (two i)
+one_written (bake document sheet) (aspect Dump first second) within fits same = absurd (let letter : 98 ≡ 100 = ap first_letter same in omega (arith, letter))
+one_written (aspect Dump document sheet) (bake first second) within fits same = absurd (let letter : 100 ≡ 98 = ap first_letter same in omega (arith, letter))
+one_written (bake document sheet) (aspect Text first second) within fits same = absurd (let letter : 98 ≡ 116 = ap first_letter same in omega (arith, letter))
+one_written (aspect Text document sheet) (bake first second) within fits same = absurd (let letter : 116 ≡ 98 = ap first_letter same in omega (arith, letter))
+one_written (bake document sheet) (aspect (Why path) first second) within fits same = absurd (let letter : 98 ≡ 119 = ap first_letter same in omega (arith, letter))
+one_written (aspect (Why path) document sheet) (bake first second) within fits same = absurd (let letter : 119 ≡ 98 = ap first_letter same in omega (arith, letter))
+one_written (bake document sheet) (edit first second third None) within fits same = absurd (let letter : 98 ≡ 101 = ap first_letter same in omega (arith, letter))
+one_written (edit document sheet script None) (bake first second) within fits same = absurd (let letter : 101 ≡ 98 = ap first_letter same in omega (arith, letter))
+one_written (bake document sheet) (edit first second third (Some depth)) within fits same = absurd (let letter : 98 ≡ 104 = ap first_letter same in omega (arith, letter))
+one_written (edit document sheet script (Some depth)) (bake first second) within fits same = absurd (let letter : 104 ≡ 98 = ap first_letter same in omega (arith, letter))
+one_written (bake document sheet) (table first second from to) within fits same = absurd (let letter : 98 ≡ 116 = ap first_letter same in omega (arith, letter))
+one_written (table sheet style from to) (bake first second) within fits same = absurd (let letter : 116 ≡ 98 = ap first_letter same in omega (arith, letter))
+one_written (bake document sheet) (gen seed count) within fits same = absurd (let letter : 98 ≡ 103 = ap first_letter same in omega (arith, letter))
+one_written (gen seed count) (bake first second) within fits same = absurd (let letter : 103 ≡ 98 = ap first_letter same in omega (arith, letter))
 
 pub one_form : (words : List (List ℕ)) (form other : Form) → IsForm words form → IsForm words other → other ≡ form
 one_form words form other is reads = one_written form other is.within reads.within (sym is.written ∙ reads.written)
@@ -206,6 +222,7 @@ pub table_none : (words : List (List ℕ)) (from to : List ℕ) → word words 0
 table_none words from to begins third fourth none (aspect Dump document sheet) is = cc (sym begins ∙ ap (λ ws. word ws 0) is.written)
 table_none words from to begins third fourth none (aspect Text document sheet) is = cc (sym begins ∙ ap (λ ws. word ws 0) is.written)
 table_none words from to begins third fourth none (aspect (Why path) document sheet) is = cc (sym begins ∙ ap (λ ws. word ws 0) is.written)
+table_none words from to begins third fourth none (bake document sheet) is = cc (sym begins ∙ ap (λ ws. word ws 0) is.written)
 table_none words from to begins third fourth none (edit document sheet script None) is = cc (sym begins ∙ ap (λ ws. word ws 0) is.written)
 table_none words from to begins third fourth none (edit document sheet script (Some depth)) is = cc (sym begins ∙ ap (λ ws. word ws 0) is.written)
 table_none words from to begins third fourth none (table sheet style first last) is =
@@ -217,6 +234,7 @@ pub gen_none : (words : List (List ℕ)) (seed count : List ℕ) → words ≡ c
 gen_none words seed count written none (aspect Dump document sheet) is = cc (sym written ∙ is.written)
 gen_none words seed count written none (aspect Text document sheet) is = cc (sym written ∙ is.written)
 gen_none words seed count written none (aspect (Why path) document sheet) is = cc (sym written ∙ is.written)
+gen_none words seed count written none (bake document sheet) is = cc (sym written ∙ is.written)
 gen_none words seed count written none (edit document sheet script None) is = cc (sym written ∙ is.written)
 gen_none words seed count written none (edit document sheet script (Some depth)) is = cc (sym written ∙ is.written)
 gen_none words seed count written none (table sheet style from to) is = cc (sym written ∙ is.written)
@@ -230,6 +248,7 @@ pub history_none : (words : List (List ℕ)) (depth : List ℕ) → word words 0
 history_none words depth begins fourth none (aspect Dump document sheet) is = cc (sym begins ∙ ap (λ ws. word ws 0) is.written)
 history_none words depth begins fourth none (aspect Text document sheet) is = cc (sym begins ∙ ap (λ ws. word ws 0) is.written)
 history_none words depth begins fourth none (aspect (Why path) document sheet) is = cc (sym begins ∙ ap (λ ws. word ws 0) is.written)
+history_none words depth begins fourth none (bake document sheet) is = cc (sym begins ∙ ap (λ ws. word ws 0) is.written)
 history_none words depth begins fourth none (edit document sheet script None) is = cc (sym begins ∙ ap (λ ws. word ws 0) is.written)
 history_none words depth begins fourth none (edit document sheet script (Some deep)) is = none deep (fourth ∙ ap (λ ws. get_or ws 4 depth) is.written) is.within
 history_none words depth begins fourth none (table sheet style from to) is = cc (sym begins ∙ ap (λ ws. word ws 0) is.written)
@@ -241,6 +260,7 @@ why_none words path begins third none (aspect Dump document sheet) is = cc (sym 
 why_none words path begins third none (aspect Text document sheet) is = cc (sym begins ∙ ap (λ ws. word ws 0) is.written)
 why_none words path begins third none (aspect (Why positions) document sheet) is =
     none positions (record { written = third ∙ ap (λ ws. get_or ws 3 path) is.written; sound = is.within })
+why_none words path begins third none (bake document sheet) is = cc (sym begins ∙ ap (λ ws. word ws 0) is.written)
 why_none words path begins third none (edit document sheet script None) is = cc (sym begins ∙ ap (λ ws. word ws 0) is.written)
 why_none words path begins third none (edit document sheet script (Some deep)) is = cc (sym begins ∙ ap (λ ws. word ws 0) is.written)
 why_none words path begins third none (table sheet style from to) is = cc (sym begins ∙ ap (λ ws. word ws 0) is.written)
@@ -248,14 +268,15 @@ why_none words path begins third none (gen seed count) is = let letter : 119 ≡
 
 pub no_command : (words : List (List ℕ)) → (IsCommand words 3 (codes "dump") → ⊥) → (IsCommand words 4 (codes "edit") → ⊥) → (IsCommand words 5 (codes "table") → ⊥)
     → (IsCommand words 3 (codes "gen") → ⊥) → (IsCommand words 5 (codes "history") → ⊥) → (IsCommand words 3 (codes "text") → ⊥)
-    → (IsCommand words 4 (codes "why") → ⊥) → (form : Form) → IsForm words form → ⊥
-no_command words first second third fourth fifth sixth seventh (aspect Dump document sheet) is = first (ap length is.written, ap (λ ws. word ws 0) is.written)
-no_command words first second third fourth fifth sixth seventh (aspect Text document sheet) is = sixth (ap length is.written, ap (λ ws. word ws 0) is.written)
-no_command words first second third fourth fifth sixth seventh (aspect (Why path) document sheet) is = seventh (ap length is.written, ap (λ ws. word ws 0) is.written)
-no_command words first second third fourth fifth sixth seventh (edit document sheet script None) is = second (ap length is.written, ap (λ ws. word ws 0) is.written)
-no_command words first second third fourth fifth sixth seventh (edit document sheet script (Some depth)) is = fifth (ap length is.written, ap (λ ws. word ws 0) is.written)
-no_command words first second third fourth fifth sixth seventh (table sheet style from to) is = third (ap length is.written, ap (λ ws. word ws 0) is.written)
-no_command words first second third fourth fifth sixth seventh (gen seed count) is = fourth (ap length is.written, ap (λ ws. word ws 0) is.written)
+    → (IsCommand words 3 (codes "bake") → ⊥) → (IsCommand words 4 (codes "why") → ⊥) → (form : Form) → IsForm words form → ⊥
+no_command words first second third fourth fifth sixth seventh eighth (aspect Dump document sheet) is = first (ap length is.written, ap (λ ws. word ws 0) is.written)
+no_command words first second third fourth fifth sixth seventh eighth (aspect Text document sheet) is = sixth (ap length is.written, ap (λ ws. word ws 0) is.written)
+no_command words first second third fourth fifth sixth seventh eighth (aspect (Why path) document sheet) is = eighth (ap length is.written, ap (λ ws. word ws 0) is.written)
+no_command words first second third fourth fifth sixth seventh eighth (bake document sheet) is = seventh (ap length is.written, ap (λ ws. word ws 0) is.written)
+no_command words first second third fourth fifth sixth seventh eighth (edit document sheet script None) is = second (ap length is.written, ap (λ ws. word ws 0) is.written)
+no_command words first second third fourth fifth sixth seventh eighth (edit document sheet script (Some depth)) is = fifth (ap length is.written, ap (λ ws. word ws 0) is.written)
+no_command words first second third fourth fifth sixth seventh eighth (table sheet style from to) is = third (ap length is.written, ap (λ ws. word ws 0) is.written)
+no_command words first second third fourth fifth sixth seventh eighth (gen seed count) is = fourth (ap length is.written, ap (λ ws. word ws 0) is.written)
 
 -- the names of the commands are in ASCII
 ascii : (bytes : List ℕ) → list_all (λ b. nat_lt b 128) bytes ≡ true → IsAscii bytes
@@ -280,6 +301,9 @@ history_name = chars-IsAscii (codes "history") (ascii (codes "history") refl)
 
 pub text_name : chars (codes "text") ≡ codes "text"
 text_name = chars-IsAscii (codes "text") (ascii (codes "text") refl)
+
+pub bake_name : chars (codes "bake") ≡ codes "bake"
+bake_name = chars-IsAscii (codes "bake") (ascii (codes "bake") refl)
 
 pub why_name : chars (codes "why") ≡ codes "why"
 why_name = chars-IsAscii (codes "why") (ascii (codes "why") refl)

@@ -5,6 +5,7 @@ mod LineLemmas
 mod RunLemmas
 mod TextLemmas
 mod TreeLemmas
+mod BakeLemmas
 mod TurnLemmas
 mod GeneratedLemmas
 mod PlayLemmas

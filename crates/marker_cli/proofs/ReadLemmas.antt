@@ -1,7 +1,8 @@
 -- How many bytes were taken from files.
-use Rattle.std.proofs.Common.{◌≡◌, ℕ, zero, suc, ◌<◌, ◌≤◌, ◌+◌, List, [], ◌∷◌, length, drop, get_or, Option, Result, add-one, ap, arith, refl, subst, sym, ◌∙◌}
+use Rattle.std.proofs.Common.{◌≡◌, ℕ, zero, suc, ◌<◌, ◌≤◌, ◌+◌, List, [], ◌∷◌, length, drop, get_or, Option, Result, add-one, ap, arith, refl, subst, sym, inl, inr, ◌⊎◌}
 use Rattle.std.specs.Prelude.{Some, Ok, Err, IfErr, IfSome, OnOk, Bool}
 use Rattle.std.specs.Option.{option_map_or}
+use Rattle.std.specs.Result.{IsErr, IsErrAnd}
 use Rattle.std.proofs.Math.Seq.{drop-cons}
 use Rattle.edit_script.specs.declared.command.Command.{Command}
 use Rattle.ports.specs.Causes.{Raises}
@@ -10,7 +11,7 @@ use Rattle.ports.specs.Files.{Files}
 use Rattle.ports.proofs.CauseLemmas.{raises_more}
 use Rattle.marker_cli.specs.declared.status.Status.{Status}
 use Rattle.marker_cli.specs.declared.status.Status.TheVariants as status
-use Rattle.marker_cli.specs.Ends.{IsStop, part_status}
+use Rattle.marker_cli.specs.Ends.{IsStop, IsWhole, part_status}
 use Rattle.marker_cli.specs.Run.{action_size, commands_size, size_of}
 
 -- a fact holds at a value too
@@ -18,10 +19,33 @@ pub on_ok : {T E P : Type 0} (r : Result T E) → P → OnOk r P
 on_ok (Ok x) p = p
 on_ok (Err e) p = tt
 
--- what holds of a part that is Ok
-pub of_ok : {T P : Type 0} (r : Result T Status) {told : Status} → IfErr r IsStop → told ≡ part_status r → told ≡ status.Ok → OnOk r P → P
-of_ok (Ok x) stops is ok p = p
-of_ok (Err error) stops is ok p = absurd (subst IsStop (sym is ∙ ok) stops)
+-- no part that was done to its end stops a run
+whole_stop : {P : Type 0} (status : Status) → IsStop status → IsWhole status → P
+whole_stop status.Ok stops whole = absurd stops
+whole_stop status.Memory stops whole = absurd whole
+whole_stop status.Usage stops whole = absurd whole
+whole_stop (status.ReadFault file) stops whole = absurd whole
+whole_stop (status.TooLarge file) stops whole = absurd whole
+whole_stop (status.NotUtf8 file offset) stops whole = absurd whole
+whole_stop (status.BadDocument line column) stops whole = absurd whole
+whole_stop (status.BadScript number) stops whole = absurd whole
+whole_stop status.WriteFault stops whole = absurd whole
+whole_stop (status.LeftOut count) stops whole = absurd stops
+
+-- what holds of a part that was done to its end
+pub of_whole : {T P : Type 0} (r : Result T Status) → IfErr r IsStop → OnOk r P → IsWhole (part_status r) → P
+of_whole (Ok x) stops p whole = p
+of_whole (Err error) stops p whole = whole_stop error stops whole
+
+-- what a `?` hands on wasn't done to its end
+pub handed_whole : {T P : Type 0} (r : Result T Status) (told : Status) → IsErr r × IsErrAnd r (λ error. error ≡ told) → IsStop told → IsWhole (part_status r) → P
+handed_whole (Ok x) told is stops whole = absurd is.1
+handed_whole (Err error) told is stops whole = whole_stop error (subst IsStop (sym is.1) stops) whole
+
+-- nor was a part that failed to write
+pub put_stops : {failed : Type 0} (told : Status) → (told ≡ status.Memory) ⊎ ((told ≡ status.WriteFault) × failed) → IsStop told
+put_stops told (inl memory) = subst IsStop (sym memory) tt
+put_stops told (inr write) = subst IsStop (sym write.0) tt
 
 -- a file that was fetched
 pub fetched_size : (held : Option Files) (files : Files) (name bytes : List ℕ) (honest : Bool) → held ≡ Some files

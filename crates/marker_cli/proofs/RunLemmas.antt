@@ -1,6 +1,9 @@
 -- From the words of a run to its command.
-use Rattle.std.proofs.Common.{◌≡◌, ◌∙◌, ℕ, List, Option, Result, sym, ap, subst, refl}
+use Rattle.std.proofs.Common.{◌≡◌, ◌∙◌, ℕ, List, [], Option, Result, sym, ap, subst, refl}
 use Rattle.std.specs.Prelude.{Some, None, Ok, Err}
+use Rattle.bake_book.specs.Dressing.{dressed_document}
+use Rattle.bake_definitions.specs.Places.{placed}
+use Rattle.bake_book.specs.Laws.{DocumentsStay}
 use Rattle.edit_script.specs.Scripts.{ReadsAsScript}
 use Rattle.edit_script.specs.declared.command.Command.{Command}
 use Rattle.edit_script.specs.declared.script_kind.ScriptKind.{ScriptKind}
@@ -12,6 +15,7 @@ use Rattle.marker_cli.specs.declared.status.FileAt.TheVariants.{Word, Line}
 use Rattle.marker_cli.specs.declared.status.Status.{Status}
 use Rattle.marker_cli.specs.declared.status.Status.TheVariants.{Usage, WriteFault}
 use Rattle.marker_cli.specs.declared.status.Status.TheVariants as status
+use Rattle.marker_cli.specs.Bake.{BakesTo}
 use Rattle.marker_cli.specs.Documents.{DocumentReadsAs, Reading}
 use Rattle.marker_cli.specs.Edit.{ScriptReadsAs, kind_of}
 use Rattle.marker_cli.specs.Ends.{IsCaused}
@@ -20,7 +24,8 @@ use Rattle.marker_cli.specs.Names.{TellsOfLine}
 use Rattle.marker_cli.specs.Output.{ends}
 use Rattle.marker_cli.specs.Run.{AreReadings, Readings, TextsReadAs, form_output, form_size, output, read_size}
 use Rattle.marker_cli.specs.Turns.{text_in}
-use Rattle.marker_cli.specs.Words.{Form, IsForm, ReadsAsForm, aspect, edit, gen, table}
+use Rattle.marker_cli.specs.Words.{Form, IsForm, ReadsAsForm, aspect, bake, edit, gen, table}
+use Rattle.marker_cli.proofs.BakeLemmas.{SomeOutput, baked_as, placed_document}
 use Rattle.marker_cli.proofs.FormLemmas.{one_form}
 
 -- the output, by the form of the words
@@ -29,12 +34,12 @@ read_as words form None is reads = absurd (reads form is)
 read_as words form (Some other) is reads = ap Some (one_form words form other is reads)
 
 module _ (words : List (List ℕ)) (files : Files) (readings : Readings) (form : Form) (is : IsForm words form) where
-  pub output_of : ReadsAsForm words readings.form → form_output files readings.document readings.script (Some form) ≡ output files readings
+  pub output_of : ReadsAsForm words readings.form → form_output files readings (Some form) ≡ output files readings
   unfolding output
-  output_of reads = sym (ap (λ read. form_output files readings.document readings.script read) (read_as words form readings.form is reads))
+  output_of reads = sym (ap (λ read. form_output files readings read) (read_as words form readings.form is reads))
 
-  pub texts_of : AreReadings words files readings → TextsReadAs files readings.document readings.script (Some form)
-  texts_of reads = subst (λ read. TextsReadAs files readings.document readings.script read) (read_as words form readings.form is reads.form) reads.texts
+  pub texts_of : AreReadings words files readings → TextsReadAs files readings (Some form)
+  texts_of reads = subst (λ read. TextsReadAs files readings read) (read_as words form readings.form is reads.form) reads.texts
 
   pub size_same : ReadsAsForm words readings.form → form_size files readings.script (Some form) ≡ read_size files readings
   size_same reads = sym (ap (λ read. form_size files readings.script read) (read_as words form readings.form is reads))
@@ -58,19 +63,42 @@ some_script files document sheet script kind = by (text_in (Word 3) (files scrip
         (found.0, λ other style lines first second third. let known : text ≡ lines = cc (sym is ∙ third) in subst (λ t. ReadsAsScript kind t found.0) known found.1)
     by (Err refusal) is = (Err 1, λ other style lines first second third. absurd (cc (sym is ∙ third)))
 
-pub some_readings : (words : List (List ℕ)) (files : Files) (form : Option Form) → ReadsAsForm words form → (readings : Readings) × AreReadings words files readings
-some_readings words files None is = (record { form = None; document = Err (1, 1); script = Err 1 }, record { form = is; texts = tt })
-some_readings words files (Some (aspect what document sheet)) is =
+-- and each document a text to which it bakes
+some_baked_text : DocumentsStay → SomeOutput → (files : Files) (document sheet : List ℕ) (reading : Reading) → DocumentReadsAs files document sheet reading → (baked : List ℕ) × BakesTo files document sheet reading baked
+some_baked_text stay some files document sheet (Err place) reads = ([], λ text style tree first second is. absurd (cc is))
+some_baked_text stay some files document sheet (Ok tree) reads = by (text_in (Word 1) (files document)) (text_in (Word 2) (files sheet)) refl refl
+  where
+    by : (given styles : Result (List ℕ) Status) → text_in (Word 1) (files document) ≡ given → text_in (Word 2) (files sheet) ≡ styles
+        → (baked : List ℕ) × BakesTo files document sheet (Ok tree) baked
+    by (Err refusal) styles first_is second_is = ([], λ text style other first second is. absurd (cc (sym first_is ∙ first)))
+    by (Ok text) (Err refusal) first_is second_is = ([], λ other style others first second is. absurd (cc (sym second_is ∙ second)))
+    by (Ok text) (Ok style) first_is second_is =
+        let found = some text (placed (dressed_document style tree)) (placed_document stay text style tree (reads text style first_is second_is)) in (
+          found.0,
+          λ other styled others first second is.
+              let text_same : text ≡ other = cc (sym first_is ∙ first) in
+              let style_same : style ≡ styled = cc (sym second_is ∙ second) in
+              let tree_same : tree ≡ others = cc is in
+              baked_as found.1 text_same style_same tree_same,
+        )
+
+pub some_readings : DocumentsStay → SomeOutput → (words : List (List ℕ)) (files : Files) (form : Option Form) → ReadsAsForm words form → (readings : Readings) × AreReadings words files readings
+some_readings stay some words files None is = (record { form = None; document = Err (1, 1); script = Err 1; baked = [] }, record { form = is; texts = tt })
+some_readings stay some words files (Some (aspect what document sheet)) is =
     let tree = some_tree files document sheet in
-    (record { form = Some (aspect what document sheet); document = tree.0; script = Err 1 }, record { form = is; texts = tree.1 })
-some_readings words files (Some (edit document sheet script depth)) is =
+    (record { form = Some (aspect what document sheet); document = tree.0; script = Err 1; baked = [] }, record { form = is; texts = tree.1 })
+some_readings stay some words files (Some (bake document sheet)) is =
+    let tree = some_tree files document sheet in
+    let text = some_baked_text stay some files document sheet tree.0 tree.1 in
+    (record { form = Some (bake document sheet); document = tree.0; script = Err 1; baked = text.0 }, record { form = is; texts = (tree.1, text.1) })
+some_readings stay some words files (Some (edit document sheet script depth)) is =
     let tree = some_tree files document sheet in
     let commands = some_script files document sheet script (kind_of depth) in
-    (record { form = Some (edit document sheet script depth); document = tree.0; script = commands.0 }, record { form = is; texts = (tree.1, commands.1) })
-some_readings words files (Some (table sheet style from to)) is =
-    (record { form = Some (table sheet style from to); document = Err (1, 1); script = Err 1 }, record { form = is; texts = tt })
-some_readings words files (Some (gen seed count)) is =
-    (record { form = Some (gen seed count); document = Err (1, 1); script = Err 1 }, record { form = is; texts = tt })
+    (record { form = Some (edit document sheet script depth); document = tree.0; script = commands.0; baked = [] }, record { form = is; texts = (tree.1, commands.1) })
+some_readings stay some words files (Some (table sheet style from to)) is =
+    (record { form = Some (table sheet style from to); document = Err (1, 1); script = Err 1; baked = [] }, record { form = is; texts = tt })
+some_readings stay some words files (Some (gen seed count)) is =
+    (record { form = Some (gen seed count); document = Err (1, 1); script = Err 1; baked = [] }, record { form = is; texts = tt })
 
 no_form : (words : List (List ℕ)) (form : Option Form) → ReadsAsForm words None → ReadsAsForm words form → form ≡ None
 no_form words None none reads = refl
@@ -79,7 +107,7 @@ no_form words (Some form) none reads = absurd (none form reads)
 pub output_usage : (words : List (List ℕ)) (files : Files) (readings : Readings) → ReadsAsForm words None → ReadsAsForm words readings.form → ends Usage ≡ output files readings
 unfolding output
 output_usage words files readings none reads =
-    sym (ap (λ form. form_output files readings.document readings.script form) (no_form words readings.form none reads))
+    sym (ap (λ form. form_output files readings form) (no_form words readings.form none reads))
 
 -- words of one form are of no other
 pub not_both : {P : Type 0} (words : List (List ℕ)) (form other : Form) → IsForm words form → IsForm words other → (other ≡ form → ⊥) → P
@@ -103,3 +131,4 @@ message_same words commands others (status.NotUtf8 (Line number) offset) not_lin
 message_same words commands others (status.BadDocument line column) not_line = refl
 message_same words commands others (status.BadScript number) not_line = refl
 message_same words commands others WriteFault not_line = refl
+message_same words commands others (status.LeftOut count) not_line = refl

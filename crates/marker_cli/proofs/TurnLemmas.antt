@@ -1,9 +1,12 @@
 -- The turns of files in a run: a run with this output ends as a failed read exactly where a file whose turn
 -- comes isn't held.
 use Rattle.std.proofs.Common.{◌≡◌, ℕ, ℤ, ◌≤◌, ◌+◌, ◌==◌, Bool, true, false, nat_lt, if◌then◌else◌, List, [], ◌∷◌, ◌++◌, length, Option, Result, IsTrue, refl, sym, ◌∙◌, ap, subst, arith, inl, inr, ◌⊎◌}
-use Rattle.std.specs.Prelude.{Some, None, Ok, Err}
+use Rattle.std.specs.Prelude.{Some, None, Ok, Err, encode_utf8_all}
 use Rattle.std.specs.Str.{chars, is_utf8}
 use Rattle.std.specs.Str.Lossy.{utf8_valid_len}
+use Rattle.bake_book.specs.Dressing.{dressed_document}
+use Rattle.bake_definitions.specs.Places.{left_out}
+use Rattle.baked_text.specs.Walks.{saturated}
 use Rattle.edit_script.specs.Scripts.{AreCommands, ReadsAsScript, command_line, no_line, skipped_line}
 use Rattle.edit_script.specs.declared.action.Action.{Action}
 use Rattle.edit_script.specs.declared.action.Action.TheVariants.{Change, SheetFile, Show, Undo, Redo}
@@ -23,16 +26,17 @@ use Rattle.marker_cli.specs.declared.status.Status.{Status}
 use Rattle.marker_cli.specs.declared.status.Status.TheVariants.{Memory, NotUtf8, ReadFault, TooLarge, WriteFault}
 use Rattle.marker_cli.specs.declared.status.Status.TheVariants as status
 use Rattle.marker_cli.specs.Aspects.{aspect_bytes, aspect_output}
+use Rattle.marker_cli.specs.Bake.{bake_output, with_left_out}
 use Rattle.marker_cli.specs.Documents.{Reading, tree_of}
 use Rattle.marker_cli.specs.Edit.{ScriptReadsAs, action_output, after_edit, after_step, commands_of, edit_output, kept_edits, kind_of, play}
 use Rattle.marker_cli.specs.Ends.{EndsAs, ReadsFailed, no_memory, not_read, not_written, whole}
-use Rattle.marker_cli.specs.Names.{file_of, name_at, sheet_name}
+use Rattle.marker_cli.specs.Names.{file_of, sheet_name}
 use Rattle.marker_cli.specs.Output.{ComesAfter, Output, ends, goes_on, status_of, turn, writes}
 use Rattle.marker_cli.specs.Run.{AreReadings, HasTurn, Readings, TextsReadAs, commands_in, form_output, name_in, output}
 use Rattle.marker_cli.specs.Table.{table_output}
 use Rattle.marker_cli.specs.Turns.{text_in, text_of, with_text}
 use Rattle.marker_cli.specs.Versions.{Versions, begun, redone, undone}
-use Rattle.marker_cli.specs.Words.{Form, ReadsAsForm, aspect, edit, gen, table, word}
+use Rattle.marker_cli.specs.Words.{Form, ReadsAsForm, aspect, bake, edit, gen, table, word}
 
 -- a file that is held doesn't end a run as one that isn't
 text_gives : (file : FileAt) (bytes : List ℕ) (other : FileAt) → text_of file bytes ≡ Err (ReadFault other) → ⊥
@@ -117,6 +121,14 @@ named_from {number} name (command_line {commands = commands} action counts is re
   named_from name rest (λ line more. same line (omega (arith, more)) ∙ ap (λ b. if b then file_of action else sheet_name commands line) (other_line number line more)),
 )
 
+-- texts without a place are no failed read
+left_out_no_fault : (count : ℕ) (file : FileAt) → with_left_out count ≡ ReadFault file → ⊥
+left_out_no_fault count file is = by (count == 0) is
+  where
+    by : (none : Bool) → (if none then status.Ok else status.LeftOut count) ≡ ReadFault file → ⊥
+    by true same = cc same
+    by false same = cc same
+
 -- The turns of each command.
 module _ (files : Files) (name : FileAt → List ℕ) where
   turns_written : (what : Aspect) (style : List ℕ) (reading : Reading)
@@ -128,6 +140,16 @@ module _ (files : Files) (name : FileAt → List ℕ) where
       → AreTurns files name (aspect_output files what document sheet reading)
   turns_aspect what document sheet reading first second =
       turns_text files name (Word 1) _ document first (λ text found. turns_text files name (Word 2) _ sheet second (λ style held. turns_written what style reading))
+
+  turns_baked : (style : List ℕ) (reading : Reading) (baked : List ℕ)
+      → AreTurns files name (goes_on (tree_of reading) (λ tree. writes (encode_utf8_all baked) (ends (with_left_out (saturated (left_out (dressed_document style tree)))))))
+  turns_baked style (Ok tree) baked = at_bytes _ (at_end _ (λ file fault. left_out_no_fault _ file fault))
+  turns_baked style (Err place) baked = at_end _ (λ file fault. cc fault)
+
+  turns_bake : (document sheet : List ℕ) (reading : Reading) (baked : List ℕ) → name (Word 1) ≡ document → name (Word 2) ≡ sheet
+      → AreTurns files name (bake_output files document sheet reading baked)
+  turns_bake document sheet reading baked first second =
+      turns_text files name (Word 1) _ document first (λ text found. turns_text files name (Word 2) _ sheet second (λ style held. turns_baked style reading baked))
 
   turns_table : (sheet style : List ℕ) (from to : ℤ) → name (Word 1) ≡ sheet → AreTurns files name (table_output files sheet style from to)
   turns_table sheet style from to first = turns_text files name (Word 1) _ sheet first (λ text found. at_bytes _ (at_end _ (λ file fault. cc fault)))
@@ -156,28 +178,30 @@ module _ (files : Files) (name : FileAt → List ℕ) where
         turns_tree lines style reading read (reads text style lines found held there) named)))
 
 -- the turns of a run
-turns_form : (words : List (List ℕ)) (files : Files) (document : Reading) (script : Result (List Command) ℕ) (form : Option Form) → ReadsAsForm words form
-    → TextsReadAs files document script form → AreTurns files (λ file. name_at words (commands_in script) file) (form_output files document script form)
-turns_form words files document script None is reads = at_end _ (λ file fault. cc fault)
-turns_form words files document script (Some (aspect Dump doc sheet)) is reads =
-    turns_aspect files _ Dump doc sheet document (ap (λ ws. word ws 1) is.written) (ap (λ ws. word ws 2) is.written)
-turns_form words files document script (Some (aspect Text doc sheet)) is reads =
-    turns_aspect files _ Text doc sheet document (ap (λ ws. word ws 1) is.written) (ap (λ ws. word ws 2) is.written)
-turns_form words files document script (Some (aspect (Why path) doc sheet)) is reads =
-    turns_aspect files _ (Why path) doc sheet document (ap (λ ws. word ws 1) is.written) (ap (λ ws. word ws 2) is.written)
-turns_form words files document script (Some (edit doc sheet commands None)) is reads =
-    turns_script files _ None doc sheet commands document script (ap (λ ws. word ws 1) is.written) (ap (λ ws. word ws 2) is.written) (ap (λ ws. word ws 3) is.written)
+turns_form : (words : List (List ℕ)) (files : Files) (readings : Readings) (form : Option Form) → ReadsAsForm words form → TextsReadAs files readings form
+    → AreTurns files (name_in words readings) (form_output files readings form)
+turns_form words files readings None is reads = at_end _ (λ file fault. cc fault)
+turns_form words files readings (Some (aspect Dump doc sheet)) is reads =
+    turns_aspect files _ Dump doc sheet readings.document (ap (λ ws. word ws 1) is.written) (ap (λ ws. word ws 2) is.written)
+turns_form words files readings (Some (aspect Text doc sheet)) is reads =
+    turns_aspect files _ Text doc sheet readings.document (ap (λ ws. word ws 1) is.written) (ap (λ ws. word ws 2) is.written)
+turns_form words files readings (Some (aspect (Why path) doc sheet)) is reads =
+    turns_aspect files _ (Why path) doc sheet readings.document (ap (λ ws. word ws 1) is.written) (ap (λ ws. word ws 2) is.written)
+turns_form words files readings (Some (bake doc sheet)) is reads =
+    turns_bake files _ doc sheet readings.document readings.baked (ap (λ ws. word ws 1) is.written) (ap (λ ws. word ws 2) is.written)
+turns_form words files readings (Some (edit doc sheet commands None)) is reads =
+    turns_script files _ None doc sheet commands readings.document readings.script (ap (λ ws. word ws 1) is.written) (ap (λ ws. word ws 2) is.written) (ap (λ ws. word ws 3) is.written)
     reads.1 (λ line. refl)
-turns_form words files document script (Some (edit doc sheet commands (Some depth))) is reads =
-    turns_script files _ (Some depth) doc sheet commands document script (ap (λ ws. word ws 1) is.written) (ap (λ ws. word ws 2) is.written) (ap (λ ws. word ws 3) is.written)
+turns_form words files readings (Some (edit doc sheet commands (Some depth))) is reads =
+    turns_script files _ (Some depth) doc sheet commands readings.document readings.script (ap (λ ws. word ws 1) is.written) (ap (λ ws. word ws 2) is.written) (ap (λ ws. word ws 3) is.written)
     reads.1 (λ line. refl)
-turns_form words files document script (Some (table sheet style from to)) is reads = turns_table files _ sheet style from to (ap (λ ws. word ws 1) is.written)
-turns_form words files document script (Some (gen seed count)) is reads = at_bytes _ (at_end _ (λ file fault. cc fault))
+turns_form words files readings (Some (table sheet style from to)) is reads = turns_table files _ sheet style from to (ap (λ ws. word ws 1) is.written)
+turns_form words files readings (Some (gen seed count)) is reads = at_bytes _ (at_end _ (λ file fault. cc fault))
 
 pub turns_run : (words : List (List ℕ)) (files : Files) (readings : Readings) → AreReadings words files readings
     → AreTurns files (name_in words readings) (output files readings)
 unfolding output
-turns_run words files readings reads = turns_form words files readings.document readings.script readings.form reads.form reads.texts
+turns_run words files readings reads = turns_form words files readings readings.form reads.form reads.texts
 
 -- What follows of turns.
 module _ (files : Files) (name : FileAt → List ℕ) (file : FileAt) where

@@ -40,6 +40,7 @@ IsCaused usage read large write (status.NotUtf8 file offset) = Unit {0}
 IsCaused usage read large write (status.BadDocument line column) = Unit {0}
 IsCaused usage read large write (status.BadScript number) = Unit {0}
 IsCaused usage read large write WriteFault = write
+IsCaused usage read large write (status.LeftOut count) = Unit {0}
 
 -- what a part that has no cause outside the program may answer: its value or its refusal, or Memory
 abbrev pub Gives : {A : Type 0} → Result A Status → Result A Status → Type 0
@@ -61,8 +62,22 @@ IsSettled (status.NotUtf8 file offset) = Unit {0}
 IsSettled (status.BadDocument line column) = Unit {0}
 IsSettled (status.BadScript number) = Unit {0}
 IsSettled WriteFault = ⊥
+IsSettled (status.LeftOut count) = Unit {0}
 
--- a part of a run that stops does so with a status other than Ok
+-- with this status all output was written
+abbrev pub IsWhole : Status → Type 0
+IsWhole status.Ok = Unit {0}
+IsWhole Memory = ⊥
+IsWhole status.Usage = ⊥
+IsWhole (ReadFault file) = ⊥
+IsWhole (status.TooLarge file) = ⊥
+IsWhole (status.NotUtf8 file offset) = ⊥
+IsWhole (status.BadDocument line column) = ⊥
+IsWhole (status.BadScript number) = ⊥
+IsWhole WriteFault = ⊥
+IsWhole (status.LeftOut count) = Unit {0}
+
+-- a part of a run that stops does so with a status of a run that wasn't done to its end
 abbrev pub IsStop : Status → Type 0
 IsStop status.Ok = ⊥
 IsStop Memory = Unit {0}
@@ -73,3 +88,4 @@ IsStop (status.NotUtf8 file offset) = Unit {0}
 IsStop (status.BadDocument line column) = Unit {0}
 IsStop (status.BadScript number) = Unit {0}
 IsStop WriteFault = Unit {0}
+IsStop (status.LeftOut count) = ⊥

@@ -1,4 +1,5 @@
 pub mod Aspects
+pub mod Bake
 pub mod Documents
 pub mod Edit
 pub mod Editors

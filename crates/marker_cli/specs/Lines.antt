@@ -20,6 +20,7 @@ code_of (status.NotUtf8 file offset) = 5
 code_of (status.BadDocument line column) = 6
 code_of (status.BadScript number) = 7
 code_of status.WriteFault = 8
+code_of (status.LeftOut count) = 11
 
 -- a line about a file
 abbrev pub about : List (List ℕ) → List Command → FileAt → List ℕ → List ℕ
@@ -29,7 +30,7 @@ about words commands file what = codes "marker: " ++ (encode_utf8_all (name_at w
 abbrev pub message : List (List ℕ) → List Command → Status → List ℕ
 message words commands status.Ok = []
 message words commands status.Memory = codes "marker: out of memory\n"
-message words commands status.Usage = codes "marker: usage: dump DOC SHEET | edit DOC SHEET SCRIPT | table SHEET STYLE FROM TO | gen SEED COUNT | history DOC SHEET SCRIPT DEPTH | text DOC SHEET | why DOC SHEET PATH\n"
+message words commands status.Usage = codes "marker: usage: dump DOC SHEET | edit DOC SHEET SCRIPT | table SHEET STYLE FROM TO | gen SEED COUNT | history DOC SHEET SCRIPT DEPTH | text DOC SHEET | why DOC SHEET PATH | bake DOC SHEET\n"
 message words commands (status.ReadFault file) = about words commands file (codes ": read failed\n")
 message words commands (status.TooLarge file) = about words commands file (codes ": larger than 16777216 bytes\n")
 message words commands (status.NotUtf8 file offset) = about words commands file (codes ": not UTF-8 at " ++ (decimal offset ++ codes "\n"))
@@ -37,6 +38,7 @@ message words commands (status.BadDocument row column) =
     about words commands (Word 1) (codes ":" ++ ((decimal row ++ codes ":") ++ (decimal column ++ codes ": not well-formed\n")))
 message words commands (status.BadScript number) = about words commands (Word 3) (codes ":" ++ (decimal number ++ codes ": bad line\n"))
 message words commands status.WriteFault = codes "marker: write failed\n"
+message words commands (status.LeftOut count) = about words commands (Word 1) (codes ": texts without a place: " ++ (decimal count ++ codes "\n"))
 
 -- all of the bytes went out, or a front of them where a call failed
 pub data GoesOut (failed : Type 0) (before now : Option (List ℕ)) (bytes : List ℕ) : Type 0 where

@@ -42,3 +42,4 @@ TellsOfLine (status.NotUtf8 file offset) = IsOfLine file
 TellsOfLine (status.BadDocument line column) = ⊥
 TellsOfLine (status.BadScript number) = ⊥
 TellsOfLine status.WriteFault = ⊥
+TellsOfLine (status.LeftOut count) = ⊥

@@ -8,53 +8,57 @@ use Rattle.ports.specs.Files.{Files}
 use Rattle.marker_cli.specs.declared.status.FileAt.{FileAt}
 use Rattle.marker_cli.specs.declared.status.Status.TheVariants.{Usage}
 use Rattle.marker_cli.specs.Aspects.{aspect_output}
+use Rattle.marker_cli.specs.Bake.{BakesTo, bake_output}
 use Rattle.marker_cli.specs.Documents.{DocumentReadsAs, Reading}
 use Rattle.marker_cli.specs.Edit.{ScriptReadsAs, edit_output, kind_of}
 use Rattle.marker_cli.specs.Generated.{generated_output}
 use Rattle.marker_cli.specs.Names.{name_at}
 use Rattle.marker_cli.specs.Output.{ComesAfter, Output, ends}
 use Rattle.marker_cli.specs.Table.{table_output}
-use Rattle.marker_cli.specs.Words.{Form, IsForm, ReadsAsForm, aspect, edit, gen, table}
+use Rattle.marker_cli.specs.Words.{Form, IsForm, ReadsAsForm, aspect, bake, edit, gen, table}
 
--- what the words and the texts of a run read as
+-- what the words and the texts of a run read as, and the text that DOC bakes to
 pub record Readings : Type 0 where
   pub form : Option Form
   pub document : Reading
   pub script : Result (List Command) ℕ
+  pub baked : List ℕ
 
--- DOC and SCRIPT of the form read so, as far as it has them
-abbrev pub TextsReadAs : Files → Reading → Result (List Command) ℕ → Option Form → Type 0
-TextsReadAs files document script None = Unit {0}
-TextsReadAs files document script (Some (aspect what doc sheet)) = DocumentReadsAs files doc sheet document
-TextsReadAs files document script (Some (edit doc sheet commands depth)) = DocumentReadsAs files doc sheet document × ScriptReadsAs files doc sheet commands (kind_of depth) script
-TextsReadAs files document script (Some (table sheet style from to)) = Unit {0}
-TextsReadAs files document script (Some (gen seed count)) = Unit {0}
+-- DOC and SCRIPT of words of this form read so, as far as it has them, and where they ask for it DOC bakes to this text
+abbrev pub TextsReadAs : Files → Readings → Option Form → Type 0
+TextsReadAs files readings None = Unit {0}
+TextsReadAs files readings (Some (aspect what doc sheet)) = DocumentReadsAs files doc sheet readings.document
+TextsReadAs files readings (Some (bake doc sheet)) = DocumentReadsAs files doc sheet readings.document × BakesTo files doc sheet readings.document readings.baked
+TextsReadAs files readings (Some (edit doc sheet commands depth)) =
+    DocumentReadsAs files doc sheet readings.document × ScriptReadsAs files doc sheet commands (kind_of depth) readings.script
+TextsReadAs files readings (Some (table sheet style from to)) = Unit {0}
+TextsReadAs files readings (Some (gen seed count)) = Unit {0}
 
--- Over a shelf that tells its files, this holds of what DOC and SCRIPT of this form read as.
-abbrev pub OverTexts : Option Files → Form → (Files → Reading → Result (List Command) ℕ → Type 0) → Type 0
-OverTexts held form Holds =
-    (files : Files) (document : Reading) (script : Result (List Command) ℕ) → held ≡ Some files → TextsReadAs files document script (Some form) → Holds files document script
+-- Over a shelf that tells its files, this holds of what the texts of this form read as.
+abbrev pub OverTexts : Option Files → Form → (Files → Readings → Type 0) → Type 0
+OverTexts held form Holds = (files : Files) (readings : Readings) → held ≡ Some files → TextsReadAs files readings (Some form) → Holds files readings
 
 -- They do read so. Of files this is asked only where they have texts, as well as those that are read before them.
 pub record AreReadings (words : List (List ℕ)) (files : Files) (readings : Readings) : Type 0 where
   pub form : ReadsAsForm words readings.form
-  pub texts : TextsReadAs files readings.document readings.script readings.form
+  pub texts : TextsReadAs files readings readings.form
 
 -- Over a shelf that tells its files, this holds of what the words and the texts of these files read as.
 abbrev pub OverTold : Option Files → List (List ℕ) → (Files → Readings → Type 0) → Type 0
 OverTold held words Holds = (files : Files) (readings : Readings) → held ≡ Some files → AreReadings words files readings → Holds files readings
 
--- the output of words of this form
-abbrev pub form_output : Files → Reading → Result (List Command) ℕ → Option Form → Output
-form_output files document script None = ends Usage
-form_output files document script (Some (aspect what doc sheet)) = aspect_output files what doc sheet document
-form_output files document script (Some (edit doc sheet commands depth)) = edit_output files doc sheet commands depth document script
-form_output files document script (Some (table sheet style from to)) = table_output files sheet style from to
-form_output files document script (Some (gen seed count)) = generated_output seed count
+-- the output of words of this form whose texts read so
+abbrev pub form_output : Files → Readings → Option Form → Output
+form_output files readings None = ends Usage
+form_output files readings (Some (aspect what doc sheet)) = aspect_output files what doc sheet readings.document
+form_output files readings (Some (bake doc sheet)) = bake_output files doc sheet readings.document readings.baked
+form_output files readings (Some (edit doc sheet commands depth)) = edit_output files doc sheet commands depth readings.document readings.script
+form_output files readings (Some (table sheet style from to)) = table_output files sheet style from to
+form_output files readings (Some (gen seed count)) = generated_output seed count
 
 -- the output over these files of words and texts that read so
 unfoldable pub output : Files → Readings → Output
-output files readings = form_output files readings.document readings.script readings.form
+output files readings = form_output files readings readings.form
 
 -- the turn of this file comes in a run with this output
 abbrev pub HasTurn : Output → FileAt → Type 0
@@ -73,7 +77,8 @@ name_in words readings file = name_at words (commands_in readings.script) file
 abbrev pub TakesNoStep : List (List ℕ) → Type 0
 TakesNoStep words = ReadsAsForm words None ⊎ ((sheet style : List ℕ) × (from to : ℤ) × IsForm words (table sheet style from to))
 
--- How many bytes a run that is Ok takes from its files: the whole of each, as often as a word or a command names it.
+-- How many bytes a run that is done to its end takes from its files: the whole of each, as often as a word or a command
+-- names it.
 
 abbrev pub size_of : Files → List ℕ → ℕ
 size_of files name = option_map_or length (files name) 0
@@ -92,6 +97,7 @@ commands_size files (command ∷ commands) = action_size files command.action + 
 abbrev pub form_size : Files → Result (List Command) ℕ → Option Form → ℕ
 form_size files script None = 0
 form_size files script (Some (aspect what doc sheet)) = size_of files doc + size_of files sheet
+form_size files script (Some (bake doc sheet)) = size_of files doc + size_of files sheet
 form_size files script (Some (edit doc sheet commands depth)) = size_of files doc + (size_of files sheet + (size_of files commands + commands_size files (commands_in script)))
 form_size files script (Some (table sheet style from to)) = size_of files sheet
 form_size files script (Some (gen seed count)) = 0

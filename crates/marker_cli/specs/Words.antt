@@ -9,10 +9,11 @@ use Rattle.marker_cli.specs.declared.aspect.Aspect.TheVariants.{Dump, Text, Why}
 use Rattle.marker_cli.specs.declared.form.Form.{Form as ReadForm}
 use Rattle.marker_cli.specs.declared.form.Form.TheVariants as read
 
--- what words ask for: a command with its operands. An aspect of a document is written; the commands of a script are done
--- with a depth, so that as many edits can be undone, or without one.
+-- what words ask for: a command with its operands. An aspect of a document is written; a document is written with its
+-- generated texts put in; the commands of a script are done with a depth, so that as many edits can be undone, or without one.
 pub data Form : Type 0 where
   aspect : (what : Aspect) (document sheet : List ℕ) → Form
+  bake : (document sheet : List ℕ) → Form
   edit : (document sheet script : List ℕ) (depth : Option ℕ) → Form
   table : (sheet style : List ℕ) (from to : ℤ) → Form
   gen : (seed count : ℕ) → Form
@@ -22,6 +23,7 @@ abbrev pub words_of : Form → List (List ℕ)
 words_of (aspect Dump document sheet) = codes "dump" ∷ document ∷ sheet ∷ []
 words_of (aspect Text document sheet) = codes "text" ∷ document ∷ sheet ∷ []
 words_of (aspect (Why path) document sheet) = codes "why" ∷ document ∷ sheet ∷ path_text path ∷ []
+words_of (bake document sheet) = codes "bake" ∷ document ∷ sheet ∷ []
 words_of (edit document sheet script None) = codes "edit" ∷ document ∷ sheet ∷ script ∷ []
 words_of (edit document sheet script (Some depth)) = codes "history" ∷ document ∷ sheet ∷ script ∷ decimal depth ∷ []
 words_of (table sheet style from to) = codes "table" ∷ sheet ∷ style ∷ signed_decimal from ∷ signed_decimal to ∷ []
@@ -55,6 +57,7 @@ abbrev pub IsWithin : Form → Type 0
 IsWithin (aspect Dump document sheet) = Unit {0}
 IsWithin (aspect Text document sheet) = Unit {0}
 IsWithin (aspect (Why path) document sheet) = IsPath path
+IsWithin (bake document sheet) = Unit {0}
 IsWithin (edit document sheet script None) = Unit {0}
 IsWithin (edit document sheet script (Some depth)) = IsDepth depth
 IsWithin (table sheet style from to) = IsTable from to
@@ -72,12 +75,21 @@ ReadsAsForm words None = (form : Form) → IsForm words form → ⊥
 
 abbrev pub IsOfAspect : Form → Type 0
 IsOfAspect (aspect what document sheet) = Unit {0}
+IsOfAspect (bake document sheet) = ⊥
 IsOfAspect (edit document sheet script depth) = ⊥
 IsOfAspect (table sheet style from to) = ⊥
 IsOfAspect (gen seed count) = ⊥
 
+abbrev pub IsOfBake : Form → Type 0
+IsOfBake (aspect what document sheet) = ⊥
+IsOfBake (bake document sheet) = Unit {0}
+IsOfBake (edit document sheet script depth) = ⊥
+IsOfBake (table sheet style from to) = ⊥
+IsOfBake (gen seed count) = ⊥
+
 abbrev pub IsOfTable : Form → Type 0
 IsOfTable (aspect what document sheet) = ⊥
+IsOfTable (bake document sheet) = ⊥
 IsOfTable (edit document sheet script depth) = ⊥
 IsOfTable (table sheet style from to) = Unit {0}
 IsOfTable (gen seed count) = ⊥
@@ -85,6 +97,7 @@ IsOfTable (gen seed count) = ⊥
 -- what the code read of words
 abbrev pub form_of : ReadForm → Form
 form_of (read.Aspect what document sheet) = aspect what document.now sheet.now
+form_of (read.Bake document sheet) = bake document.now sheet.now
 form_of (read.Script document sheet script depth) = edit document.now sheet.now script.now depth
 form_of (read.Table sheet style from to) = table sheet.now style.now from to
 form_of (read.Gen seed count) = gen seed count

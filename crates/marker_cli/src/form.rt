@@ -24,6 +24,11 @@ pub enum Form<'a> {
         document: &'a Text,
         sheet: &'a Text,
     },
+    /// `bake DOC SHEET`
+    Bake {
+        document: &'a Text,
+        sheet: &'a Text,
+    },
     /// `edit DOC SHEET SCRIPT`, or with a depth `history DOC SHEET SCRIPT DEPTH`
     Script {
         document: &'a Text,
@@ -180,6 +185,11 @@ fn read_plain_form(words: &[Text]) -> Option<Form<'_>>
         })
     } else if is_command("text", 3, words) {
         Some(aspect_form(Aspect::Text, words))
+    } else if is_command("bake", 3, words) {
+        Some(Form::Bake {
+            document: &words[1],
+            sheet: &words[2],
+        })
     } else {
         None
     }

@@ -5,9 +5,10 @@
 //! the first sink, and for a status other than Ok a line in the second. `Status::code` is the number with
 //! which the program exits.
 //!
-//! The words are of one of seven forms. `dump DOC SHEET` writes the dump of a document under a sheet, `text DOC SHEET` its
-//! lines of text, and `why DOC SHEET PATH` why an element of it is numbered as it is; `edit DOC SHEET SCRIPT` does the
-//! commands of a script with them, each `show` of which writes the dump of what the accepted edits so far have left;
+//! The words are of one of eight forms. `dump DOC SHEET` writes the dump of a document under a sheet, `text DOC SHEET` its
+//! lines of text, and `why DOC SHEET PATH` why an element of it is numbered as it is; `bake DOC SHEET` writes the document
+//! with its generated texts put in; `edit DOC SHEET SCRIPT` does the commands of a script with a document and a sheet, each
+//! `show` of which writes the dump of what the accepted edits so far have left;
 //! `history DOC SHEET SCRIPT DEPTH` does so too, and undoes and redoes edits, as many as the depth says; `table SHEET STYLE
 //! FROM TO` writes numbers in a counter style; `gen SEED COUNT` does a run that is made up. Files are read in the order of
 //! the words, each checked for its length and for UTF-8, then the document is read, then the script.
@@ -18,6 +19,7 @@
 //! - `Words`: the forms, and which words are of which form;
 //! - `Turns`, `Documents` and `Aspects`: the events of `dump DOC SHEET`, `text DOC SHEET` and `why DOC SHEET
 //!   PATH`;
+//! - `Bake`: those of `bake DOC SHEET`;
 //! - `Versions`: the versions of a document that are there, behind and ahead, and what edits and steps make of them;
 //! - `Edit`: `play`, the events of commands, and with it those of `edit DOC SHEET SCRIPT` and of `history`;
 //! - `Table`, `Generated` and `Tallies`: those of the other two;
@@ -26,14 +28,14 @@
 //! - `Names`, `Lines` and `Statuses`: the line and the code of a status, and the status of a fault.
 //!
 //! A text such as DOC reads as one tree or fails at one place, and this is a relation (`ReadsAsDocument`), which no
-//! definition computes; so it is with SCRIPT (`ReadsAsScript`). So `output` takes what the words and texts read as,
-//! the `Readings`. `run` gives some that are right where it comes to read them (`AreReadings`), and what its other
+//! definition computes; so it is with SCRIPT (`ReadsAsScript`), and with what DOC bakes to (`IsBaked`). So `output` takes what
+//! the words and texts read as, the `Readings`. `run` gives some that are right where it comes to read them (`AreReadings`), and what its other
 //! clauses say of a shelf that tells its files (`OverTold`) holds of all such.
 //!
 //! `Stands` says where a run stands between two of its parts, and `Editors` what a script's document stands for. Another
 //! aspect of a document has a line in `aspect_bytes` and `words_of`. A command that joins has an `.._output` of its own in
 //! `specs/`, and a line in `words_of`, `TextsReadAs`, `form_output` and `form_size`; a status that joins has a line in
-//! `code_of`, `message`, `IsCaused`, `IsStop`, `IsSettled` and `TellsOfLine`.
+//! `code_of`, `message`, `IsCaused`, `IsStop`, `IsSettled`, `IsWhole` and `TellsOfLine`.
 //!
 //! The words, the order of refusals and the lines are our own.
 //!
@@ -44,6 +46,7 @@
 #![tactic(auto)]
 
 pub mod aspect;
+mod bake;
 mod edit;
 mod editor;
 mod fetch_text;

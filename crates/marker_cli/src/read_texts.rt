@@ -7,6 +7,7 @@ ghost use Rattle.edit_script.specs.Scripts.{FailsAsScript, IsScript, ReadsAsScri
 ghost use Rattle.edit_script.specs.declared.command.Command as command;
 ghost use Rattle.node_arena.specs.Document.{HasElementRoot};
 ghost use Rattle.xhtml_reader.specs.Readings.{ReadsAsDocument};
+ghost use Rattle.xml_definitions.specs.Texts.{IsDocumentText};
 ghost use Rattle.marker_cli.specs.Documents.{Reading, tree_of};
 ghost use Rattle.marker_cli.specs.Edit.{commands_of, kind_of};
 ghost use Rattle.marker_cli.specs.Ends.{Gives, IsCaused, IsStop, part_status};
@@ -26,6 +27,7 @@ use xhtml_reader::read_document;
 /// The tree of a document.
 pub fn read_tree(alloc: Global, text: &str) -> Result<Tree, Status>
     ensures tree { (reading : Reading) → ReadsAsDocument (chars text.now) reading → Gives (tree_of reading) result }
+    ensures found { IfOk result (IsDocumentText (chars text.now)) }
     ensures element { IfOk result HasElementRoot }
     ensures cause { IsCaused ⊥ ⊥ ⊥ ⊥ (part_status result) }
     ensures file { ¬ (TellsOfLine (part_status result)) }

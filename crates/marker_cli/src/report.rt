@@ -119,6 +119,26 @@ fn put_bad_line<E: Sink>(
     put_number(number, b": bad line\n", err)
 }
 
+fn put_left_out<E: Sink>(
+    words: &[Text],
+    commands: &[Command],
+    count: usize,
+    err: &mut E,
+) -> Result<(), Failed>
+    ensures ok { OnOk result (E.out err.new ≡ grown (E.out err.old) (message words.now commands.now (status.LeftOut count))) }
+    ensures failed { OnErr result (GrowsByFront (E.out err.old) (E.out err.new) (message words.now commands.now (status.LeftOut count))) }
+    ensures cause { HasCause (E.faults err.old) (E.faults err.new) result }
+{
+    put_about(
+        words,
+        commands,
+        FileAt::Word(1),
+        b": texts without a place: ",
+        err,
+    )?;
+    put_number(count, b"\n", err)
+}
+
 fn put_message<E: Sink>(
     words: &[Text],
     commands: &[Command],
@@ -134,7 +154,7 @@ fn put_message<E: Sink>(
         Status::Memory => put_all(err, b"marker: out of memory\n"),
         Status::Usage => put_all(
             err,
-            b"marker: usage: dump DOC SHEET | edit DOC SHEET SCRIPT | table SHEET STYLE FROM TO | gen SEED COUNT | history DOC SHEET SCRIPT DEPTH | text DOC SHEET | why DOC SHEET PATH\n",
+            b"marker: usage: dump DOC SHEET | edit DOC SHEET SCRIPT | table SHEET STYLE FROM TO | gen SEED COUNT | history DOC SHEET SCRIPT DEPTH | text DOC SHEET | why DOC SHEET PATH | bake DOC SHEET\n",
         ),
         Status::ReadFault { file } => put_about(words, commands, file, b": read failed\n", err),
         Status::TooLarge { file } => {
@@ -150,6 +170,7 @@ fn put_message<E: Sink>(
         Status::BadDocument { line, column } => put_malformed(words, commands, line, column, err),
         Status::BadScript { number } => put_bad_line(words, commands, number, err),
         Status::WriteFault => put_all(err, b"marker: write failed\n"),
+        Status::LeftOut { count } => put_left_out(words, commands, count, err),
     }
 }
 

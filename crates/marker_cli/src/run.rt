@@ -1,29 +1,33 @@
 //! A run.
 
-ghost use Rattle.std.specs.Prelude.{◌≡◌, ◌⊎◌, ◌≤◌, ◌+◌, ℕ, false, [], IfErr, List, IsTrue, None, Ok, OnOk, Some};
+ghost use Rattle.std.specs.Prelude.{◌≡◌, ◌⊎◌, ◌≤◌, ◌+◌, ℕ, false, [], List, IsTrue, None, Ok, Some};
 ghost use Rattle.ports.specs.Causes.{Raises, Rose, RoseAbove};
 ghost use Rattle.ports.specs.Files.{Files};
 ghost use Rattle.ports.specs.Grown.{grown};
 ghost use Rattle.edit_script.specs.declared.command.Command as command;
 ghost use Rattle.marker_cli.specs.Aspects.{most_steps};
-ghost use Rattle.marker_cli.specs.Ends.{EndsAs, IsCaused, IsSettled, IsStop, ReadsFailed, part_status};
+ghost use Rattle.marker_cli.specs.Bake.{most_bake_steps};
+ghost use Rattle.marker_cli.specs.Ends.{EndsAs, IsCaused, IsSettled, IsWhole, ReadsFailed, part_status};
 ghost use Rattle.marker_cli.specs.Lines.{GoesOut, message};
 ghost use Rattle.marker_cli.specs.Output.{bytes_of, status_of};
 ghost use Rattle.marker_cli.specs.Names.{TellsOfLine};
 ghost use Rattle.marker_cli.specs.Run.{AreReadings, HasTurn, OverTexts, OverTold, Readings, TakesNoStep, commands_in, form_output, form_size, name_in, output, read_size};
-ghost use Rattle.marker_cli.specs.Words.{IsForm, IsOfAspect, IsOfTable, ReadsAsForm, form_of};
+ghost use Rattle.marker_cli.specs.Words.{IsForm, IsOfAspect, IsOfBake, IsOfTable, ReadsAsForm, form_of};
 ghost use Rattle.marker_cli.specs.Words as forms;
 ghost use Rattle.marker_cli.specs.declared.aspect.Aspect.{Aspect};
 ghost use Rattle.marker_cli.specs.declared.status.FileAt.{FileAt};
 ghost use Rattle.marker_cli.specs.declared.status.Status.TheVariants as status;
 
 use crate::aspect::write_aspect;
+use crate::bake::write_baked;
 use crate::edit::edit;
 use crate::form::{Form, read_form};
 use crate::generated::generated;
 use crate::report::report;
 use crate::status::Status;
 use crate::table::table;
+use bake_book::laws::documents_stay;
+use baked_text::laws::some_output;
 use edit_script::command::Command;
 use plain_types::list::List;
 use plain_types::text::Text;
@@ -51,18 +55,19 @@ fn perform<S: Shelf, O: Sink, L: Ledger>(
     out: &mut O,
     steps: &mut Steps<L>,
 ) -> Result<(), Status>
-    ensures told { OverTexts (S.held shelf.old) (form_of form.entry) (λ files document script.
+    ensures told { OverTexts (S.held shelf.old) (form_of form.entry) (λ files readings.
         EndsAs (ReadsFailed (S.honest shelf.old) (S.faults shelf.old) (S.faults shelf.new)) (Rose (O.faults out.old) (O.faults out.new))
-        (form_output files document script (Some (form_of form.entry))) (O.out out.old) (O.out out.new) (part_status result)) }
-    ensures commands { OverTexts (S.held shelf.old) (form_of form.entry) (λ files document script. TellsOfLine (part_status result) → script ≡ Ok commands.new) }
+        (form_output files readings (Some (form_of form.entry))) (O.out out.old) (O.out out.new) (part_status result)) }
+    ensures commands { OverTexts (S.held shelf.old) (form_of form.entry) (λ files readings. TellsOfLine (part_status result) → readings.script ≡ Ok commands.new) }
     ensures cause { IsCaused ⊥ (Rose (S.faults shelf.old) (S.faults shelf.new)) (RoseAbove 16777216 (S.taken shelf.old) (S.taken shelf.new))
         (Rose (O.faults out.old) (O.faults out.new)) (part_status result) }
-    ensures stops { IfErr result IsStop }
     ensures faults { O.faults out.old ≤ O.faults out.new }
-    ensures reads { OverTexts (S.held shelf.old) (form_of form.entry) (λ files document script.
-        OnOk result (Raises (S.taken shelf.old) (S.taken shelf.new) (form_size files script (Some (form_of form.entry))))) }
-    ensures steps { OverTexts (S.held shelf.old) (form_of form.entry) (λ files document script.
-        IsOfAspect (form_of form.entry) → steps.new ≤ steps.old + most_steps document) }
+    ensures reads { OverTexts (S.held shelf.old) (form_of form.entry) (λ files readings.
+        IsWhole (part_status result) → Raises (S.taken shelf.old) (S.taken shelf.new) (form_size files readings.script (Some (form_of form.entry)))) }
+    ensures steps { OverTexts (S.held shelf.old) (form_of form.entry) (λ files readings.
+        IsOfAspect (form_of form.entry) → steps.new ≤ steps.old + most_steps readings.document) }
+    ensures bake_steps { OverTexts (S.held shelf.old) (form_of form.entry) (λ files readings.
+        IsOfBake (form_of form.entry) → steps.new ≤ steps.old + most_bake_steps readings.document) }
     ensures no_steps { IsOfTable (form_of form.entry) → steps.new ≡ steps.old }
 {
     match form {
@@ -73,6 +78,14 @@ fn perform<S: Shelf, O: Sink, L: Ledger>(
         } => write_aspect(
             alloc,
             &aspect,
+            document.as_str(),
+            sheet.as_str(),
+            shelf,
+            out,
+            steps,
+        ),
+        Form::Bake { document, sheet } => write_baked(
+            alloc,
             document.as_str(),
             sheet.as_str(),
             shelf,
@@ -125,11 +138,16 @@ fn perform_words<S: Shelf, O: Sink, L: Ledger>(
     ensures no_form { ReadsAsForm words.now None → result ≡ status.Usage }
     ensures no_output { result ≡ status.Usage → O.out out.new ≡ O.out out.old }
     ensures reads { OverTold (S.held shelf.old) words.now (λ files readings.
-        result ≡ status.Ok → Raises (S.taken shelf.old) (S.taken shelf.new) (read_size files readings)) }
+        IsWhole result → Raises (S.taken shelf.old) (S.taken shelf.new) (read_size files readings)) }
     ensures steps { OverTold (S.held shelf.old) words.now (λ files readings.
         (aspect : Aspect) (document sheet : List ℕ) → IsForm words.now (forms.aspect aspect document sheet) → steps.new ≤ steps.old + most_steps readings.document) }
+    ensures bake_steps { OverTold (S.held shelf.old) words.now (λ files readings.
+        (document sheet : List ℕ) → IsForm words.now (forms.bake document sheet) → steps.new ≤ steps.old + most_bake_steps readings.document) }
     ensures no_steps { TakesNoStep words.now → steps.new ≡ steps.old }
 {
+    // Each document bakes to a text: so what is to be baked has a reading too.
+    documents_stay();
+    some_output();
     match read_form(alloc, words) {
         Ok(Some(form)) => status_of(perform(alloc, form, commands, shelf, out, steps)),
         Ok(None) => Status::Usage,
@@ -151,6 +169,7 @@ fn flushed<O: Sink>(outcome: Status, out: &mut O) -> Status
             outcome
         }
         Status::Ok
+        | Status::LeftOut { .. }
         | Status::ReadFault { .. }
         | Status::TooLarge { .. }
         | Status::NotUtf8 { .. }
@@ -167,10 +186,10 @@ fn flushed<O: Sink>(outcome: Status, out: &mut O) -> Status
 /// The words are the arguments of the program without its name. They are told apart first, then the files
 /// are read in their order, each checked for its length and for UTF-8 before the next one, then the document is
 /// read, and then the script; its commands are done in their order, and the file of a `sheet` line is read when
-/// that line is done. The first status other than Ok ends the run; what was written until then stays. A refused
-/// edit, an undo or redo that finds nothing, and a path to no element are told in the output and end nothing. At the
-/// end `out` is flushed, and where that fails the status is `WriteFault`, if it isn't `Usage` or `Memory`. A fault of
-/// `err` changes no status.
+/// that line is done. The first fault ends the run, and its status tells it; what was written until then stays. A refused
+/// edit, an undo or redo that finds nothing, and a path to no element are told in the output and end nothing. Where `bake`
+/// leaves texts out, all else is written, and the status, `LeftOut`, tells how many. At the end `out` is flushed, and where
+/// that fails the status is `WriteFault`, if it isn't `Usage` or `Memory`. A fault of `err` changes no status.
 ///
 /// It takes time linear in the files and the output, and what one evaluation of the document costs; for each accepted
 /// edit, undo, redo and `sheet` line what `Engine::apply` of such an edit costs. It takes memory for the files, the commands,
@@ -200,7 +219,7 @@ pub fn run<S: Shelf, O: Sink, E: Sink, L: Ledger>(
         (file : FileAt) → IsTrue (S.honest shelf.old) → HasTurn (output files readings) file → files (name_in words.now readings file) ≡ None
         → (result ≡ status.Memory) ⊎ (result ≡ status.WriteFault) ⊎ (result ≡ status.ReadFault file)) }
     ensures reads { OverTold (S.held shelf.old) words.now (λ files readings.
-        result ≡ status.Ok → Raises (S.taken shelf.old) (S.taken shelf.new) (read_size files readings)) }
+        IsWhole result → Raises (S.taken shelf.old) (S.taken shelf.new) (read_size files readings)) }
     ensures sent { IsSettled result → O.kept out.new ≡ false }
     ensures usage { result ≡ status.Usage → ReadsAsForm words.now None }
     ensures no_form { ReadsAsForm words.now None → result ≡ status.Usage }
@@ -214,6 +233,8 @@ pub fn run<S: Shelf, O: Sink, E: Sink, L: Ledger>(
         TellsOfLine result → GoesOut (Rose (E.faults err.old) (E.faults err.new)) (E.out err.old) (E.out err.new) (message words.now (commands_in readings.script) result)) }
     ensures steps { OverTold (S.held shelf.old) words.now (λ files readings.
         (aspect : Aspect) (document sheet : List ℕ) → IsForm words.now (forms.aspect aspect document sheet) → steps.new ≤ steps.old + most_steps readings.document) }
+    ensures bake_steps { OverTold (S.held shelf.old) words.now (λ files readings.
+        (document sheet : List ℕ) → IsForm words.now (forms.bake document sheet) → steps.new ≤ steps.old + most_bake_steps readings.document) }
     ensures no_steps { TakesNoStep words.now → steps.new ≡ steps.old }
 {
     let mut commands = List::new(alloc);

@@ -40,6 +40,8 @@ pub enum Status {
     BadScript { number: usize },
     /// A write of the output failed.
     WriteFault,
+    /// All output was written, but so many texts found no place in it: their elements take no `span`.
+    LeftOut { count: usize },
 }
 
 impl Status {
@@ -57,6 +59,7 @@ impl Status {
             Status::BadDocument { .. } => 6,
             Status::BadScript { .. } => 7,
             Status::WriteFault => 8,
+            Status::LeftOut { .. } => 11,
         }
     }
 }

@@ -8,6 +8,7 @@
 //! | `histories` | runs of `history DOC SHEET SCRIPT DEPTH` |
 //! | `style_elements`, `style_attributes` | runs of both over documents that have these |
 //! | `texts`, `accounts` | runs of `text DOC SHEET` and of `why DOC SHEET PATH` |
+//! | `baked` | runs of `bake DOC SHEET` |
 //! | `tables` | runs of `table SHEET STYLE FROM TO`, with the author's styles |
 //! | `predefined` | the same with the predefined styles, at the ends of their ranges |
 //!
@@ -18,6 +19,8 @@
 
 #[cfg(test)]
 mod accounts;
+#[cfg(test)]
+mod baked;
 #[cfg(test)]
 mod dumps;
 #[cfg(test)]

@@ -2,7 +2,7 @@ use Rattle.std.proofs.Common.{◌≡◌, ◌∙◌, [], ◌∷◌, codes, rules,
 use mir.Val.{to_z, of_z}
 use Rattle.std.proofs.lemmas.Int.{to_z-of_z}
 use Rattle.std.specs.Prelude.{None}
-use Rattle.marker_cli.proofs.FormLemmas.{dump_name, edit_name, fits_count, five_words, four_words, gen_name, gen_none, history_name, history_none, no_command, none_read, table_name, same_form, table_none, text_name, three_listed, three_words}
+use Rattle.marker_cli.proofs.FormLemmas.{bake_name, dump_name, edit_name, fits_count, five_words, four_words, gen_name, gen_none, history_name, history_none, no_command, none_read, table_name, same_form, table_none, text_name, three_listed, three_words}
 use Rattle.marker_cli.proofs.form.read_plain_form.Goals as goal
 
 pub returns-then-is_command : goal.returns-then-is_command
@@ -102,8 +102,19 @@ returns-then-is_command-6 c =
       form = same_form c.aspect_form-then-is_command-6.ensures.form (record { written = three_listed c.args.words.now (codes "text") (both.0, both.1 ∙ text_name); within = tt });
     }
 
-pub returns-else-is_command-6 : goal.returns-else-is_command-6
-returns-else-is_command-6 c =
+pub returns-then-is_command-7 : goal.returns-then-is_command-7
+returns-then-is_command-7 c =
+    let both = c.is_command-else-is_command-6.ensures.same.0 c.if-is_command-7.true in
+    record {
+      form = record {
+        written = three_words c.args.words.now (codes "bake") c.index-words-1-then-is_command-7.result c.index-words-2-then-is_command-7.result both.0 (both.1 ∙ bake_name)
+            c.index-words-1-then-is_command-7.is c.index-words-2-then-is_command-7.is;
+        within = tt;
+      };
+    }
+
+pub returns-else-is_command-7 : goal.returns-else-is_command-7
+returns-else-is_command-7 c =
     record {
       form = no_command c.args.words.now
           (λ both. cc (sym c.if-is_command.false ∙ c.is_command.ensures.same.1 (both.0, both.1 ∙ sym dump_name)))
@@ -112,5 +123,6 @@ returns-else-is_command-6 c =
           (λ both. cc (sym c.if-is_command-4.false ∙ c.is_command-else-is_command-3.ensures.same.1 (both.0, both.1 ∙ sym gen_name)))
           (λ both. cc (sym c.if-is_command-5.false ∙ c.is_command-else-is_command-4.ensures.same.1 (both.0, both.1 ∙ sym history_name)))
           (λ both. cc (sym c.if-is_command-6.false ∙ c.is_command-else-is_command-5.ensures.same.1 (both.0, both.1 ∙ sym text_name)))
+          (λ both. cc (sym c.if-is_command-7.false ∙ c.is_command-else-is_command-6.ensures.same.1 (both.0, both.1 ∙ sym bake_name)))
           c.requires.other;
     }

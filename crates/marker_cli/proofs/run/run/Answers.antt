@@ -4,7 +4,7 @@ use Rattle.ports.proofs.CauseLemmas.{rose_after, rose_before}
 use Rattle.marker_cli.specs.Lines.{GoesOut, message}
 use Rattle.marker_cli.specs.Run.{commands_in, name_in}
 use Rattle.marker_cli.proofs.EndsLemmas.{completes}
-use Rattle.marker_cli.proofs.FlushLemmas.{ends_flushed, stays, tells_before, was_before, write_rose}
+use Rattle.marker_cli.proofs.FlushLemmas.{ends_flushed, stays, tells_before, was_before, was_whole, write_rose}
 use Rattle.marker_cli.proofs.RunLemmas.{cause_as, message_same}
 use Rattle.marker_cli.proofs.TurnLemmas.{ends_missing, ends_not_held, ends_turn, turns_run}
 use Rattle.marker_cli.proofs.run.run.Goals as goal
@@ -71,4 +71,4 @@ returns-clause-any_line g c = (c.as_slice.result.now, c.report.ensures.line)
 
 pub returns-clause-reads : goal.returns-clause-reads
 returns-clause-reads g c files readings told reads is =
-    c.perform_words-status.ensures.reads files readings told reads (was_before _ _ _ _ c.flushed-status.ensures.outcome is (λ e. cc e))
+    c.perform_words-status.ensures.reads files readings told reads (was_whole _ _ _ c.flushed-status.ensures.outcome is)

@@ -1,0 +1,25 @@
+use Rattle.std.proofs.Common.{refl, codes, ◌++◌}
+use Rattle.std.specs.Fmt.{decimal}
+use Rattle.std.proofs.lemmas.Result.{on_err_weaker, on_ok_weaker}
+use Rattle.ports.proofs.GrownLemmas.{front_last, front_step, on_err}
+use Rattle.marker_cli.specs.declared.status.FileAt.TheVariants.{Word}
+use Rattle.marker_cli.specs.Lines.{about}
+use Rattle.marker_cli.proofs.LineLemmas.{front_about, grown_about}
+use Rattle.marker_cli.proofs.report.put_left_out.Goals as goal
+
+pub returns-in_err-put_about-clause-failed : goal.returns-in_err-put_about-clause-failed
+returns-in_err-put_about-clause-failed g c =
+    on_err _ (front_about c.args.words.now c.args.commands.now (Word 1) (codes ": texts without a place: ") (decimal c.args.count ++ codes "\n")
+    (front_last {piece = about c.args.words.now c.args.commands.now (Word 1) (codes ": texts without a place: ")} _ c.in_err-put_about.ensures.failed refl))
+
+pub returns-clause-ok : goal.returns-clause-ok
+returns-clause-ok g c =
+    on_ok_weaker c.put_number.result (λ h. grown_about _ _ _ c.args.words.now c.args.commands.now (Word 1) (codes ": texts without a place: ") (decimal c.args.count ++ codes "\n") c.in_ok-put_about.ensures.ok h)
+    c.put_number.ensures.ok
+
+pub returns-clause-failed : goal.returns-clause-failed
+returns-clause-failed g c =
+    on_err_weaker c.put_number.result
+    (λ h. front_about c.args.words.now c.args.commands.now (Word 1) (codes ": texts without a place: ") (decimal c.args.count ++ codes "\n")
+    (front_step {piece = about c.args.words.now c.args.commands.now (Word 1) (codes ": texts without a place: ")} c.in_ok-put_about.ensures.ok refl h))
+    c.put_number.ensures.failed
