@@ -82,11 +82,3 @@ one_history_action line action other one (edit_command is) undo_command = absurd
 one_history_action line action other one (edit_command is) redo_command = absurd (redo_no_edit action is)
 one_history_action line action other one undo_command too = sym (undo_action line other refl too)
 one_history_action line action other one redo_command too = sym (redo_action line other refl too)
-
--- A script of edits undoes and redoes nothing.
-
-pub no_undo : (line : List ℕ) → IsEditCommand line Undo → ⊥
-no_undo line is = elim is [ ]
-
-pub no_redo : (line : List ℕ) → IsEditCommand line Redo → ⊥
-no_redo line is = elim is [ ]

@@ -1,3 +1,4 @@
+mod BookLaws
 mod CommandLaws
 mod EditLaws
 mod FaultLaws

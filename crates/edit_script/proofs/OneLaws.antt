@@ -4,9 +4,10 @@ use Rattle.std.specs.Prelude.{Result, Ok, Err}
 use Rattle.edit_script.specs.declared.action.Action.{Action}
 use Rattle.edit_script.specs.declared.command.Command.{Command}
 use Rattle.edit_script.specs.declared.script_kind.ScriptKind.{ScriptKind}
-use Rattle.edit_script.specs.declared.script_kind.ScriptKind.TheVariants.{Edits, History}
+use Rattle.edit_script.specs.declared.script_kind.ScriptKind.TheVariants.{Edits, History, Book}
 use Rattle.edit_script.specs.Lines.{is_skipped}
 use Rattle.edit_script.specs.Scripts.{AreCommands, no_line, skipped_line, command_line, IsBad, IsCommand, IsEditCommand, IsFirstBad, IsGood, bad_here, bad_later, command, ReadsAsScript, script_lines}
+use Rattle.edit_script.proofs.BookLaws.{one_book_action}
 use Rattle.edit_script.proofs.CommandLaws.{command_operands, command_parts, command_reads}
 use Rattle.edit_script.proofs.HistoryLaws.{one_history_action}
 use Rattle.edit_script.proofs.OperandLaws.{one_operands}
@@ -19,6 +20,7 @@ one_edit_action line action other is too =
 pub one_action : (kind : ScriptKind) (line : List ℕ) (action other : Action) → IsCommand kind line action → IsCommand kind line other → action ≡ other
 one_action Edits line action other is too = one_edit_action line action other is too
 one_action History line action other is too = one_history_action line action other (one_edit_action line) is too
+one_action Book line action other is too = one_book_action line action other (one_edit_action line) is too
 
 not_both : {P : Type 0} (line : List ℕ) → is_skipped line ≡ true → is_skipped line ≡ false → P
 not_both line skipped counts = absurd (let e = sym skipped ∙ counts in cc)

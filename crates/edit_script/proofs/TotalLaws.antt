@@ -23,13 +23,14 @@ use Rattle.xhtml_reader.specs.Readings.{ReadsAsFragment}
 use Rattle.edit_script.specs.Lines.{is_skipped}
 use Rattle.edit_script.specs.Machinery.Operands.{AreOperands, keyword_at, of_show}
 use Rattle.edit_script.specs.Machinery.Words.{AreParts, ArePositions, IsNameAndValue, IsNameText, IsPositionFront, IsPositionText, IsWordAndRest, positions_text, with_value, without_value}
-use Rattle.edit_script.specs.Scripts.{AreCommands, IsCommand, IsEditCommand, IsFirstBad, IsHistoryCommand, IsPathText, ReadsAsScript, bad_here, bad_later, command, command_line, edit_command, no_line, redo_command, script_lines, skipped_line, undo_command}
+use Rattle.edit_script.specs.Scripts.{AreCommands, IsBookCommand, IsCommand, IsEditCommand, IsFirstBad, IsHistoryCommand, IsPathText, ReadsAsScript, bad_here, bad_later, command, command_line, document_command, edit_command, no_line, redo_command, script_lines, skipped_line, undo_command}
 use Rattle.edit_script.specs.declared.action.Action.TheVariants as actions
 use Rattle.edit_script.specs.declared.command.Command.{Command}
 use Rattle.edit_script.specs.declared.keyword.Keyword.{Keyword}
 use Rattle.edit_script.specs.declared.keyword.Keyword.TheVariants.{Insert, Remove, Move, Set, Unset, Sheet, Show}
 use Rattle.edit_script.specs.declared.script_kind.ScriptKind.{ScriptKind}
-use Rattle.edit_script.specs.declared.script_kind.ScriptKind.TheVariants.{Edits, History}
+use Rattle.edit_script.specs.declared.script_kind.ScriptKind.TheVariants.{Edits, History, Book}
+use Rattle.edit_script.proofs.BookLaws.{in_found, in_nowhere, only_document}
 use Rattle.edit_script.proofs.CommandLaws.{command_operands, found_command, no_keyword}
 use Rattle.edit_script.proofs.HistoryLaws.{only_edit}
 use Rattle.edit_script.proofs.OperandLaws.{insert_index, insert_is, insert_markup, insert_path, insert_rest, insert_split, move_from, move_index, move_is, move_parent, move_rest, move_split, remove_is, remove_path, set_is, set_name, set_path, set_split, sheet_is, sheet_some, show_none, unset_is, unset_name, unset_path, unset_split}
@@ -211,9 +212,18 @@ history_decided line = elim (cases_Bool (bytes_eq line (codes "undo"))) [
   ]
 ]
 
+book_decided : (line : List ℕ) → Decided (IsBookCommand line)
+book_decided line = told (past_text (codes "in ") line) refl
+  where
+    told : (o : Option (List ℕ)) → past_text (codes "in ") line ≡ o → Decided (IsBookCommand line)
+    told None e = part_of (edit_decided line) (λ action is. (action, only_document line action e is)) (λ action is. found action (document_command is))
+    told (Some []) e = none (in_nowhere line e)
+    told (Some (c ∷ cs)) e = found (actions.Enter (c ∷ cs)) (in_found line (c ∷ cs) (c ∷ cs) e (λ e. cc) refl)
+
 command_decided : (kind : ScriptKind) (line : List ℕ) → Decided (IsCommand kind line)
 command_decided Edits line = edit_decided line
 command_decided History line = history_decided line
+command_decided Book line = book_decided line
 
 -- the lines, from this number on, are commands, or one is bad
 abbrev LinesRead : ScriptKind → ℕ → List (List ℕ) → Type 0

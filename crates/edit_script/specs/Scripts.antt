@@ -10,10 +10,10 @@ use Rattle.xml_definitions.specs.Normalized.{without_mark}
 use Rattle.xml_definitions.specs.Spelling.{IsName}
 use Rattle.xml_definitions.specs.Texts.{IsFragmentText}
 use Rattle.edit_script.specs.declared.action.Action.{Action}
-use Rattle.edit_script.specs.declared.action.Action.TheVariants.{Change, SheetFile, Show, Undo, Redo}
+use Rattle.edit_script.specs.declared.action.Action.TheVariants.{Change, SheetFile, Show, Undo, Redo, Enter}
 use Rattle.edit_script.specs.declared.command.Command.{Command}
 use Rattle.edit_script.specs.declared.script_kind.ScriptKind.{ScriptKind}
-use Rattle.edit_script.specs.declared.script_kind.ScriptKind.TheVariants.{Edits, History}
+use Rattle.edit_script.specs.declared.script_kind.ScriptKind.TheVariants.{Edits, History, Book}
 use Rattle.edit_script.specs.Lines.{is_skipped, lines}
 
 -- Commands.
@@ -71,10 +71,17 @@ pub data IsHistoryCommand : List ℕ → Action → Type 0 where
   -- redo
   redo_command : IsHistoryCommand (codes "redo") Redo
 
+-- The line is this command of the script of a book: one of a script of edits, or this one. NAME is all that is left of the line, as it stands.
+pub data IsBookCommand : List ℕ → Action → Type 0 where
+  document_command : {line : List ℕ} {action : Action} → IsEditCommand line action → IsBookCommand line action
+  -- in NAME
+  in_command : (name : List ℕ) → name ≢ [] → IsBookCommand (spaced (codes "in" ∷ name ∷ [])) (Enter name)
+
 -- the line is this command of a script of this kind
 abbrev pub IsCommand : ScriptKind → List ℕ → Action → Type 0
 IsCommand Edits line action = IsEditCommand line action
 IsCommand History line action = IsHistoryCommand line action
+IsCommand Book line action = IsBookCommand line action
 
 -- the line is neither skipped nor a command
 pub record IsBad (kind : ScriptKind) (line : List ℕ) : Type 0 where

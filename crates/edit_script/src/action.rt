@@ -12,8 +12,11 @@ pub enum Action {
     SheetFile(Text),
     /// The document's texts are shown as they then are.
     Show,
-    /// The last accepted edit that is not undone is undone. No script of edits has this.
+    /// The last accepted edit that is not undone is undone. Only a script with a history has this.
     Undo,
-    /// The last edit that was undone is done again. No script of edits has this.
+    /// The last edit that was undone is done again. Only a script with a history has this.
     Redo,
+    /// The document of this name, which has a character at least, becomes the present one. Only the script of a book
+    /// has this.
+    Enter(Text),
 }

@@ -2,21 +2,23 @@
 
 ghost use Rattle.std.specs.Prelude.{◌≡◌, ◌∷◌, [], ℕ, List, Result};
 ghost use Rattle.edit_script.specs.Draws.{quotients};
-ghost use Rattle.edit_script.specs.Scripts.{IsCommand, IsEditCommand, ReadsAsScript};
+ghost use Rattle.edit_script.specs.Scripts.{IsCommand, ReadsAsScript};
 ghost use Rattle.edit_script.specs.declared.action.Action.{Action};
 ghost use Rattle.edit_script.specs.declared.action.Action.TheVariants as actions;
 ghost use Rattle.edit_script.specs.declared.command.Command.{Command};
 ghost use Rattle.edit_script.specs.declared.script_kind.ScriptKind.{ScriptKind};
+ghost use Rattle.edit_script.specs.declared.script_kind.ScriptKind.TheVariants.{History, Book};
 
 /// A line is one command at most.
 pub fn one_action()
     ensures { (kind : ScriptKind) (line : List ℕ) (action other : Action) → IsCommand kind line action → IsCommand kind line other → action ≡ other }
 {}
 
-/// No line of a script of edits undoes or redoes one.
-pub fn edits_stay_done()
-    ensures undo { (line : List ℕ) → IsEditCommand line actions.Undo → ⊥ }
-    ensures redo { (line : List ℕ) → IsEditCommand line actions.Redo → ⊥ }
+/// Only a script with a history undoes and redoes edits, and only the script of a book turns to another document.
+pub fn commands_of_one_kind()
+    ensures undo { (kind : ScriptKind) (line : List ℕ) → IsCommand kind line actions.Undo → kind ≡ History }
+    ensures redo { (kind : ScriptKind) (line : List ℕ) → IsCommand kind line actions.Redo → kind ≡ History }
+    ensures enter { (kind : ScriptKind) (line name : List ℕ) → IsCommand kind line (actions.Enter name) → kind ≡ Book }
 {}
 
 /// Each text has a reading: it is a script of some commands, or it has a first bad line.

@@ -2,15 +2,17 @@
 //!
 //! [`read_script`] reads a script: from a text to its commands, each with the number of its line, or to the
 //! number of the first line that is neither skipped nor a command. A line is a keyword and its operands, with
-//! one space between two words; the last operand of `insert`, `set` and `sheet` is the rest of the line as it
+//! one space between two words; the last operand of `insert`, `set`, `sheet` and `in` is the rest of the line as it
 //! stands. A script is read before anything is done: whether an edit has its place, and whether a file is
 //! there, only the run of the script tells. [`read_history_script`] reads a script that may have the lines `undo`
-//! and `redo` besides; in a script of edits these are bad lines.
+//! and `redo` besides, and [`read_book_script`] one that may have lines `in NAME` besides; in a script of edits these are
+//! bad lines.
 //!
 //! The layer above knows this by `IsScript kind text commands`, that the text is a script of this kind and these
 //! commands, and `FailsAsScript kind text number`, that it is none and its first bad line has this number
-//! (`specs/Scripts.antt`); `IsEditCommand line action` and `IsHistoryCommand line action` have the form of each
-//! command. [`laws`] says that each text reads in one way, and in one only.
+//! (`specs/Scripts.antt`); `IsEditCommand`, `IsHistoryCommand` and `IsBookCommand line action` have the form of each
+//! command. [`laws`] says that each text reads in one way, and in one only, and which commands only one kind of script
+//! has.
 //!
 //! ```text
 //! let commands = read_script(alloc, "set /0 class x\n\nshow\n")?;    // two commands, of lines 1 and 3
@@ -47,4 +49,4 @@ mod texts;
 pub mod words;
 
 pub use generator::generate;
-pub use script::{read_history_script, read_script};
+pub use script::{read_book_script, read_history_script, read_script};

@@ -5,8 +5,8 @@ ghost use Rattle.std.specs.Str.{chars};
 ghost use Rattle.edit_script.specs.Faults.{IsFault};
 ghost use Rattle.edit_script.specs.Machinery.LineFaults.{IsLineFault};
 ghost use Rattle.edit_script.specs.Machinery.Reading.{AddsLine, IsBadLine};
-ghost use Rattle.edit_script.specs.Scripts.{FailsAsScript, IsCommand, IsEditCommand, IsHistoryCommand, IsScript};
-ghost use Rattle.edit_script.specs.declared.script_kind.ScriptKind.TheVariants.{Edits, History};
+ghost use Rattle.edit_script.specs.Scripts.{FailsAsScript, IsBookCommand, IsCommand, IsEditCommand, IsHistoryCommand, IsScript};
+ghost use Rattle.edit_script.specs.declared.script_kind.ScriptKind.TheVariants.{Edits, History, Book};
 
 use crate::action::Action;
 use crate::command::Command;
@@ -17,7 +17,9 @@ use crate::lines::{is_skipped, split_line};
 use crate::operands::read_operands;
 use crate::script_kind::ScriptKind;
 use plain_types::list::List;
+use plain_types::text::Text;
 use std::alloc::Global;
+use xhtml_items::text::past_word;
 use xhtml_reader::without_mark;
 
 /// The action of a line of a script of edits.
@@ -43,6 +45,18 @@ fn read_history_action(alloc: Global, line: &str) -> Result<Action, LineFault>
     }
 }
 
+/// The action of a line of the script of a book.
+fn read_book_action(alloc: Global, line: &str) -> Result<Action, LineFault>
+    ensures found { IfOk result (IsBookCommand (chars line.now)) }
+    ensures fault { IfErr result (IsLineFault (IsBookCommand (chars line.now))) }
+{
+    match past_word("in ", line) {
+        Some("") => Err(LineFault::NoForm),
+        Some(name) => Ok(Action::Enter(Text::from_str(alloc, name)?)),
+        None => read_edit_action(alloc, line),
+    }
+}
+
 fn read_action(alloc: Global, kind: ScriptKind, line: &str) -> Result<Action, LineFault>
     ensures found { IfOk result (IsCommand kind (chars line.now)) }
     ensures fault { IfErr result (IsLineFault (IsCommand kind (chars line.now))) }
@@ -50,6 +64,7 @@ fn read_action(alloc: Global, kind: ScriptKind, line: &str) -> Result<Action, Li
     match kind {
         ScriptKind::Edits => read_edit_action(alloc, line),
         ScriptKind::History => read_history_action(alloc, line),
+        ScriptKind::Book => read_book_action(alloc, line),
     }
 }
 
@@ -94,8 +109,8 @@ fn read_commands(alloc: Global, kind: ScriptKind, text: &str) -> Result<List<Com
 
 /// The commands of a script of edits, in the order of their lines, in time and memory linear in the text.
 ///
-/// `BadLine` where a line is neither skipped nor a command: the first such line; `undo` and `redo` are such lines.
-/// No command is done here, and no file that a command names is looked at.
+/// `BadLine` where a line is neither skipped nor a command: the first such line; `undo`, `redo` and `in NAME` are such
+/// lines. No command is done here, and no file that a command names is looked at.
 pub fn read_script(alloc: Global, text: &str) -> Result<List<Command>, ScriptFault>
     ensures found { IfOk result (IsScript Edits (chars text.now)) }
     ensures fault { IfErr result (IsFault (FailsAsScript Edits (chars text.now))) }
@@ -110,4 +125,13 @@ pub fn read_history_script(alloc: Global, text: &str) -> Result<List<Command>, S
     ensures fault { IfErr result (IsFault (FailsAsScript History (chars text.now))) }
 {
     read_commands(alloc, ScriptKind::History, text)
+}
+
+/// The commands of the script of a book, which may have lines `in NAME` too, where NAME is all that is left of the line;
+/// the rest is as [`read_script`] has it.
+pub fn read_book_script(alloc: Global, text: &str) -> Result<List<Command>, ScriptFault>
+    ensures found { IfOk result (IsScript Book (chars text.now)) }
+    ensures fault { IfErr result (IsFault (FailsAsScript Book (chars text.now))) }
+{
+    read_commands(alloc, ScriptKind::Book, text)
 }

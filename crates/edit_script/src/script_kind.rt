@@ -7,4 +7,6 @@ pub enum ScriptKind {
     Edits,
     /// These, and `undo` and `redo`.
     History,
+    /// Edits, sheets and `show`, and `in`.
+    Book,
 }

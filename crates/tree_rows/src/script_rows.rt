@@ -7,7 +7,7 @@ use edit_script::command::Command;
 use edit_script::fault::ScriptFault;
 use edit_script::generator::{GeneratedRun, generate};
 use edit_script::script_kind::ScriptKind;
-use edit_script::{read_history_script, read_script};
+use edit_script::{read_book_script, read_history_script, read_script};
 use plain_types::attr::Attr;
 use plain_types::edit::Edit;
 use plain_types::list::List;
@@ -155,6 +155,23 @@ static BAD_HISTORY: [&str; 8] = [
     "undo redo",
 ];
 
+/// In a script of edits, and in one with a history, lines that begin with `in` are bad.
+static BOOK: [Told; 6] = [
+    ("in a", "1 in a;"),
+    ("in  a b ", "1 in  a b ;"),
+    ("in in x\r\n\nin #\n", "1 in in x;3 in #;"),
+    ("\u{feff}in \u{e9}\n#in a", "1 in \u{e9};"),
+    (
+        "show\nin b\ninsert / 0 <h1/>\nin a\nshow\nin c",
+        "1 show;2 in b;3 insert / 0 0<h1>;4 in a;5 show;6 in c;",
+    ),
+    ("in a\nin \nin", "bad 2"),
+];
+
+static BAD_BOOK: [&str; 10] = [
+    "in", "in ", " in a", "In a", "in\ta", "ina", "i a", "int a", "undo", "redo",
+];
+
 static FIRST_BAD: [Told; 4] = [
     ("show\n\nsho\nremove\n", "bad 3"),
     ("# x\r\nshow \r\nshow", "bad 2"),
@@ -255,6 +272,7 @@ fn push_action(action: &Action, told: &mut Text) -> Result<(), Memory> {
         Action::Show => told.push_str("show"),
         Action::Undo => told.push_str("undo"),
         Action::Redo => told.push_str("redo"),
+        Action::Enter(name) => push_all(&["in ", name.as_str()], told),
     }
 }
 
@@ -272,6 +290,7 @@ fn read(alloc: Global, kind: ScriptKind, script: &str) -> Result<List<Command>, 
     match kind {
         ScriptKind::Edits => read_script(alloc, script),
         ScriptKind::History => read_history_script(alloc, script),
+        ScriptKind::Book => read_book_script(alloc, script),
     }
 }
 
@@ -329,6 +348,18 @@ fn history_scripts(rt: HostRuntime) -> Result<(), Fail> {
     Ok(())
 }
 
+#[test]
+fn book_scripts(rt: HostRuntime) -> Result<(), Fail> {
+    assert_eq!(rt; first_wrong(rt.alloc(), ScriptKind::Book, &FORMS)?, None);
+    assert_eq!(rt; first_wrong(rt.alloc(), ScriptKind::Book, &LINES)?, None);
+    assert_eq!(rt;
+        first_wrong(rt.alloc(), ScriptKind::Book, &FIRST_BAD)?,
+        None
+    );
+    assert_eq!(rt; first_wrong(rt.alloc(), ScriptKind::Book, &BOOK)?, None);
+    Ok(())
+}
+
 /// The first line that is a command of a script of this kind after all.
 fn first_command(
     alloc: Global,
@@ -371,6 +402,18 @@ fn near_misses(rt: HostRuntime) -> Result<(), Fail> {
     );
     assert_eq!(rt;
         first_command(rt.alloc(), ScriptKind::History, &BAD_HISTORY)?,
+        None
+    );
+    assert_eq!(rt;
+        first_command(rt.alloc(), ScriptKind::Book, &BAD_BOOK)?,
+        None
+    );
+    assert_eq!(rt;
+        first_command(rt.alloc(), ScriptKind::Edits, &["in a", "in"])?,
+        None
+    );
+    assert_eq!(rt;
+        first_command(rt.alloc(), ScriptKind::History, &["in a", "in"])?,
         None
     );
     Ok(())
