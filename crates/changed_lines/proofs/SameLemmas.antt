@@ -16,7 +16,7 @@ same_self : (text : Option (List ℕ)) → is_same_text text text ≡ true
 same_self None = refl
 same_self (Some text) = (bytes_eq-Decides text text).1 refl
 
-no_lines : (path : List ℕ) (entry : Option NodeEntry) → element_lines path entry entry ≡ []
+pub no_lines : (path : List ℕ) (entry : Option NodeEntry) → element_lines path entry entry ≡ []
 no_lines path entry =
     rw (same_self (shown_text kind.Marker entry), same_self (shown_text kind.Before entry), same_self (shown_text kind.After entry)) refl
 

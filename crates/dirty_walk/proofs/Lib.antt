@@ -14,6 +14,7 @@ pub mod PlaceLemmas
 pub mod PlaceReadLemmas
 pub mod PlainLemmas
 pub mod PlanLemmas
+pub mod PlannedLemmas
 pub mod PutLemmas
 pub mod ReferenceExchangeLemmas
 pub mod ReferenceLemmas

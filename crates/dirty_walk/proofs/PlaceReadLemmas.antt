@@ -1,5 +1,5 @@
 -- What a walk from the place of an edit has told, where this was read of the document before the edit.
-use Rattle.std.proofs.Common.{◌≡◌, ◌≤◌, ◌∙◌, ◌&&◌, ℕ, Bool, true, false, List, length, sym, ap, subst}
+use Rattle.std.proofs.Common.{◌≡◌, ◌≤◌, ◌∙◌, ◌&&◌, ℕ, Bool, true, false, List, Option, Some, IfSome, length, sym, ap, subst}
 use Rattle.std.specs.FinMap.{FinMap}
 use Rattle.std.specs.Ordering.{nat_cmp}
 use Rattle.std.proofs.lemmas.Bool.{and_parts, true≢false}
@@ -23,12 +23,14 @@ use Rattle.dirty_walk.specs.declared.styled_arena.StyledArena.{StyledArena}
 use Rattle.dirty_walk.specs.DocumentStyles.{document_styles}
 use Rattle.dirty_walk.specs.PlaceReadings.{read_of}
 use Rattle.dirty_walk.specs.Places.{nothing_known, walked_at}
-use Rattle.dirty_walk.specs.Plain.{are_plain, is_plain}
+use Rattle.dirty_walk.specs.Plain.{are_plain, are_unstarted, is_plain}
 use Rattle.dirty_walk.specs.ReadAhead.{IsSomePlaceRead}
-use Rattle.dirty_walk.specs.Referring.{IsReferringIn}
+use Rattle.dirty_walk.specs.ReferenceExchanges.{ChangesReferences}
+use Rattle.dirty_walk.specs.Referring.{IsReferringIn, referring_after}
 use Rattle.dirty_walk.proofs.PlaceLemmas.{is_plain_now, renews_now, rests}
 use Rattle.dirty_walk.proofs.ReferenceLemmas.{none_where_plain, plain_tells_none}
-use Rattle.dirty_walk.proofs.ReferringLemmas.{referring_is_not_plain}
+use Rattle.dirty_walk.proofs.ReferringLemmas.{of_found, referring_is_not_plain, referring_now}
+use Rattle.dirty_walk.proofs.SomeWalk.{document_references_change}
 
 second_false : (a b : Bool) → (a && b) ≡ false → a ≡ true → b ≡ false
 second_false true b is first = is
@@ -71,6 +73,24 @@ module _ (document : StyledArena) (is_agent : document.agent.now ≡ agent_sheet
         renews_now document is_agent styles_are held stops there.place was_plain caught covers among are_plain_now changes
         (subst (λ (told : List (ℕ × Told)). AreChanges held (all_kept_of document.styles.now.table nothing_known told) changes) records_are are)
 
--- what is said of plain documents alone holds of one with an element that refers to an id
-pub refuted : (P : Type 0) (author : Sheet) (document : Forest (Keyed Node)) (key : ℕ) → IsReferringIn author document key → is_plain author document ≡ true → P
-refuted P author document key refers plain = absurd (true≢false (sym plain ∙ referring_is_not_plain author document key refers))
+  -- Where an element that refers to an id is found by what was read and told, and none of those told asks for a start.
+  module _ (covers : CoversAll (read_of document) (walked_at held) stops caught) (found : Option ℕ) (key : ℕ) (is : found ≡ Some key)
+      (unstarted : IfSome found (λ _. are_unstarted records ≡ true)) (after : IfSome found (λ key. referring_after ahead.referring ahead.takes.now records ≡ Some key)) where
+    pub told_unstarted : are_unstarted caught ≡ true
+    told_unstarted = ap are_unstarted (sym records_are) ∙ of_found (λ _. are_unstarted records ≡ true) found key unstarted is
+
+    pub found_refers : IsReferringIn author tree key
+    found_refers =
+        referring_now document is_agent styles_are held stops ahead index there caught among covers told_unstarted key
+        (ap (referring_after ahead.referring ahead.takes.now) (sym records_are) ∙ of_found (λ key. referring_after ahead.referring ahead.takes.now records ≡ Some key) found key after is)
+
+    -- what is said of plain documents alone holds of it
+    pub refuted : (P : Type 0) → is_plain author tree ≡ true → P
+    refuted P plain = absurd (true≢false (sym plain ∙ referring_is_not_plain author tree key found_refers))
+
+  -- what changes references, where none of those told asks for a start
+  pub references_changed : CoversAll (read_of document) (walked_at held) stops caught → are_unstarted caught ≡ true
+      → ChangesReferences held ahead.takes.now records (evaluated_document (author_sheet document.styles.now.sheet there.place.old) there.place.old) (evaluated_document author tree)
+  references_changed covers unstarted =
+      subst (λ (told : List (ℕ × Told)). ChangesReferences held ahead.takes.now told (evaluated_document (author_sheet document.styles.now.sheet there.place.old) there.place.old) (evaluated_document author tree)) (sym records_are)
+      (document_references_change document is_agent styles_are held stops there.place caught among covers unstarted ahead.takes.now there.read.takes)

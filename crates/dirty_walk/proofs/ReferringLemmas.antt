@@ -160,10 +160,10 @@ module _ (held : FinMap nat_cmp Kept) (takes : List ℕ) (told : List (ℕ × To
       refers_to_some has.0.said has.1.1 (sym (All-contains (λ (element : ℕ × Told). references_at after element.0 ≡ references_of element.1.said) told (key, has.0) changed.come has.1.0) ∙ none)
 
   pub refers_after : (referring : Option ℕ) → IfSome referring (λ key. references_at before key ≢ []) → IfSome (referring_after referring takes told) (λ key. references_at after key ≢ [])
-  refers_after referring referred = by (first_referring told) (refers_told (first_referring told) (found told))
+  refers_after referring referred = by (still_referring referring takes told) (still referring referred)
     where
-      by : (o : Option ℕ) → IfSome o (λ key. references_at after key ≢ []) → IfSome (option_map_or (λ key. Some key) o (still_referring referring takes told)) (λ key. references_at after key ≢ [])
-      by None has = still referring referred
+      by : (o : Option ℕ) → IfSome o (λ key. references_at after key ≢ []) → IfSome (option_map_or (λ key. Some key) o (first_referring told)) (λ key. references_at after key ≢ [])
+      by None has = refers_told (first_referring told) (found told)
       by (Some key) has = has
 
 -- Where a walk from the place of an edit has told this of the edited document.

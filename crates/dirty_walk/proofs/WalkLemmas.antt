@@ -18,7 +18,7 @@ module _ (f : Forest (Keyed Node)) (d : HasDistinctKeys f) (q : ℕ) (live : IsL
     more (x ∷ xs) (suc i) h = ap (λ rest. told x ++ rest) (more xs i h) ∙ sym (append_assoc (told x) (flat_map told (take i xs)) (told q))
 
     -- that of one node more
-    told_more : flat_map told (take (place_of f q + 1) (keys f)) ≡ flat_map told (take (place_of f q) (keys f)) ++ told q
+    pub told_more : flat_map told (take (place_of f q + 1) (keys f)) ≡ flat_map told (take (place_of f q) (keys f)) ++ told q
     told_more = ap (λ n. flat_map told (take n (keys f))) (add-one (place_of f q)) ∙ more (keys f) (place_of f q) (key-at-place f q d live)
 
     pub next_told : (k : ℕ) → next_in_order_of f q ≡ Some k → flat_map told (take (place_of f k) (keys f)) ≡ flat_map told (take (place_of f q) (keys f)) ++ told q

@@ -51,7 +51,7 @@ use Rattle.dirty_walk.proofs.PlaceLemmas.{stands_there}
 
 -- Sums.
 
-whole : (was is was_count is_count work before now : ℕ) → was_count ≡ was → is_count ≡ is → (was_count + is_count) ≤ work → now ≤ before + (13 * is + was) → now ≤ before + 24 * (work + 1)
+whole : (was is was_count is_count work before now : ℕ) → was_count ≡ was → is_count ≡ is → (was_count + is_count) ≤ work → now ≤ before + (13 * is + 2 * was) → now ≤ before + 24 * (work + 1)
 whole was is was_count is_count work before now same_was same touched few = omega arith
 
 place : (budget other gone going taken walk work before now total : ℕ) → budget ≡ other → gone ≡ going → (2 * budget + gone) ≤ 24 * (walk + 1) → walk ≤ work → now ≤ before + 2 * other → taken ≤ going → total ≤ now + taken
@@ -73,7 +73,7 @@ module _ (edit : Edit) (text next : List ℕ) (old new : Forest (Keyed Node)) (d
   counted tree = sym (weigh-without_keys (λ (node : Node). one_where (is_some (node_name node))) tree)
 
   -- where it can change styles everywhere
-  pub everywhere : (from now : ℕ) → edit_reach edit before after ≡ All → now ≤ from + (13 * element_count (without_keys new) + element_count (without_keys old)) → now ≤ from + 24 * (work edit before after + 1)
+  pub everywhere : (from now : ℕ) → edit_reach edit before after ≡ All → now ≤ from + (13 * element_count (without_keys new) + 2 * element_count (without_keys old)) → now ≤ from + 24 * (work edit before after + 1)
   everywhere from now all few =
       whole (element_count (without_keys old)) (element_count (without_keys new)) (count_of_elements is_element old) (count_of_elements is_element new) (work edit before after) from now
       (counted old) (counted new) (whole_reach_is_paid edit before after leads all).touched few
@@ -122,7 +122,7 @@ module _ (edit : Edit) (styles : DocumentStyles) (held : FinMap nat_cmp Kept) (o
       → IfSome stops (λ local. local.stops.items ≡ reach_stops local.extent edit 0 old)
       → IfNone stops ((is_plain (author_sheet styles.sheet old) old ≡ false) ⊎ (reach (looks_beside styles.sheet old) old edit ≡ All))
       → IfSome stops (λ local. IsWithinPlaceOf was_plain edit styles held local new from now)
-      → taken ≤ gone_count is_element (edit_merge edit old new) → total ≤ now + taken → total ≤ from + (13 * element_count (without_keys new) + element_count (without_keys old))
+      → taken ≤ gone_count is_element (edit_merge edit old new) → total ≤ now + taken → total ≤ from + (13 * element_count (without_keys new) + 2 * element_count (without_keys old))
       → IsWithinWork edit was is from total
   within_work was_plain plain_is from now taken total unstarted extent other stops_are none within goes sum few measured = elim measured [
     | inl stays ↦ by stops stays unstarted extent other stops_are none within

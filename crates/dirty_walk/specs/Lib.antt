@@ -10,6 +10,7 @@ pub mod PlaceReadings
 pub mod PlaceStyles
 pub mod Places
 pub mod Plain
+pub mod PlannedEntries
 pub mod Plans
 pub mod ReadAhead
 pub mod ReferenceExchanges

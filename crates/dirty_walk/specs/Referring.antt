@@ -34,6 +34,6 @@ abbrev pub still_referring : Option ℕ → List ℕ → List (ℕ × Told) → 
 still_referring None takes told = None
 still_referring (Some key) takes told = cond (is_among takes key || is_told told key) None (Some key)
 
--- one of those of which this is told, or else that one
+-- that one, or else one of those of which this is told
 abbrev pub referring_after : Option ℕ → List ℕ → List (ℕ × Told) → Option ℕ
-referring_after referring takes told = option_map_or (λ key. Some key) (first_referring told) (still_referring referring takes told)
+referring_after referring takes told = option_map_or (λ key. Some key) (still_referring referring takes told) (first_referring told)

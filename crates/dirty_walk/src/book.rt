@@ -238,7 +238,7 @@ impl Book {
         ensures err { OnErr result (self.new ≡ self.old) }
         ensures within_work { IfOk result (λ plan. IsWithinWork edit.now (keyed_source self.old) (keyed_source (settled_after self.new plan)) steps.old (steps.new + plan_size plan)) }
         ensures stops_within_work { OnErr result (StopsWithinWork edit.now (keyed_source self.old) steps.old steps.new) }
-        ensures steps { steps.new ≤ steps.old + 12 * element_count (edited edit.now (without_keys self.old.tree)) }
+        ensures steps { steps.new ≤ steps.old + (12 * element_count (edited edit.now (without_keys self.old.tree)) + element_count (without_keys self.old.tree)) }
         ensures size { IfOk result (λ plan. plan_size plan ≤ element_count (edited edit.now (without_keys self.old.tree)) + element_count (without_keys self.old.tree)) }
     {
         arena_holds_document(&self.arena);
@@ -392,5 +392,23 @@ impl Book {
     {
         arena_holds_document(&self.arena);
         kept_pieces(self.board.get(key, steps), kind)
+    }
+
+    /// The document of a book whose edit is planned, which is the edited one already. It takes no memory and constant time.
+    pub fn edited_arena(&self) -> &Arena
+        requires planned { self.now.settled ≡ false }
+        ensures tree { result.now.tree ≡ self.now.tree }
+    {
+        &self.arena
+    }
+
+    /// What was kept under this key before the edit that is planned: nothing of a node that it brings. It takes no memory,
+    /// constant time, and one step.
+    pub fn former<L: Ledger>(&self, key: usize, steps: &mut Steps<L>) -> Option<&NodeEntry>
+        requires planned { self.now.settled ≡ false }
+        ensures entry { option_copied result ≡ entry_at self.now.kept key }
+        ensures step { steps.new ≡ steps.old + 1 }
+    {
+        Some(&self.board.get(key, steps)?.entry)
     }
 }

@@ -35,7 +35,8 @@
 //! The layer above knows this crate by `StyledDocument`, `fresh_entry` and `Keeps` of `specs/Books.antt`: what a book
 //! stands for, what a fresh evaluation keeps of an element, and that the book keeps it; and by `settled_after`,
 //! `IsPlannedBy` and `plan_size` of `specs/Plans.antt`: what a planned edit makes of a book, which plans are a book's,
-//! and how much comes and goes. `specs/WorkBounds.antt` says of which edits the work bounds the steps, and
+//! and how much comes and goes. Between the two `specs/PlannedEntries.antt` says what is kept of the edited document, by what the
+//! plan puts and by what was kept before. `specs/WorkBounds.antt` says of which edits the work bounds the steps, and
 //! `specs/Places.antt` where a walk from a place stands. What a volume of several documents needs of each, beside entries, a
 //! settled book tells too: its counter styles, the first element of an id, and by `fresh_pieces` of
 //! `specs/FreshPieces.antt` the pieces of a box where one of them has a url.
@@ -61,6 +62,7 @@ mod former_targets;
 mod fresh;
 mod index;
 mod kept_pieces;
+pub mod laws;
 mod local_stops;
 mod named_elements;
 mod places;

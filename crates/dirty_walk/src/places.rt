@@ -251,24 +251,13 @@ fn stays_plain(was_plain: bool, told: &[(usize, Told)]) -> bool
     was_plain && are_plain(told)
 }
 
-/// Whether a walk that told of these elements costs no more than to read the whole document, where these elements go.
-fn goes_less(takes: &[usize], told: &[(usize, Told)]) -> bool
-    ensures { result ≡ true → length takes.now ≤ 3 * length told.now }
-{
-    takes.is_empty() || takes.len() / 3 < told.len()
-}
-
 /// An element that refers to an id in an edited document, of whose elements a walk has told this. None where one of these asks
-/// for the start of a reversed counter, where none is found, and where so much goes that the whole document is read sooner.
+/// for the start of a reversed counter, and where none is found.
 fn referring_there(ahead: &ReadAhead, told: &[(usize, Told)]) -> Option<usize>
     ensures unstarted { IfSome result (λ _. are_unstarted told.now ≡ true) }
     ensures after { IfSome result (λ key. referring_after ahead.now.referring ahead.now.takes.now told.now ≡ Some key) }
-    ensures few { IfSome result (λ _. length ahead.now.takes.now ≤ 3 * length told.now) }
 {
     if !are_unstarted(told) {
-        return None;
-    }
-    if !goes_less(ahead.takes, told) {
         return None;
     }
     referring_after(ahead.referring, ahead.takes, told)
@@ -300,8 +289,9 @@ pub(crate) struct FromPlace {
 /// has its ids. None where an element asks for the start of a reversed counter, and where the walk tells of no element that
 /// refers, though one did: then nothing is known yet.
 ///
-/// It evaluates what the edit touches, and then it is a step for each element that was evaluated. Where elements refer to ids,
-/// the texts of those that refer to what changed are made again, and the index has the references of the edited document then.
+/// It evaluates what the edit touches, and then it is a step for each element that was evaluated. Where elements refer to ids, it is
+/// one too for each that goes, the texts of those that refer to what changed are made again, and the index has the references of
+/// the edited document then.
 pub(crate) fn changes_from_place<L: Ledger>(
     alloc: Global,
     document: &StyledArena,
@@ -328,7 +318,7 @@ pub(crate) fn changes_from_place<L: Ledger>(
     ensures few { IfOk result (λ found. IfSome found (λ made. is_plain (author_sheet document.now.styles.now.sheet document.now.arena.now.tree) document.now.arena.now.tree ≡ true → IsWithinPlace document.now.styles.now.sheet board.old.held stops.items document.now.arena.now.tree steps.old (steps.new + length made.changes.items))) }
     ensures most { is_plain (author_sheet document.now.styles.now.sheet document.now.arena.now.tree) document.now.arena.now.tree ≡ true → IsWithinPlace document.now.styles.now.sheet board.old.held stops.items document.now.arena.now.tree steps.old steps.new }
     ensures walk { IfOk result (λ found. IfNone found (steps.new ≤ steps.old + 5 * element_count (without_keys document.now.arena.now.tree))) }
-    ensures steps { steps.new ≤ steps.old + 12 * element_count (without_keys document.now.arena.now.tree) }
+    ensures steps { steps.new ≤ steps.old + (length ahead.now.takes.now + 9 * element_count (without_keys document.now.arena.now.tree)) }
 {
     let at = again(alloc, stops.as_slice())?;
     let CaughtUp { changes: told } = caught_from(alloc, document, board, stops, steps)?;

@@ -1,5 +1,7 @@
 //! Edits that a book is ready to do.
 
+ghost use Rattle.std.specs.Prelude.{◌≡◌};
+
 use kept_elements::kept::Kept;
 use plain_types::list::List;
 
@@ -11,4 +13,13 @@ pub struct Plan {
     pub(crate) puts: Vec<(usize, Kept)>,
     /// The keys of the elements that are gone.
     pub(crate) takes: List<usize>,
+}
+
+impl Plan {
+    /// What comes to be kept, each under the key of its element. It takes no memory and constant time.
+    pub fn puts(&self) -> &[(usize, Kept)]
+        ensures puts { result.now ≡ self.now.puts.items }
+    {
+        self.puts.as_slice()
+    }
 }

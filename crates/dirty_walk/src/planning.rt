@@ -110,7 +110,7 @@ fn from_place<L: Ledger>(
     ensures few { IfOk result (λ found. IfSome found (λ made. IfSome stops (λ local. IsWithinPlaceOf ahead.now.is_plain document.now.edit.now document.now.styles.now board.old.held local document.now.arena.now.tree steps.old (steps.new + length made.changes.items)))) }
     ensures most { IfSome stops (λ local. IsWithinPlaceOf ahead.now.is_plain document.now.edit.now document.now.styles.now board.old.held local document.now.arena.now.tree steps.old steps.new) }
     ensures walk { IfOk result (λ found. IfNone found (steps.new ≤ steps.old + 5 * element_count (without_keys document.now.arena.now.tree))) }
-    ensures steps { steps.new ≤ steps.old + 12 * element_count (without_keys document.now.arena.now.tree) }
+    ensures steps { steps.new ≤ steps.old + (length ahead.now.takes.now + 9 * element_count (without_keys document.now.arena.now.tree)) }
 {
     let Some(LocalStops { extent, mut stops }) = stops else {
         return Ok(None);
@@ -198,7 +198,7 @@ fn renewed<L: Ledger>(
     ensures grown { board.old.room ≤ board.new.room }
     ensures few { IfOk result (λ made. IfSome stops (λ local. IsWithinPlaceOf ahead.now.is_plain document.now.edit.now document.now.styles.now board.old.held local document.now.arena.now.tree steps.old (steps.new + length made.changes.items))) }
     ensures most { IfSome stops (λ local. IsWithinPlaceOf ahead.now.is_plain document.now.edit.now document.now.styles.now board.old.held local document.now.arena.now.tree steps.old steps.new) }
-    ensures steps { steps.new ≤ steps.old + 12 * element_count (without_keys document.now.arena.now.tree) }
+    ensures steps { steps.new ≤ steps.old + (length ahead.now.takes.now + 12 * element_count (without_keys document.now.arena.now.tree)) }
 {
     match from_place(alloc, document, ahead, index, board, stops, steps)? {
         Some(made) => Ok(made),
@@ -233,7 +233,7 @@ pub(crate) fn evaluated<L: Ledger>(
     ensures grown { board.old.room ≤ board.new.room }
     ensures few { IfOk result (λ made. IfSome stops (λ local. IsWithinPlaceOf ahead.now.is_plain document.now.edit.now document.now.styles.now board.old.held local document.now.arena.now.tree steps.old (steps.new + length made.changes.items))) }
     ensures most { IfSome stops (λ local. IsWithinPlaceOf ahead.now.is_plain document.now.edit.now document.now.styles.now board.old.held local document.now.arena.now.tree steps.old steps.new) }
-    ensures steps { steps.new ≤ steps.old + 12 * element_count (without_keys document.now.arena.now.tree) }
+    ensures steps { steps.new ≤ steps.old + (length ahead.now.takes.now + 12 * element_count (without_keys document.now.arena.now.tree)) }
 {
     let back = exchange_ids(alloc, index, document.arena, document.edit, gone)?;
     match renewed(alloc, document, ahead, index, board, stops, steps) {

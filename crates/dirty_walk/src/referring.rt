@@ -63,8 +63,9 @@ fn still_referring(
     Some(key)
 }
 
-/// An element that refers to an id after an edit: one of those of which this is told, or else the one from before. It takes no
-/// memory, and time linear in what goes and in the pieces.
+/// An element that refers to an id after an edit: the one from before, or else one of those of which this is told. The first is
+/// preferred, since what an edit has just brought is what the next edits are most likely to take away. It takes no memory, and
+/// time linear in what goes and in the pieces.
 pub(crate) fn referring_after(
     referring: Option<usize>,
     takes: &[usize],
@@ -72,9 +73,9 @@ pub(crate) fn referring_after(
 ) -> Option<usize>
     ensures { result ≡ referring_after referring takes.now told.now }
 {
-    match first_referring(told) {
+    match still_referring(referring, takes, told) {
         Some(key) => Some(key),
-        None => still_referring(referring, takes, told),
+        None => first_referring(told),
     }
 }
 

@@ -24,14 +24,14 @@ use Rattle.kept_elements.proofs.ChangeLemmas.{has_key, kept-first}
 
 -- Lists.
 
-apart_of : (k key : ℕ) (keys : List ℕ) → AllByRecursion (λ y. nat_eq k y ≡ false) keys → is_among keys key ≡ true → nat_eq k key ≡ false
+pub apart_of : (k key : ℕ) (keys : List ℕ) → AllByRecursion (λ y. nat_eq k y ≡ false) keys → is_among keys key ≡ true → nat_eq k key ≡ false
 apart_of k key [] all there = absurd (true≢false (sym there))
 apart_of k key (y ∷ keys) all there = elim (cases_Bool (y == key)) [
   | inl e ↦ ap (nat_eq k) (sym (eqb-true y key e)) ∙ all.0
   | inr e ↦ apart_of k key keys all.1 (ap (λ b. b || is_among keys key) (sym e) ∙ there)
 ]
 
-or_right : (a b : Bool) → b ≡ true → (a || b) ≡ true
+pub or_right : (a b : Bool) → b ≡ true → (a || b) ≡ true
 or_right true b h = refl
 or_right false b h = h
 

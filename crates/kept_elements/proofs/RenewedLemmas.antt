@@ -179,7 +179,7 @@ then_none : (a b : Option Told) → option_or a b ≡ None → b ≡ None
 then_none None b e = e
 then_none (Some x) b e = absurd (none-some x (sym e))
 
-chosen : (b : Bool) (o : Option Told) (t : Told) → cond b o None ≡ Some t → (b ≡ true) × (o ≡ Some t)
+pub chosen : (b : Bool) (o : Option Told) (t : Told) → cond b o None ≡ Some t → (b ≡ true) × (o ≡ Some t)
 chosen true o t e = (refl, e)
 chosen false o t e = absurd (none-some t e)
 
@@ -267,7 +267,7 @@ module _ (table : List CounterStyle) (merge : Merge Node) (old new : Forest (Key
       ap (λ (o : Option Kept). option_and_then (λ (kept : Kept). option_map (told_again kept) kept.pieces) o) (holding key t e)
       ∙ ap (λ (b : Bool). option_map (told_again (kept_of table known_before t)) (if b then Some (pieces_of t.said) else None)) lacks
 
-  own_tells : (key : ℕ) (t a : Told) → kept_at was key ≡ Some t → own held key ≡ Some a → Tells table a t
+  pub own_tells : (key : ℕ) (t a : Told) → kept_at was key ≡ Some t → own held key ≡ Some a → Tells table a t
   own_tells key t a e its = elim (cases_Bool (has_urls t.said)) [
     | inl does ↦ subst (λ (one : Told). Tells table one t) (same_Some _ a (sym (own_told key t e does) ∙ its)) (again_tells table known_before t)
     | inr lacks ↦ absurd (none-some a (sym (own_none key t e lacks) ∙ its))

@@ -10,9 +10,14 @@
 //! that refers to what changed has its pieces on the board, the flat texts of such a target are made again, and those of each
 //! other target are read there.
 //!
+//! Of what the walk told, that is enough which can be told otherwise than before ([`news::news_of`]): an element that the walk had
+//! no need to evaluate anew is left out. The steps of `walked_entries` are within the weights of the elements that were told and of
+//! those that refer to what the edit touches (`renewal_weight` of `specs/RenewalSteps.antt`).
+//!
 //! The layer above knows this crate by `kept_of`, `document_kept` and `evaluated_document` of `specs/Evaluations.antt`, by
-//! `Renews` of `specs/Changes.antt`: what comes to a board of which all that is to be kept is known; and by `IsSomeWalk` of
-//! `specs/Renewals.antt`: what a walk has told of a document that an edit made of another one.
+//! `Renews` of `specs/Changes.antt`: what comes to a board of which all that is to be kept is known; by `IsSomeWalk` of
+//! `specs/Renewals.antt`: what a walk has told of a document that an edit made of another one; and by `AreNewsOf` of
+//! `specs/News.antt`: which of that is enough.
 //!
 //! ```text
 //! let caught = catch_up(alloc, &sources, &board, stops, steps)?;       // the index is brought to the edited document
@@ -25,6 +30,8 @@ pub mod by_key;
 pub mod characters;
 pub mod flat_texts;
 pub mod kept;
+pub mod laws;
+pub mod news;
 pub mod node_texts;
 mod renewed_targets;
 pub mod renewed_texts;

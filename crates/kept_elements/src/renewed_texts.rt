@@ -11,8 +11,9 @@ ghost use Rattle.referring_elements.specs.Indexes.{IsIndexOf};
 ghost use Rattle.kept_elements.specs.Changes.{AreChanges, Renews};
 ghost use Rattle.kept_elements.specs.Evaluations.{all_kept_of, said_of};
 ghost use Rattle.kept_elements.specs.Known.{IsKeptIn, all_flat_texts_of};
-ghost use Rattle.kept_elements.specs.Renewals.{IsSomeEdit, IsSomeWalk, is_told};
-ghost use Rattle.kept_elements.specs.Machinery.Renewals.{IsRenewal, held_of, known_again, renewed_kept, renewed_known};
+ghost use Rattle.kept_elements.specs.RenewalSteps.{renewal_weight};
+ghost use Rattle.kept_elements.specs.Renewals.{IsSomeEdit, IsSomeWalk, evaluated_as, is_told};
+ghost use Rattle.kept_elements.specs.Machinery.Renewals.{IsRenewal, IsWithinLists, held_of, known_again, renewed_kept, renewed_known};
 
 use crate::again::put_all_again;
 use crate::by_key::by_key;
@@ -212,6 +213,7 @@ fn entries_again<L: Ledger>(
     requires elements { (key : ℕ) → is_told listed.now key ≡ true → IsSome (name_of arena.now.tree key) }
     ensures renewal { IfOk result (λ changes. IsRenewal arena.now.tree table.now board.now.held (take flat_count listed.now) listed.now changes.items) }
     ensures steps { steps.new ≤ steps.old + 2 * element_count (without_keys arena.now.tree) }
+    ensures fewer { IsWithinLists arena.now.tree listed.now steps.old steps.new }
 {
     arena_holds_document(arena);
     let told = told_keys(alloc, listed)?;
@@ -248,6 +250,7 @@ pub fn renewed_entries<L: Ledger>(
     requires edit { IsSomeEdit table.now arena.now.tree told board.now.held found.now.first found.now.second }
     ensures renewal { IfOk result (λ changes. (edit : IsSomeEdit table.now arena.now.tree told board.now.held found.now.first found.now.second) → Renews board.now.held (all_kept_of table.now (known_targets table.now arena.now.tree (said_of edit.is)) edit.is) changes.items) }
     ensures steps { steps.new ≤ steps.old + 4 * element_count (without_keys arena.now.tree) }
+    ensures fewer { (edit : IsSomeEdit table.now arena.now.tree told board.now.held found.now.first found.now.second) → steps.new ≤ steps.old + renewal_weight (evaluated_as edit.old edit.was) (evaluated_as arena.now.tree edit.is) edit.merge told }
 {
     arena_holds_document(arena);
     let mut records = told;
@@ -285,6 +288,7 @@ pub fn walked_entries<L: Ledger>(
     requires walk { IsSomeWalk table.now index.now former.now stops.now arena.now.tree told board.now.held }
     ensures renewal { IfOk result (λ changes. (walk : IsSomeWalk table.now index.now former.now stops.now arena.now.tree told board.now.held) → Renews board.now.held (all_kept_of table.now (known_targets table.now arena.now.tree (said_of walk.is)) walk.is) changes.items) }
     ensures steps { steps.new ≤ steps.old + 4 * element_count (without_keys arena.now.tree) }
+    ensures fewer { (walk : IsSomeWalk table.now index.now former.now stops.now arena.now.tree told board.now.held) → steps.new ≤ steps.old + renewal_weight (evaluated_as walk.old walk.was) (evaluated_as arena.now.tree walk.is) walk.merge told }
 {
     let visited = told_keys(alloc, told.as_slice())?;
     let changed = changed_elements(alloc, arena, stops, visited.as_slice())?;

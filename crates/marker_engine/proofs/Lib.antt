@@ -1,3 +1,4 @@
+pub mod ApplyLemmas
 pub mod Counting
 pub mod Counts
 pub mod LinesLeft

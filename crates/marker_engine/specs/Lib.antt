@@ -1,3 +1,4 @@
 pub mod Census
 pub mod Edited
 pub mod Engines
+pub mod Telling

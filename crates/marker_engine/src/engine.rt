@@ -2,6 +2,7 @@
 
 ghost use Rattle.std.specs.Prelude.{◌≡◌, ◌≤◌, ◌+◌, ◌*◌, Some, None, Ok, Err, IfOk, IfErr, OnOk, OnErr, length, true};
 ghost use Rattle.std.specs.Str.{chars};
+ghost use Rattle.changed_lines.specs.Changes.{changed_lines};
 ghost use Rattle.dirty_walk.specs.Books.{Keeps};
 ghost use Rattle.dirty_walk.specs.WorkBounds.{IsWithinWork, StopsWithinWork, keyed_source};
 ghost use Rattle.generated_texts.specs.Lines.{document_lines, fresh_dump};
@@ -14,16 +15,20 @@ ghost use Rattle.document_walk.specs.Elements.{element_count};
 ghost use Rattle.marker_engine.specs.Census.{box_count, saturated};
 ghost use Rattle.marker_engine.specs.Edited.{edited, edit_fault};
 ghost use Rattle.marker_engine.specs.Engines.{source_of};
+ghost use Rattle.marker_engine.specs.Telling.{TellsWithinWork};
 
 use crate::census::{Census, census_of};
 use crate::edit_fault::EditFault;
 use crate::lines::put_lines;
+use changed_lines::changed_line::ChangedLine;
 use dirty_walk::book::Book;
+use edit_merge::laws::inserts_one_tree;
 use generated_texts::laws::keys_do_not_matter;
 use node_arena::laws::arena_holds_document;
 use plain_types::edit::Edit;
 use plain_types::memory::Memory;
 use plain_types::tree::Tree;
+use planned_lines::lines::changed_lines;
 use ports::put_fault::PutFault;
 use ports::sink::Sink;
 use std::alloc::Global;
@@ -106,7 +111,7 @@ impl Engine {
         ensures failed { OnErr result (self.new ≡ self.old) }
         ensures within_work { OnOk result (IsWithinWork edit.now (keyed_source self.old) (keyed_source self.new) steps.old steps.new) }
         ensures stops_within_work { OnErr result (StopsWithinWork edit.now (keyed_source self.old) steps.old steps.new) }
-        ensures steps { IfOk (edited (source_of self.old) edit.now) (λ source. steps.new ≤ steps.old + (13 * element_count source.tree + element_count (source_of self.old).tree)) }
+        ensures steps { IfOk (edited (source_of self.old) edit.now) (λ source. steps.new ≤ steps.old + (13 * element_count source.tree + 2 * element_count (source_of self.old).tree)) }
         ensures no_steps { IfErr (edited (source_of self.old) edit.now) (λ _. steps.new ≡ steps.old) }
     {
         if let Some(fault) = self.book.arena().allows(edit) {
@@ -115,6 +120,43 @@ impl Engine {
         let plan = self.book.plan(alloc, edit, steps)?;
         self.book.commit(plan, steps);
         Ok(())
+    }
+
+    /// Does an edit as [`Engine::apply`] does it, and tells which lines of the dump it changes: exactly those of `changed_lines`,
+    /// with their paths in the edited document, in tree order. Where an edit was not done, all is as before, as after
+    /// `apply`. Where it was done and memory was wanting for its lines alone, it stays done, and they are not told.
+    ///
+    /// Beside what `apply` takes it is one step at most for each entry that comes, and memory linear in the number of these
+    /// entries and in the lines. It takes time linear in the nodes from the first element to the last of which another entry
+    /// comes, in the texts of these elements, and for each of them in the greatest depth of any.
+    pub fn apply_and_tell<L: Ledger>(
+        &mut self,
+        alloc: Global,
+        edit: &Edit,
+        steps: &mut Steps<L>,
+    ) -> Result<Result<Vec<ChangedLine>, Memory>, EditFault>
+        ensures ok { OnOk result (edited (source_of self.old) edit.now ≡ Ok (source_of self.new)) }
+        ensures keys { OnOk result (IsEdited edit.now self.old.tree self.new.tree) }
+        ensures keeps { Keeps self.new }
+        ensures told { IfOk result (λ told. IfOk told (λ lines. lines.items ≡ changed_lines (keyed_source self.old) (keyed_source self.new))) }
+        ensures refused { IfErr (edited (source_of self.old) edit.now) (λ fault. result ≡ Err (edit_fault fault)) }
+        ensures memory { IfOk (edited (source_of self.old) edit.now) (λ _. IfErr result (λ fault. fault ≡ faults.Memory)) }
+        ensures failed { OnErr result (self.new ≡ self.old) }
+        ensures within_work { OnOk result (TellsWithinWork edit.now (keyed_source self.old) (keyed_source self.new) steps.old steps.new) }
+        ensures stops_within_work { OnErr result (StopsWithinWork edit.now (keyed_source self.old) steps.old steps.new) }
+        ensures steps { IfOk (edited (source_of self.old) edit.now) (λ source. steps.new ≤ steps.old + (14 * element_count source.tree + 3 * element_count (source_of self.old).tree)) }
+        ensures no_steps { IfErr (edited (source_of self.old) edit.now) (λ _. steps.new ≡ steps.old) }
+    {
+        if let Some(fault) = self.book.arena().allows(edit) {
+            return Err(EditFault::from(fault));
+        }
+        arena_holds_document(self.book.arena());
+        inserts_one_tree(edit);
+        let plan = self.book.plan(alloc, edit, steps)?;
+        arena_holds_document(self.book.edited_arena());
+        let told = changed_lines(alloc, &self.book, &plan, steps);
+        self.book.commit(plan, steps);
+        Ok(told)
     }
 
     /// The book that the engine keeps, which is settled. It takes no memory and constant time.

@@ -1,5 +1,5 @@
 -- What is told again of elements whose texts are made again, and what is known for these texts.
-use Rattle.std.specs.Prelude.{◌≡◌, ℕ, nat_eq, Bool, false, if◌then◌else◌, flat_map, List, [], ◌∷◌, ◌++◌, Option, Some, None, cond, option_map}
+use Rattle.std.specs.Prelude.{◌≡◌, ◌≤◌, ◌+◌, ℕ, nat_eq, Bool, true, false, if◌then◌else◌, flat_map, length, List, [], ◌∷◌, ◌++◌, Option, Some, None, cond, option_map}
 use Rattle.std.specs.FinMap.{FinMap, get}
 use Rattle.std.specs.List.{IsDistinct, list_any}
 use Rattle.std.specs.Option.{option_and_then, option_map_or}
@@ -69,6 +69,13 @@ names document key told = list_any (is_named document key) (references_of told.s
 -- one of those does of which this is told
 abbrev pub some_names : Forest (Keyed Node) → List (ℕ × Told) → (key : ℕ) → Bool
 some_names document told key = list_any (λ (element : ℕ × Told). names document key element.1) told
+
+-- Between one number of steps and another are no more than two lists have, each of its own choice: one of all elements of which
+-- this is told, and one of all to which any of these refers.
+abbrev pub IsWithinLists : Forest (Keyed Node) → List (ℕ × Told) → (old new : ℕ) → Type 0
+IsWithinLists document told old new =
+    (keys targets : List ℕ) → ((key : ℕ) → is_told told key ≡ true → is_among keys key ≡ true) → ((key : ℕ) → some_names document told key ≡ true → is_among targets key ≡ true)
+    → new ≤ old + (length keys + length targets)
 
 -- what is held of those of these elements
 abbrev pub held_of : List ℕ → FinMap nat_cmp Kept → ℕ → Option Kept

@@ -1,4 +1,4 @@
-use Rattle.std.proofs.Common.{◌≡◌, ◌≤◌, ◌+◌, ◌*◌, ◌∙◌, ℕ, true, List, Some, ap, arith, length, subst, sym}
+use Rattle.std.proofs.Common.{◌≡◌, ◌≤◌, ◌+◌, ◌∙◌, ℕ, true, List, ap, arith, length, subst, sym}
 use Rattle.std.proofs.lemmas.List.{length-map}
 use Rattle.generated_texts.specs.StyleElements.{author_sheet}
 use Rattle.merged_walk.specs.declared.stop.Stop.{Stop}
@@ -8,12 +8,10 @@ use Rattle.kept_elements.specs.Evaluations.{all_kept_of}
 use Rattle.kept_elements.proofs.RenewalLemmas.{renews}
 use Rattle.dirty_walk.specs.PlaceReadings.{read_of}
 use Rattle.dirty_walk.specs.Places.{IsWithinPlace, nothing_known, walked_at}
-use Rattle.dirty_walk.specs.Plain.{are_unstarted}
 use Rattle.dirty_walk.specs.ReadAhead.{IsSomePlaceRead}
-use Rattle.dirty_walk.specs.Referring.{referring_after}
 use Rattle.dirty_walk.proofs.PlaceLemmas.{read_within_place, stands, within_place}
-use Rattle.dirty_walk.proofs.PlaceReadLemmas.{plain_no_longer, plain_renews, plain_still, plain_tells, refuted}
-use Rattle.dirty_walk.proofs.ReferringLemmas.{of_found, referring_is_not_plain, referring_now}
+use Rattle.dirty_walk.proofs.PlaceReadLemmas.{found_refers, plain_no_longer, plain_renews, plain_still, plain_tells, refuted, told_unstarted}
+use Rattle.dirty_walk.proofs.ReferringLemmas.{referring_is_not_plain}
 use Rattle.dirty_walk.proofs.places.changes_from_place.Goals as goal
 
 pub caught_from-requires : goal.caught_from-requires
@@ -119,82 +117,64 @@ pub referring_changes-requires : goal.referring_changes-requires
 referring_changes-requires g c =
     let document = c.args.document.now in
     let caught = c.in_ok-told.field-0.changes in
-    let told = c.as_slice-records.ensures.items in
-    let unstarted : are_unstarted caught ≡ true = ap are_unstarted (sym told) ∙ of_found (λ _. are_unstarted c.as_slice-records.result.now ≡ true) c.referring_there.result c.in-Some.key c.referring_there.ensures.unstarted c.in-Some.is in
     let at = c.as_slice-stops.ensures.items ∙ c.in_ok-at.ensures.stops ∙ c.as_slice.ensures.value in
     record {
       place = subst (λ (stops : List Stop). IsSomePlaceRead document.styles.now.sheet c.args.board.now.held stops document.arena.now.tree c.args.ahead.now c.args.index.now) (sym at) c.requires.place;
       indexed = c.requires.indexed;
       covers = subst (λ (stops : List Stop). CoversAll (read_of document) (walked_at c.args.board.now.held) stops caught) (sym at) c.in_ok-told.ensures.covers;
       among = subst (λ (stops : List Stop). AreAllAmong (read_of document) (walked_at c.args.board.now.held) stops caught) (sym at) c.in_ok-told.ensures.among;
-      unstarted = unstarted;
+      unstarted =
+          told_unstarted document document.agent_is document.styles_are c.args.board.now.held c.args.stops.items c.args.ahead.now c.args.index.now c.requires.place caught c.as_slice-records.result.now c.as_slice-records.ensures.items c.in_ok-told.ensures.among
+          c.in_ok-told.ensures.covers c.referring_there.result c.in-Some.key c.in-Some.is c.referring_there.ensures.unstarted c.referring_there.ensures.after;
     }
 
 pub returns-clause-plain : goal.returns-clause-plain
 returns-clause-plain g c =
     let document = c.args.document.now in
     let caught = c.in_ok-told.field-0.changes in
-    let told = c.as_slice-records.ensures.items in
-    let unstarted : are_unstarted caught ≡ true = ap are_unstarted (sym told) ∙ of_found (λ _. are_unstarted c.as_slice-records.result.now ≡ true) c.referring_there.result c.in-Some.key c.referring_there.ensures.unstarted c.in-Some.is in
-    let after : referring_after c.args.ahead.now.referring c.args.ahead.now.takes.now caught ≡ Some c.in-Some.key =
-    ap (referring_after c.args.ahead.now.referring c.args.ahead.now.takes.now) (sym told) ∙ of_found (λ key. referring_after c.args.ahead.now.referring c.args.ahead.now.takes.now c.as_slice-records.result.now ≡ Some key) c.referring_there.result c.in-Some.key c.referring_there.ensures.after c.in-Some.is in
-    let refers = referring_now document document.agent_is document.styles_are c.args.board.now.held c.args.stops.items c.args.ahead.now c.args.index.now c.requires.place caught c.in_ok-told.ensures.among c.in_ok-told.ensures.covers unstarted c.in-Some.key after in
-    sym (referring_is_not_plain (author_sheet document.styles.now.sheet document.arena.now.tree) document.arena.now.tree c.in-Some.key refers)
+    sym (referring_is_not_plain (author_sheet document.styles.now.sheet document.arena.now.tree) document.arena.now.tree c.in-Some.key
+    (found_refers document document.agent_is document.styles_are c.args.board.now.held c.args.stops.items c.args.ahead.now c.args.index.now c.requires.place caught c.as_slice-records.result.now c.as_slice-records.ensures.items c.in_ok-told.ensures.among
+    c.in_ok-told.ensures.covers c.referring_there.result c.in-Some.key c.in-Some.is c.referring_there.ensures.unstarted c.referring_there.ensures.after))
 
 pub returns-clause-referring : goal.returns-clause-referring
 returns-clause-referring g c =
     let document = c.args.document.now in
     let caught = c.in_ok-told.field-0.changes in
-    let told = c.as_slice-records.ensures.items in
-    let unstarted : are_unstarted caught ≡ true = ap are_unstarted (sym told) ∙ of_found (λ _. are_unstarted c.as_slice-records.result.now ≡ true) c.referring_there.result c.in-Some.key c.referring_there.ensures.unstarted c.in-Some.is in
-    let after : referring_after c.args.ahead.now.referring c.args.ahead.now.takes.now caught ≡ Some c.in-Some.key =
-    ap (referring_after c.args.ahead.now.referring c.args.ahead.now.takes.now) (sym told) ∙ of_found (λ key. referring_after c.args.ahead.now.referring c.args.ahead.now.takes.now c.as_slice-records.result.now ≡ Some key) c.referring_there.result c.in-Some.key c.referring_there.ensures.after c.in-Some.is in
-    let refers = referring_now document document.agent_is document.styles_are c.args.board.now.held c.args.stops.items c.args.ahead.now c.args.index.now c.requires.place caught c.in_ok-told.ensures.among c.in_ok-told.ensures.covers unstarted c.in-Some.key after in
-    refers
+    found_refers document document.agent_is document.styles_are c.args.board.now.held c.args.stops.items c.args.ahead.now c.args.index.now c.requires.place caught c.as_slice-records.result.now c.as_slice-records.ensures.items c.in_ok-told.ensures.among
+    c.in_ok-told.ensures.covers c.referring_there.result c.in-Some.key c.in-Some.is c.referring_there.ensures.unstarted c.referring_there.ensures.after
 
 pub returns-clause-few : goal.returns-clause-few
 returns-clause-few g c =
     let document = c.args.document.now in
     let caught = c.in_ok-told.field-0.changes in
-    let told = c.as_slice-records.ensures.items in
-    let unstarted : are_unstarted caught ≡ true = ap are_unstarted (sym told) ∙ of_found (λ _. are_unstarted c.as_slice-records.result.now ≡ true) c.referring_there.result c.in-Some.key c.referring_there.ensures.unstarted c.in-Some.is in
-    let after : referring_after c.args.ahead.now.referring c.args.ahead.now.takes.now caught ≡ Some c.in-Some.key =
-    ap (referring_after c.args.ahead.now.referring c.args.ahead.now.takes.now) (sym told) ∙ of_found (λ key. referring_after c.args.ahead.now.referring c.args.ahead.now.takes.now c.as_slice-records.result.now ≡ Some key) c.referring_there.result c.in-Some.key c.referring_there.ensures.after c.in-Some.is in
-    let refers = referring_now document document.agent_is document.styles_are c.args.board.now.held c.args.stops.items c.args.ahead.now c.args.index.now c.requires.place caught c.in_ok-told.ensures.among c.in_ok-told.ensures.covers unstarted c.in-Some.key after in
-    refuted (IsWithinPlace document.styles.now.sheet c.args.board.now.held c.args.stops.items document.arena.now.tree c.args.steps.now (c.referring_changes.new.steps + length c.in_ok-changes.changes.items)) (author_sheet document.styles.now.sheet document.arena.now.tree) document.arena.now.tree c.in-Some.key refers
+    refuted document document.agent_is document.styles_are c.args.board.now.held c.args.stops.items c.args.ahead.now c.args.index.now c.requires.place caught c.as_slice-records.result.now c.as_slice-records.ensures.items c.in_ok-told.ensures.among
+    c.in_ok-told.ensures.covers c.referring_there.result c.in-Some.key c.in-Some.is c.referring_there.ensures.unstarted c.referring_there.ensures.after
+    (IsWithinPlace document.styles.now.sheet c.args.board.now.held c.args.stops.items document.arena.now.tree c.args.steps.now (c.referring_changes.new.steps + length c.in_ok-changes.changes.items))
 
 pub returns-in_err-changes-clause-most : goal.returns-in_err-changes-clause-most
 returns-in_err-changes-clause-most g c =
     let document = c.args.document.now in
     let caught = c.in_ok-told.field-0.changes in
-    let told = c.as_slice-records.ensures.items in
-    let unstarted : are_unstarted caught ≡ true = ap are_unstarted (sym told) ∙ of_found (λ _. are_unstarted c.as_slice-records.result.now ≡ true) c.referring_there.result c.in-Some.key c.referring_there.ensures.unstarted c.in-Some.is in
-    let after : referring_after c.args.ahead.now.referring c.args.ahead.now.takes.now caught ≡ Some c.in-Some.key =
-    ap (referring_after c.args.ahead.now.referring c.args.ahead.now.takes.now) (sym told) ∙ of_found (λ key. referring_after c.args.ahead.now.referring c.args.ahead.now.takes.now c.as_slice-records.result.now ≡ Some key) c.referring_there.result c.in-Some.key c.referring_there.ensures.after c.in-Some.is in
-    let refers = referring_now document document.agent_is document.styles_are c.args.board.now.held c.args.stops.items c.args.ahead.now c.args.index.now c.requires.place caught c.in_ok-told.ensures.among c.in_ok-told.ensures.covers unstarted c.in-Some.key after in
-    refuted (IsWithinPlace document.styles.now.sheet c.args.board.now.held c.args.stops.items document.arena.now.tree c.args.steps.now c.referring_changes.new.steps) (author_sheet document.styles.now.sheet document.arena.now.tree) document.arena.now.tree c.in-Some.key refers
+    refuted document document.agent_is document.styles_are c.args.board.now.held c.args.stops.items c.args.ahead.now c.args.index.now c.requires.place caught c.as_slice-records.result.now c.as_slice-records.ensures.items c.in_ok-told.ensures.among
+    c.in_ok-told.ensures.covers c.referring_there.result c.in-Some.key c.in-Some.is c.referring_there.ensures.unstarted c.referring_there.ensures.after
+    (IsWithinPlace document.styles.now.sheet c.args.board.now.held c.args.stops.items document.arena.now.tree c.args.steps.now c.referring_changes.new.steps)
 
 pub returns-in_err-changes-clause-steps : goal.returns-in_err-changes-clause-steps
 returns-in_err-changes-clause-steps g c =
     let document = c.args.document.now in
     let caught = c.in_ok-told.field-0.changes in
-    let less : length c.args.ahead.now.takes.now ≤ 3 * length c.as_slice-records.result.now = of_found (λ _. length c.args.ahead.now.takes.now ≤ 3 * length c.as_slice-records.result.now) c.referring_there.result c.in-Some.key c.referring_there.ensures.few c.in-Some.is in
-    omega (arith, less, c.caught_from.ensures.whole, c.in_ok-told.ensures.count, c.referring_changes.ensures.steps, ap length c.as_slice-records.ensures.items)
+    omega (arith, c.caught_from.ensures.whole, c.in_ok-told.ensures.count, c.referring_changes.ensures.steps, ap length c.as_slice-records.ensures.items)
 
 pub returns-clause-most : goal.returns-clause-most
 returns-clause-most g c =
     let document = c.args.document.now in
     let caught = c.in_ok-told.field-0.changes in
-    let told = c.as_slice-records.ensures.items in
-    let unstarted : are_unstarted caught ≡ true = ap are_unstarted (sym told) ∙ of_found (λ _. are_unstarted c.as_slice-records.result.now ≡ true) c.referring_there.result c.in-Some.key c.referring_there.ensures.unstarted c.in-Some.is in
-    let after : referring_after c.args.ahead.now.referring c.args.ahead.now.takes.now caught ≡ Some c.in-Some.key =
-    ap (referring_after c.args.ahead.now.referring c.args.ahead.now.takes.now) (sym told) ∙ of_found (λ key. referring_after c.args.ahead.now.referring c.args.ahead.now.takes.now c.as_slice-records.result.now ≡ Some key) c.referring_there.result c.in-Some.key c.referring_there.ensures.after c.in-Some.is in
-    let refers = referring_now document document.agent_is document.styles_are c.args.board.now.held c.args.stops.items c.args.ahead.now c.args.index.now c.requires.place caught c.in_ok-told.ensures.among c.in_ok-told.ensures.covers unstarted c.in-Some.key after in
-    refuted (IsWithinPlace document.styles.now.sheet c.args.board.now.held c.args.stops.items document.arena.now.tree c.args.steps.now c.referring_changes.new.steps) (author_sheet document.styles.now.sheet document.arena.now.tree) document.arena.now.tree c.in-Some.key refers
+    refuted document document.agent_is document.styles_are c.args.board.now.held c.args.stops.items c.args.ahead.now c.args.index.now c.requires.place caught c.as_slice-records.result.now c.as_slice-records.ensures.items c.in_ok-told.ensures.among
+    c.in_ok-told.ensures.covers c.referring_there.result c.in-Some.key c.in-Some.is c.referring_there.ensures.unstarted c.referring_there.ensures.after
+    (IsWithinPlace document.styles.now.sheet c.args.board.now.held c.args.stops.items document.arena.now.tree c.args.steps.now c.referring_changes.new.steps)
 
 pub returns-clause-steps : goal.returns-clause-steps
 returns-clause-steps g c =
     let document = c.args.document.now in
     let caught = c.in_ok-told.field-0.changes in
-    let less : length c.args.ahead.now.takes.now ≤ 3 * length c.as_slice-records.result.now = of_found (λ _. length c.args.ahead.now.takes.now ≤ 3 * length c.as_slice-records.result.now) c.referring_there.result c.in-Some.key c.referring_there.ensures.few c.in-Some.is in
-    omega (arith, less, c.caught_from.ensures.whole, c.in_ok-told.ensures.count, c.referring_changes.ensures.steps, ap length c.as_slice-records.ensures.items)
+    omega (arith, c.caught_from.ensures.whole, c.in_ok-told.ensures.count, c.referring_changes.ensures.steps, ap length c.as_slice-records.ensures.items)

@@ -1,24 +1,17 @@
-use Rattle.std.proofs.Common.{◌∙◌, ℕ, List, ap, arith, length, subst, sym}
-use Rattle.generated_texts.specs.StyleElements.{author_sheet}
-use Rattle.surroundings.specs.declared.told.Told.{Told}
-use Rattle.reference_reach.specs.ChangedTargets.{Evaluated}
-use Rattle.referring_elements.specs.Indexes.{TellsReferences}
-use Rattle.kept_elements.specs.Evaluations.{evaluated_document}
+use Rattle.std.proofs.Common.{◌∙◌, ap, arith, length}
 use Rattle.target_index.specs.Holders.{is_holder}
-use Rattle.dirty_walk.specs.ReferenceExchanges.{ChangesReferences, LeadsBack}
+use Rattle.dirty_walk.proofs.PlaceReadLemmas.{references_changed}
 use Rattle.dirty_walk.proofs.ReferenceExchangeLemmas.{stays_behind}
-use Rattle.dirty_walk.proofs.SomeWalk.{document_references_change, some_walk, walk_renews}
+use Rattle.dirty_walk.proofs.SomeWalk.{some_walk, walk_renews}
 use Rattle.dirty_walk.proofs.places.referring_changes.Goals as goal
 
 pub walked_changes-requires : goal.walked_changes-requires
 walked_changes-requires g c =
     let document = c.args.document.now in
-    let before : Evaluated = evaluated_document (author_sheet document.styles.now.sheet c.requires.place.place.old) c.requires.place.place.old in
-    let after : Evaluated = evaluated_document (author_sheet document.styles.now.sheet document.arena.now.tree) document.arena.now.tree in
-    let changed : ChangesReferences c.args.board.now.held c.args.ahead.now.takes.now c.as_slice-records.result.now before after =
-    subst (λ (told : List (ℕ × Told)). ChangesReferences c.args.board.now.held c.args.ahead.now.takes.now told before after) (sym c.as_slice-records.ensures.items)
-    (document_references_change document document.agent_is document.styles_are c.args.board.now.held c.args.stops.now c.requires.place.place c.args.told c.requires.among c.requires.covers c.requires.unstarted c.args.ahead.now.takes.now c.requires.place.read.takes) in
-    let refers : TellsReferences c.exchange_references.new.index after = c.in_ok-back.ensures.references before after changed c.requires.place.read.tells in
+    let changed =
+    references_changed document document.agent_is document.styles_are c.args.board.now.held c.args.stops.now c.args.ahead.now c.args.index.now c.requires.place c.args.told c.as_slice-records.result.now c.as_slice-records.ensures.items
+    c.requires.among c.requires.covers c.requires.unstarted in
+    let refers = c.in_ok-back.ensures.references _ _ changed c.requires.place.read.tells in
     record {
       indexed = λ id key. c.exchange_references.ensures.holders id key ∙ c.requires.indexed id key;
       walk = some_walk document document.agent_is document.styles_are c.args.board.now.held c.args.stops.now c.requires.place.place c.args.told c.requires.among c.requires.covers c.requires.unstarted c.exchange_references.new.index c.args.ahead.now.former.now c.requires.place.read.former refers;
@@ -27,34 +20,27 @@ walked_changes-requires g c =
 pub commit-requires : goal.commit-requires
 commit-requires g c =
     let document = c.args.document.now in
-    let before : Evaluated = evaluated_document (author_sheet document.styles.now.sheet c.requires.place.place.old) c.requires.place.place.old in
-    let after : Evaluated = evaluated_document (author_sheet document.styles.now.sheet document.arena.now.tree) document.arena.now.tree in
-    let changed : ChangesReferences c.args.board.now.held c.args.ahead.now.takes.now c.as_slice-records.result.now before after =
-    subst (λ (told : List (ℕ × Told)). ChangesReferences c.args.board.now.held c.args.ahead.now.takes.now told before after) (sym c.as_slice-records.ensures.items)
-    (document_references_change document document.agent_is document.styles_are c.args.board.now.held c.args.stops.now c.requires.place.place c.args.told c.requires.among c.requires.covers c.requires.unstarted c.args.ahead.now.takes.now c.requires.place.read.takes) in
-    let leads : LeadsBack c.in_ok-back.back c.exchange_references.new.index c.args.index.now = c.in_ok-back.ensures.back before after changed c.requires.place.read.tells in
+    let changed =
+    references_changed document document.agent_is document.styles_are c.args.board.now.held c.args.stops.now c.args.ahead.now c.args.index.now c.requires.place c.args.told c.as_slice-records.result.now c.as_slice-records.ensures.items
+    c.requires.among c.requires.covers c.requires.unstarted in
+    let leads = c.in_ok-back.ensures.back _ _ changed c.requires.place.read.tells in
     record { reserved = leads.reserved }
 
 pub returns-in-Ok-clause-refers : goal.returns-in-Ok-clause-refers
 returns-in-Ok-clause-refers g c =
     let document = c.args.document.now in
-    let before : Evaluated = evaluated_document (author_sheet document.styles.now.sheet c.requires.place.place.old) c.requires.place.place.old in
-    let after : Evaluated = evaluated_document (author_sheet document.styles.now.sheet document.arena.now.tree) document.arena.now.tree in
-    let changed : ChangesReferences c.args.board.now.held c.args.ahead.now.takes.now c.as_slice-records.result.now before after =
-    subst (λ (told : List (ℕ × Told)). ChangesReferences c.args.board.now.held c.args.ahead.now.takes.now told before after) (sym c.as_slice-records.ensures.items)
-    (document_references_change document document.agent_is document.styles_are c.args.board.now.held c.args.stops.now c.requires.place.place c.args.told c.requires.among c.requires.covers c.requires.unstarted c.args.ahead.now.takes.now c.requires.place.read.takes) in
-    let refers : TellsReferences c.exchange_references.new.index after = c.in_ok-back.ensures.references before after changed c.requires.place.read.tells in
-    refers
+    let changed =
+    references_changed document document.agent_is document.styles_are c.args.board.now.held c.args.stops.now c.args.ahead.now c.args.index.now c.requires.place c.args.told c.as_slice-records.result.now c.as_slice-records.ensures.items
+    c.requires.among c.requires.covers c.requires.unstarted in
+    c.in_ok-back.ensures.references _ _ changed c.requires.place.read.tells
 
 pub returns-in-Ok-clause-changes : goal.returns-in-Ok-clause-changes
 returns-in-Ok-clause-changes g c =
     let document = c.args.document.now in
-    let before : Evaluated = evaluated_document (author_sheet document.styles.now.sheet c.requires.place.place.old) c.requires.place.place.old in
-    let after : Evaluated = evaluated_document (author_sheet document.styles.now.sheet document.arena.now.tree) document.arena.now.tree in
-    let changed : ChangesReferences c.args.board.now.held c.args.ahead.now.takes.now c.as_slice-records.result.now before after =
-    subst (λ (told : List (ℕ × Told)). ChangesReferences c.args.board.now.held c.args.ahead.now.takes.now told before after) (sym c.as_slice-records.ensures.items)
-    (document_references_change document document.agent_is document.styles_are c.args.board.now.held c.args.stops.now c.requires.place.place c.args.told c.requires.among c.requires.covers c.requires.unstarted c.args.ahead.now.takes.now c.requires.place.read.takes) in
-    let refers : TellsReferences c.exchange_references.new.index after = c.in_ok-back.ensures.references before after changed c.requires.place.read.tells in
+    let changed =
+    references_changed document document.agent_is document.styles_are c.args.board.now.held c.args.stops.now c.args.ahead.now c.args.index.now c.requires.place c.args.told c.as_slice-records.result.now c.as_slice-records.ensures.items
+    c.requires.among c.requires.covers c.requires.unstarted in
+    let refers = c.in_ok-back.ensures.references _ _ changed c.requires.place.read.tells in
     walk_renews document document.agent_is document.styles_are c.args.board.now.held c.args.stops.now c.requires.place.place c.args.told c.requires.among c.requires.covers c.requires.unstarted c.exchange_references.new.index c.args.ahead.now.former.now c.requires.place.read.former refers c.in-Ok.changes.items c.in-Ok.ensures.renewal
 
 pub returns-in-Ok-clause-steps : goal.returns-in-Ok-clause-steps
@@ -72,32 +58,26 @@ returns-in_err-back-clause-steps g c =
 pub returns-in-Err-clause-err : goal.returns-in-Err-clause-err
 returns-in-Err-clause-err g c =
     let document = c.args.document.now in
-    let before : Evaluated = evaluated_document (author_sheet document.styles.now.sheet c.requires.place.place.old) c.requires.place.place.old in
-    let after : Evaluated = evaluated_document (author_sheet document.styles.now.sheet document.arena.now.tree) document.arena.now.tree in
-    let changed : ChangesReferences c.args.board.now.held c.args.ahead.now.takes.now c.as_slice-records.result.now before after =
-    subst (λ (told : List (ℕ × Told)). ChangesReferences c.args.board.now.held c.args.ahead.now.takes.now told before after) (sym c.as_slice-records.ensures.items)
-    (document_references_change document document.agent_is document.styles_are c.args.board.now.held c.args.stops.now c.requires.place.place c.args.told c.requires.among c.requires.covers c.requires.unstarted c.args.ahead.now.takes.now c.requires.place.read.takes) in
-    let leads : LeadsBack c.in_ok-back.back c.exchange_references.new.index c.args.index.now = c.in_ok-back.ensures.back before after changed c.requires.place.read.tells in
+    let changed =
+    references_changed document document.agent_is document.styles_are c.args.board.now.held c.args.stops.now c.args.ahead.now c.args.index.now c.requires.place c.args.told c.as_slice-records.result.now c.as_slice-records.ensures.items
+    c.requires.among c.requires.covers c.requires.unstarted in
+    let leads = c.in_ok-back.ensures.back _ _ changed c.requires.place.read.tells in
     λ id key. c.commit.ensures.references id key ∙ leads.references id key
 
 pub returns-in-Err-clause-holders : goal.returns-in-Err-clause-holders
 returns-in-Err-clause-holders g c =
     let document = c.args.document.now in
-    let before : Evaluated = evaluated_document (author_sheet document.styles.now.sheet c.requires.place.place.old) c.requires.place.place.old in
-    let after : Evaluated = evaluated_document (author_sheet document.styles.now.sheet document.arena.now.tree) document.arena.now.tree in
-    let changed : ChangesReferences c.args.board.now.held c.args.ahead.now.takes.now c.as_slice-records.result.now before after =
-    subst (λ (told : List (ℕ × Told)). ChangesReferences c.args.board.now.held c.args.ahead.now.takes.now told before after) (sym c.as_slice-records.ensures.items)
-    (document_references_change document document.agent_is document.styles_are c.args.board.now.held c.args.stops.now c.requires.place.place c.args.told c.requires.among c.requires.covers c.requires.unstarted c.args.ahead.now.takes.now c.requires.place.read.takes) in
-    let leads : LeadsBack c.in_ok-back.back c.exchange_references.new.index c.args.index.now = c.in_ok-back.ensures.back before after changed c.requires.place.read.tells in
+    let changed =
+    references_changed document document.agent_is document.styles_are c.args.board.now.held c.args.stops.now c.args.ahead.now c.args.index.now c.requires.place c.args.told c.as_slice-records.result.now c.as_slice-records.ensures.items
+    c.requires.among c.requires.covers c.requires.unstarted in
+    let leads = c.in_ok-back.ensures.back _ _ changed c.requires.place.read.tells in
     λ id key. c.commit.ensures.holders id key ∙ leads.holders id key (is_holder c.exchange_references.new.index id key) ∙ c.exchange_references.ensures.holders id key
 
 pub returns-in-Err-clause-stay : goal.returns-in-Err-clause-stay
 returns-in-Err-clause-stay g c =
     let document = c.args.document.now in
-    let before : Evaluated = evaluated_document (author_sheet document.styles.now.sheet c.requires.place.place.old) c.requires.place.place.old in
-    let after : Evaluated = evaluated_document (author_sheet document.styles.now.sheet document.arena.now.tree) document.arena.now.tree in
-    let changed : ChangesReferences c.args.board.now.held c.args.ahead.now.takes.now c.as_slice-records.result.now before after =
-    subst (λ (told : List (ℕ × Told)). ChangesReferences c.args.board.now.held c.args.ahead.now.takes.now told before after) (sym c.as_slice-records.ensures.items)
-    (document_references_change document document.agent_is document.styles_are c.args.board.now.held c.args.stops.now c.requires.place.place c.args.told c.requires.among c.requires.covers c.requires.unstarted c.args.ahead.now.takes.now c.requires.place.read.takes) in
-    let leads : LeadsBack c.in_ok-back.back c.exchange_references.new.index c.args.index.now = c.in_ok-back.ensures.back before after changed c.requires.place.read.tells in
+    let changed =
+    references_changed document document.agent_is document.styles_are c.args.board.now.held c.args.stops.now c.args.ahead.now c.args.index.now c.requires.place c.args.told c.as_slice-records.result.now c.as_slice-records.ensures.items
+    c.requires.among c.requires.covers c.requires.unstarted in
+    let leads = c.in_ok-back.ensures.back _ _ changed c.requires.place.read.tells in
     λ more none there. c.commit.ensures.reserved more (stays_behind c.in_ok-back.back more c.exchange_references.new.index c.args.index.now leads none (c.exchange_references.ensures.stay more none there))

@@ -15,6 +15,3 @@ returns-clause-unstarted c = whatever _ c.referring_after.result (sym c.are_unst
 
 pub returns-clause-after : goal.returns-clause-after
 returns-clause-after c = itself c.referring_after.result _ c.referring_after.ensures
-
-pub returns-clause-few : goal.returns-clause-few
-returns-clause-few c = whatever _ c.referring_after.result (c.goes_less.ensures c.if-not-goes_less.false)

@@ -1,4 +1,4 @@
-use Rattle.std.proofs.Common.{◌≡◌, ◌≤◌, ◌++◌, ◌∙◌, ℕ, List, true, ap, ap₂, arith, flat_map, length, nat_eq, subst, sym, take}
+use Rattle.std.proofs.Common.{◌≡◌, ◌≤◌, ◌+◌, ◌++◌, ◌∙◌, ℕ, List, true, ap, ap₂, arith, flat_map, length, nat_eq, subst, sym, take}
 use Rattle.std.specs.Prelude.{IsSome}
 use Rattle.std.specs.FinMap.{FinMap}
 use Rattle.std.specs.List.{IsDistinct}
@@ -14,10 +14,12 @@ use Rattle.document_walk.specs.Elements.{element_count}
 use Rattle.edit_work.specs.KeyedSources.{is_among}
 use Rattle.surroundings.specs.declared.told.Told.{Told}
 use Rattle.kept_elements.specs.declared.kept.Kept.{Kept}
-use Rattle.kept_elements.specs.Renewals.{IsSomeEdit, is_told}
-use Rattle.kept_elements.specs.Machinery.Renewals.{IsRenewal, again, with_again}
+use Rattle.kept_elements.specs.RenewalSteps.{renewal_weight}
+use Rattle.kept_elements.specs.Renewals.{IsSomeEdit, evaluated_as, is_told}
+use Rattle.kept_elements.specs.Machinery.Renewals.{IsRenewal, IsWithinLists, again, with_again}
 use Rattle.kept_elements.proofs.NamedKeys.{few_named}
 use Rattle.kept_elements.proofs.RenewedLemmas.{are_elements, named_first, named_second, renewed}
+use Rattle.kept_elements.proofs.StepLemmas.{few_steps, first_is_few, target_elements, targets_are, told_are, told_elements}
 use Rattle.kept_elements.proofs.renewed_texts.renewed_entries.Goals as goal
 
 module _ (table : List CounterStyle) (tree : Forest (Keyed Node)) (distinct : HasDistinctKeys tree) (told : List (ℕ × Told)) (held : FinMap nat_cmp Kept) (first second : List ℕ)
@@ -38,6 +40,39 @@ module _ (table : List CounterStyle) (tree : Forest (Keyed Node)) (distinct : Ha
   named records are key there =
       are_elements table edit.merge edit.old tree edit.was edit.is told held edit.visited first second edit.tells key
       (sym (ap (λ (rs : List (ℕ × Told)). is_told rs key) are) ∙ there)
+
+-- The steps for what refers, and for what is told and told again.
+module _ (table : List CounterStyle) (tree : Forest (Keyed Node)) (told : List (ℕ × Told)) (held : FinMap nat_cmp Kept) (first second : List ℕ) (edit : IsSomeEdit table tree told held first second)
+    (ones : List ℕ) (ones_are : ones ≡ first) (once_ones : IsDistinct nat_eq ones) where
+  abbrev weight : ℕ
+  weight = renewal_weight (evaluated_as edit.old edit.was) (evaluated_as tree edit.is) edit.merge told
+
+  once_first : IsDistinct nat_eq first
+  once_first = subst (λ (ks : List ℕ). IsDistinct nat_eq ks) ones_are once_ones
+
+  few_ones : length ones ≤ weight
+  few_ones =
+      omega (arith, ap length ones_are, first_is_few table edit.merge edit.old tree edit.was edit.is told held edit.visited first second edit.tells once_first)
+
+  module _ (others : List ℕ) (others_are : others ≡ second) (once_others : IsDistinct nat_eq others) where
+    abbrev elements : List ℕ
+    elements = told_elements table edit.merge edit.old tree edit.was edit.is told held edit.visited first second edit.tells
+
+    abbrev named_elements : List ℕ
+    named_elements = target_elements table edit.merge edit.old tree edit.was edit.is told held edit.visited first second edit.tells
+
+    few_all : (length ones + length others) + (length elements + length named_elements) ≤ weight
+    few_all =
+        let all =
+        few_steps table edit.merge edit.old tree edit.was edit.is told held edit.visited first second edit.tells once_first
+        (subst (λ (ks : List ℕ). IsDistinct nat_eq ks) others_are once_others) in
+        omega (arith, all, ap length ones_are, ap length others_are)
+
+    few_again : (records : List (ℕ × Told)) → records ≡ with_again held (with_again held told first) second → (old new : ℕ) → IsWithinLists tree records old new → new ≤ old + (length elements + length named_elements)
+    few_again records are old new within =
+        subst (λ (rs : List (ℕ × Told)). IsWithinLists tree rs old new) are within elements named_elements
+        (told_are table edit.merge edit.old tree edit.was edit.is told held edit.visited first second edit.tells)
+        (targets_are table edit.merge edit.old tree edit.was edit.is told held edit.visited first second edit.tells)
 
 -- what is told again comes behind what is told
 put : (held : FinMap nat_cmp Kept) (told some : List (ℕ × Told)) (keys others : List ℕ) (new : List (ℕ × Told)) → some ≡ told → keys ≡ others → new ≡ some ++ flat_map (again held) keys → new ≡ with_again held told others
@@ -93,6 +128,34 @@ returns-clause-renewal g c =
     renewed table edit.merge edit.old tree edit.was edit.is told held edit.visited first second edit.tells
     renewal.targets renewal.targets_are renewal.keys renewal.keys_are renewal.once changes.items renewal.changes_are)
     c.entries_again.ensures.renewal
+
+pub returns-in_err-put_all_again-clause-fewer : goal.returns-in_err-put_all_again-clause-fewer
+returns-in_err-put_all_again-clause-fewer g c = λ edit.
+    let ones = few_ones c.args.table.now c.args.arena.now.tree c.args.told c.args.board.now.held c.args.found.now.first c.args.found.now.second edit c.as_slice.result.now c.as_slice.ensures.keys c.as_slice.ensures.once in
+    omega (arith, ones, c.put_all_again.ensures.steps)
+
+pub returns-in_err-put_all_again-2-clause-fewer : goal.returns-in_err-put_all_again-2-clause-fewer
+returns-in_err-put_all_again-2-clause-fewer g c = λ edit.
+    let all =
+    few_all c.args.table.now c.args.arena.now.tree c.args.told c.args.board.now.held c.args.found.now.first c.args.found.now.second edit c.as_slice.result.now c.as_slice.ensures.keys c.as_slice.ensures.once
+    c.as_slice-2.result.now c.as_slice-2.ensures.keys c.as_slice-2.ensures.once in
+    omega (arith, all, c.put_all_again.ensures.steps, c.put_all_again-2.ensures.steps)
+
+pub returns-clause-fewer : goal.returns-clause-fewer
+returns-clause-fewer g c = λ edit.
+    let held = c.args.board.now.held in
+    let told = c.args.told in
+    let first = c.args.found.now.first in
+    let second = c.args.found.now.second in
+    let ones = c.as_slice.result.now in
+    let others = c.as_slice-2.result.now in
+    let some = put held told told ones first c.put_all_again.new.records (λ i. told) c.as_slice.ensures.keys c.in_ok-put_all_again.ensures.ok in
+    let all = put held (with_again held told first) c.put_all_again.new.records others second c.put_all_again-2.new.records some c.as_slice-2.ensures.keys c.in_ok-put_all_again-2.ensures.ok in
+    let few = few_all c.args.table.now c.args.arena.now.tree told held first second edit ones c.as_slice.ensures.keys c.as_slice.ensures.once others c.as_slice-2.ensures.keys c.as_slice-2.ensures.once in
+    let again =
+    few_again c.args.table.now c.args.arena.now.tree told held first second edit ones c.as_slice.ensures.keys c.as_slice.ensures.once others c.as_slice-2.ensures.keys c.as_slice-2.ensures.once
+    c.as_slice-3.result.now (c.as_slice-3.ensures.items ∙ all) c.put_all_again-2.new.steps c.entries_again.new.steps c.entries_again.ensures.fewer in
+    omega (arith, few, again, c.put_all_again.ensures.steps, c.put_all_again-2.ensures.steps)
 
 pub returns-clause-steps : goal.returns-clause-steps
 returns-clause-steps g c =

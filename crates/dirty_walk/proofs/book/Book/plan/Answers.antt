@@ -34,6 +34,7 @@ use Rattle.dirty_walk.specs.declared.read_ahead.ReadAhead.{ReadAhead}
 use Rattle.referring_elements.specs.declared.former.FormerTarget.{FormerTarget}
 use Rattle.dirty_walk.specs.Plans.{settled_after, IsPlannedBy}
 use Rattle.dirty_walk.specs.WorkBounds.{IsWithinWork, StopsWithinWork, keyed_source}
+use Rattle.dirty_walk.proofs.ExchangeLaws.{taken_count}
 use Rattle.dirty_walk.proofs.GoneLemmas.{taken_gone}
 use Rattle.dirty_walk.proofs.PlaceLemmas.{stands_read}
 use Rattle.dirty_walk.proofs.PlanLemmas.{as_read, its_keys, its_text, same_document, under_its_text}
@@ -183,7 +184,9 @@ returns-in-Ok-clause-steps g c =
     ap (λ (tree : Forest (Keyed Node)). element_count (without_keys tree)) c.commit-reversal.ensures.tree
     ∙ ap element_count c.in_ok-prepared.ensures.edits.tree
     ∙ ap (λ (styled : StyledDocument). element_count (edited c.args.edit.now (without_keys styled.tree))) c.self.view_is in
-    omega (arith, same, c.evaluated.ensures.steps)
+    let gone : length c.as_slice.result.now ≤ element_count (without_keys c.args.self.now.tree) =
+    omega (arith, ap length (c.as_slice.ensures.items ∙ c.in_ok-gone.ensures.takes), taken_count c.args.edit.now c.args.self.now.tree) in
+    omega (arith, same, gone, c.evaluated.ensures.steps)
 
 pub returns-in-Ok-clause-size : goal.returns-in-Ok-clause-size
 returns-in-Ok-clause-size g c =
@@ -213,7 +216,9 @@ returns-clause-steps g c =
     ap (λ (tree : Forest (Keyed Node)). element_count (without_keys tree)) c.commit-reversal.ensures.tree
     ∙ ap element_count c.in_ok-prepared.ensures.edits.tree
     ∙ ap (λ (styled : StyledDocument). element_count (edited c.args.edit.now (without_keys styled.tree))) c.self.view_is in
-    omega (arith, same, c.evaluated.ensures.steps)
+    let gone : length c.as_slice.result.now ≤ element_count (without_keys c.args.self.now.tree) =
+    omega (arith, ap length (c.as_slice.ensures.items ∙ c.in_ok-gone.ensures.takes), taken_count c.args.edit.now c.args.self.now.tree) in
+    omega (arith, same, gone, c.evaluated.ensures.steps)
 
 pub returns-in-Ok-clause-within_work : goal.returns-in-Ok-clause-within_work
 unfolding settled_after
@@ -230,6 +235,8 @@ returns-in-Ok-clause-within_work g c =
     let taken = (c.in_ok-gone.ensures.takes ∙ ap (λ (styled : StyledDocument). taken_keys c.args.edit.now (elements_in (leaving c.args.edit.now styled.tree))) (sym c.self.view_is)) in
     let count : length puts + length takes ≤ element_count (without_keys tree) + element_count (without_keys old) =
     few c.args.edit.now old tree done c.self.inside.styles.sheet text c.self.inside.board.held puts takes (c.self.invariant.kept none) c.in-Ok.ensures.changes taken in
+    let gone : length c.as_slice.result.now ≤ element_count (without_keys old) =
+    omega (arith, ap length (c.as_slice.ensures.items ∙ taken), taken_count c.args.edit.now old) in
     subst
     (λ (styled : StyledDocument).
     IsWithinWork c.args.edit.now (keyed_source styled) (record { tree = tree; sheet = c.replace_styles.new.styles.sheet }) c.args.steps.now (c.evaluated.new.steps + (length puts + length takes)))
@@ -242,7 +249,7 @@ returns-in-Ok-clause-within_work g c =
     c.in-Ok.ensures.few
     (omega (arith, ap length taken, taken_gone c.args.edit.now old tree))
     (omega arith)
-    (omega (arith, count, c.evaluated.ensures.steps)))
+    (omega (arith, count, gone, c.evaluated.ensures.steps)))
 
 pub returns-clause-stops_within_work : goal.returns-clause-stops_within_work
 returns-clause-stops_within_work g c =
@@ -254,6 +261,9 @@ returns-clause-stops_within_work g c =
     let done =
     done_by c.args.edit.now old _ tree c.args.self.now c.arena_holds_document.ensures.document c.arena_holds_document-2.ensures.document
     (ap (λ (styled : StyledDocument). styled.tree) c.self.view_is) c.requires.allowed c.inserts_one_tree.ensures c.in_ok-prepared.ensures.edits c.commit-reversal.ensures.tree in
+    let taken = (c.in_ok-gone.ensures.takes ∙ ap (λ (styled : StyledDocument). taken_keys c.args.edit.now (elements_in (leaving c.args.edit.now styled.tree))) (sym c.self.view_is)) in
+    let gone : length c.as_slice.result.now ≤ element_count (without_keys old) =
+    omega (arith, ap length (c.as_slice.ensures.items ∙ taken), taken_count c.args.edit.now old) in
     subst (λ (styled : StyledDocument). StopsWithinWork c.args.edit.now (keyed_source styled) c.args.steps.now c.evaluated.new.steps) c.self.view_is
     (inr (
       record { tree = tree; sheet = text },
@@ -263,5 +273,5 @@ returns-clause-stops_within_work g c =
           c.self.inside.is_plain c.self.invariant.plain_is c.args.steps.now c.evaluated.new.steps 0 c.evaluated.new.steps
           (ahead_of (λ styled. IfSome c.in_ok-gone.field-0.stops (λ _. is_unstarted (author_sheet styled.sheet styled.tree) styled.tree ≡ true)) _ _ c.self.view_is c.in_ok-gone.ensures.unstarted) (ahead_of (λ styled. IfSome c.in_ok-gone.field-0.stops (λ local. local.extent ≡ reach (looks_beside styled.sheet styled.tree) styled.tree c.args.edit.now)) _ _ c.self.view_is c.in_ok-gone.ensures.extent) c.in_ok-gone.ensures.local (ahead_of (λ styled. IfSome c.in_ok-gone.field-0.stops (λ local. local.stops.items ≡ reach_stops local.extent c.args.edit.now 0 styled.tree)) _ _ c.self.view_is c.in_ok-gone.ensures.stops) (ahead_of (λ styled. IfNone c.in_ok-gone.field-0.stops ((is_plain (author_sheet styled.sheet styled.tree) styled.tree ≡ false) ⊎ (reach (looks_beside styled.sheet styled.tree) styled.tree c.args.edit.now ≡ All))) _ _ c.self.view_is c.in_ok-gone.ensures.none)
           c.evaluated.ensures.most
-          (omega arith) (omega arith) (omega (arith, c.evaluated.ensures.steps)),
+          (omega arith) (omega arith) (omega (arith, gone, c.evaluated.ensures.steps)),
     ))

@@ -1,36 +1,10 @@
-use Rattle.std.proofs.Common.{◌≡◌, ◌∙◌, ◌≤◌, ◌+◌, ◌*◌, ℕ, Option, None, IfOk, ap, arith, inl, refl, sym, subst}
+use Rattle.std.proofs.Common.{◌≤◌, ◌+◌, ◌*◌, ℕ, ap, arith, inl, refl, sym, subst}
 use Rattle.dirty_walk.specs.Books.{StyledDocument}
 use Rattle.dirty_walk.specs.Plans.{settled_after}
 use Rattle.dirty_walk.specs.WorkBounds.{IsWithinWork, StopsWithinWork, keyed_source}
-use Rattle.forest.specs.Forest.{Forest}
-use Rattle.forest.specs.Keys.{Keyed, without_keys}
-use Rattle.node_arena.specs.Edits as edits
-use Rattle.node_arena.specs.declared.place_fault.PlaceFault.{PlaceFault}
-use Rattle.plain_types.specs.declared.edit.Edit.{Edit}
-use Rattle.plain_types.specs.declared.node.Node.{Node}
-use Rattle.document_walk.specs.Elements.{element_count}
 use Rattle.ports.proofs.GrownLemmas.{on_err}
-use Rattle.marker_engine.specs.Edited.{edited}
-use Rattle.marker_engine.specs.Engines.{IsEvaluated, source_of}
+use Rattle.marker_engine.proofs.ApplyLemmas.{allowed_by, no_fault, same_evaluated}
 use Rattle.marker_engine.proofs.engine.Engine.apply.Goals as goal
-
--- one book that is another is evaluated as that is
-same_evaluated : (old new : StyledDocument) → new ≡ old → IsEvaluated old → IsEvaluated new
-same_evaluated old new is evaluated = subst IsEvaluated (sym is) evaluated
-
--- no fault is that of the told document, where it is that of the arena's
-no_fault : (edit : Edit) (tree : Forest (Keyed Node)) (old told : StyledDocument) (fault : Option PlaceFault) → fault ≡ edits.place_fault edit (without_keys tree) → tree ≡ old.tree → old ≡ told
-    → fault ≡ None → edits.place_fault edit (without_keys told.tree) ≡ None
-no_fault edit tree old told fault is same view none =
-    sym (is ∙ ap (λ (t : Forest (Keyed Node)). edits.place_fault edit (without_keys t)) (same ∙ ap (λ (styled : StyledDocument). styled.tree) view)) ∙ none
-
--- a bound on the steps of an edit that is allowed
-allowed_within : (edit : Edit) (old told : StyledDocument) (low high : ℕ) → edits.place_fault edit (without_keys told.tree) ≡ None → old ≡ told
-    → low ≤ high + (13 * element_count (edits.edited edit (without_keys old.tree)) + element_count (without_keys old.tree))
-    → IfOk (edited (source_of told) edit) (λ source. low ≤ high + (13 * element_count source.tree + element_count (source_of told).tree))
-allowed_within edit old told low high allowed view bound =
-    rw (edited, allowed)
-    (subst (λ (styled : StyledDocument). low ≤ high + (13 * element_count (edits.edited edit (without_keys styled.tree)) + element_count (without_keys styled.tree))) view bound)
 
 pub returns-in-Some-clause-keeps : goal.returns-in-Some-clause-keeps
 returns-in-Some-clause-keeps g c = (same_evaluated c.self.inside.book c.args.self.now (sym c.self.view_is) c.self.invariant).1
@@ -43,13 +17,13 @@ returns-in_err-plan-clause-keeps g c = (same_evaluated c.self.inside.book c.plan
 
 pub returns-in_err-plan-clause-steps : goal.returns-in_err-plan-clause-steps
 returns-in_err-plan-clause-steps g c =
-    allowed_within c.args.edit.now c.self.inside.book c.args.self.now c.plan.new.steps c.args.steps.now
+    allowed_by c.args.edit.now c.self.inside.book c.args.self.now (λ after before. c.plan.new.steps ≤ c.args.steps.now + (13 * after + 2 * before))
     (no_fault c.args.edit.now c.arena.result.now.tree c.self.inside.book c.args.self.now c.allows.result c.allows.ensures.fault c.arena.ensures.tree c.self.view_is c.in_default.is)
     c.self.view_is (omega (arith, c.plan.ensures.steps))
 
 pub returns-clause-steps : goal.returns-clause-steps
 returns-clause-steps g c =
-    allowed_within c.args.edit.now c.self.inside.book c.args.self.now c.commit.new.steps c.args.steps.now
+    allowed_by c.args.edit.now c.self.inside.book c.args.self.now (λ after before. c.commit.new.steps ≤ c.args.steps.now + (13 * after + 2 * before))
     (no_fault c.args.edit.now c.arena.result.now.tree c.self.inside.book c.args.self.now c.allows.result c.allows.ensures.fault c.arena.ensures.tree c.self.view_is c.in_default.is)
     c.self.view_is (let size = c.in_ok-plan.ensures.size in omega (arith, size, c.plan.ensures.steps, c.commit.ensures.steps))
 

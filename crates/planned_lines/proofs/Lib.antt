@@ -1,0 +1,3 @@
+pub mod PlannedLines
+pub mod PutLemmas
+pub mod SpanLemmas

@@ -1,0 +1,15 @@
+use Rattle.std.proofs.Common.{◌≡◌, ◌-◌, flat_map, length, take}
+use Rattle.forest.specs.Keys.{keys}
+use Rattle.forest.specs.Order.{place_of}
+use Rattle.forest.specs.Spots.{IsLive}
+use Rattle.planned_lines.proofs.PlannedLines.{told}
+use Rattle.planned_lines.proofs.lines.lines_within.Given as goal
+
+abbrev pub invariant-walk : goal.invariant-walk
+invariant-walk l = record {
+  live : IsLive l.arena.tree l.at;
+  gathered : l.lines.items ≡ flat_map (told l.arena.tree l.changes) (take (place_of l.arena.tree l.at) (keys l.arena.tree));
+}
+
+abbrev pub decreases-walk : goal.decreases-walk
+decreases-walk l = length (keys l.arena.tree) - place_of l.arena.tree l.at

@@ -1,0 +1,2 @@
+pub mod EntryChanges
+pub mod Spans
