@@ -10,6 +10,7 @@ mod TurnLemmas
 mod GeneratedLemmas
 mod PlayLemmas
 mod SameLemmas
+mod StepLemmas
 mod EditorLemmas
 mod FaultLemmas
 mod ReadLemmas

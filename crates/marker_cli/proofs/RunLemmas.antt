@@ -22,7 +22,7 @@ use Rattle.marker_cli.specs.Ends.{IsCaused}
 use Rattle.marker_cli.specs.Lines.{message}
 use Rattle.marker_cli.specs.Names.{TellsOfLine}
 use Rattle.marker_cli.specs.Output.{ends}
-use Rattle.marker_cli.specs.Run.{AreReadings, Readings, TextsReadAs, form_output, form_size, output, read_size}
+use Rattle.marker_cli.specs.Run.{AreReadings, Readings, TextsReadAs, form_output, form_size, form_steps, most_run_steps, output, read_size}
 use Rattle.marker_cli.specs.Turns.{text_in}
 use Rattle.marker_cli.specs.Words.{Form, IsForm, ReadsAsForm, aspect, bake, edit, gen, table}
 use Rattle.marker_cli.proofs.BakeLemmas.{SomeOutput, baked_as, placed_document}
@@ -43,6 +43,9 @@ module _ (words : List (List ℕ)) (files : Files) (readings : Readings) (form :
 
   pub size_same : ReadsAsForm words readings.form → form_size files readings.script (Some form) ≡ read_size files readings
   size_same reads = sym (ap (λ read. form_size files readings.script read) (read_as words form readings.form is reads))
+
+  pub steps_same : ReadsAsForm words readings.form → form_steps files readings (Some form) ≡ most_run_steps files readings
+  steps_same reads = sym (ap (λ read. form_steps files readings read) (read_as words form readings.form is reads))
 
 -- each text has a reading
 some_tree : (files : Files) (document sheet : List ℕ) → (reading : Reading) × DocumentReadsAs files document sheet reading

@@ -4,7 +4,7 @@ use Rattle.std.specs.Prelude.{Some, None, Ok, Err}
 use Rattle.std.specs.Fmt.{decimal}
 use Rattle.edit_inverses.specs.Versions.{AreSameVersions, IsSameVersion, Version, version_after}
 use Rattle.edit_script.specs.declared.action.Action.{Action}
-use Rattle.edit_script.specs.declared.action.Action.TheVariants.{Change, SheetFile, Show, Undo, Redo}
+use Rattle.edit_script.specs.declared.action.Action.TheVariants.{Change, SheetFile, Show, Undo, Redo, Enter}
 use Rattle.edit_script.specs.declared.command.Command.{Command}
 use Rattle.generated_texts.specs.Lines.{fresh_dump}
 use Rattle.node_arena.specs.Edits.{edited_sheet, place_fault}
@@ -16,7 +16,7 @@ use Rattle.same_documents.proofs.SameEdits.{same_edited, same_fault, same_refl}
 use Rattle.same_texts.proofs.SameLines.{dump_same}
 use Rattle.marker_cli.specs.declared.status.FileAt.TheVariants.{Line}
 use Rattle.marker_cli.specs.declared.status.Status.{Status}
-use Rattle.marker_cli.specs.Edit.{action_output, after_edit, after_step, nothing, play, refused, shown}
+use Rattle.marker_cli.specs.Edit.{action_output, after_edit, after_step, no_document, nothing, play, refused, shown}
 use Rattle.marker_cli.specs.Editors.{AreSameHistories, TellsNoneApart}
 use Rattle.marker_cli.specs.Output.{Output, goes_on, turn, writes}
 use Rattle.marker_cli.specs.Turns.{text_in}
@@ -43,10 +43,10 @@ take_same (suc count) [] (other ∷ others) same = absurd same
 take_same (suc count) (version ∷ versions) [] same = absurd same
 take_same (suc count) (version ∷ versions) (other ∷ others) same = (same.0, take_same count versions others same.1)
 
-after_same : (edit : Edit) (version other : Version) → IsSameVersion version other → IsSameVersion (version_after edit version) (version_after edit other)
+pub after_same : (edit : Edit) (version other : Version) → IsSameVersion version other → IsSameVersion (version_after edit version) (version_after edit other)
 after_same edit version other same = record { document = same_edited edit version.document other.document same.document; sheet = ap (edited_sheet edit) same.sheet }
 
-edited_same : (depth : ℕ) (edit : Edit) (versions others : Versions) → AreSameHistories versions others → AreSameHistories (edited depth edit versions) (edited depth edit others)
+pub edited_same : (depth : ℕ) (edit : Edit) (versions others : Versions) → AreSameHistories versions others → AreSameHistories (edited depth edit versions) (edited depth edit others)
 edited_same depth edit versions others same = record {
   present = after_same edit versions.present others.present same.present;
   past = take_same depth (versions.present ∷ versions.past) (others.present ∷ others.past) (same.present, same.past);
@@ -54,19 +54,19 @@ edited_same depth edit versions others same = record {
 }
 
 -- both steps lead to same versions, or neither leads to any
-abbrev AreSameSteps : Option Versions → Option Versions → Type 0
+abbrev pub AreSameSteps : Option Versions → Option Versions → Type 0
 AreSameSteps None None = Unit {0}
 AreSameSteps (Some versions) (Some others) = AreSameHistories versions others
 AreSameSteps _ _ = ⊥
 
-back_same : (present other : Version) (past others future beside : List Version) → IsSameVersion present other → AreSameVersions past others → AreSameVersions future beside
+pub back_same : (present other : Version) (past others future beside : List Version) → IsSameVersion present other → AreSameVersions past others → AreSameVersions future beside
     → AreSameSteps (stepped_back present past future) (stepped_back other others beside)
 back_same present other [] [] future beside here behind ahead = tt
 back_same present other [] (first ∷ others) future beside here behind ahead = absurd behind
 back_same present other (version ∷ past) [] future beside here behind ahead = absurd behind
 back_same present other (version ∷ past) (first ∷ others) future beside here behind ahead = record { present = behind.0; past = behind.1; future = (here, ahead) }
 
-forth_same : (present other : Version) (past others future beside : List Version) → IsSameVersion present other → AreSameVersions past others → AreSameVersions future beside
+pub forth_same : (present other : Version) (past others future beside : List Version) → IsSameVersion present other → AreSameVersions past others → AreSameVersions future beside
     → AreSameSteps (stepped_forth present past future) (stepped_forth other others beside)
 forth_same present other past others [] [] here behind ahead = tt
 forth_same present other past others [] (first ∷ beside) here behind ahead = absurd ahead
@@ -106,6 +106,7 @@ module _ (next : Versions → Output) (alike : TellsNoneApart next) (versions ot
       step_same number (undone versions) (undone others) (back_same versions.present others.present versions.past others.past versions.future others.future same.present same.past same.future)
   action_same files depth number Redo =
       step_same number (redone versions) (redone others) (forth_same versions.present others.present versions.past others.past versions.future others.future same.present same.past same.future)
+  action_same files depth number (Enter name) = ap (λ rest. writes (no_document number) rest) (alike versions others same)
 
 pub play_same : (files : Files) (depth : ℕ) (commands : List Command) → TellsNoneApart (play files depth commands)
 play_same files depth [] versions others same = refl

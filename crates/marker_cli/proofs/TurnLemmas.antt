@@ -9,7 +9,7 @@ use Rattle.bake_definitions.specs.Places.{left_out}
 use Rattle.baked_text.specs.Walks.{saturated}
 use Rattle.edit_script.specs.Scripts.{AreCommands, ReadsAsScript, command_line, no_line, skipped_line}
 use Rattle.edit_script.specs.declared.action.Action.{Action}
-use Rattle.edit_script.specs.declared.action.Action.TheVariants.{Change, SheetFile, Show, Undo, Redo}
+use Rattle.edit_script.specs.declared.action.Action.TheVariants.{Change, SheetFile, Show, Undo, Redo, Enter}
 use Rattle.edit_script.specs.declared.command.Command.{Command}
 use Rattle.edit_script.specs.declared.script_kind.ScriptKind.{ScriptKind}
 use Rattle.forest.specs.Forest.{Forest}
@@ -98,6 +98,7 @@ turns_action files name depth number (SheetFile file) versions next is follows =
 turns_action files name depth number Show versions next is follows = at_bytes _ (follows versions)
 turns_action files name depth number Undo versions next is follows = turns_step files name number versions (undone versions) next follows
 turns_action files name depth number Redo versions next is follows = turns_step files name number versions (redone versions) next follows
+turns_action files name depth number (Enter document) versions next is follows = at_bytes _ (follows versions)
 
 turns_play : (files : Files) (name : FileAt → List ℕ) (depth : ℕ) (commands : List Command) (versions : Versions) → AreNamed name commands
     → AreTurns files name (play files depth commands versions)

@@ -3,7 +3,7 @@ use Rattle.std.specs.Prelude.{◌≡◌, ℕ, List, [], ◌∷◌, ◌++◌, Opt
 use Rattle.std.specs.Fmt.{decimal}
 use Rattle.edit_script.specs.Scripts.{ReadsAsScript}
 use Rattle.edit_script.specs.declared.action.Action.{Action}
-use Rattle.edit_script.specs.declared.action.Action.TheVariants.{Change, SheetFile, Show, Undo, Redo}
+use Rattle.edit_script.specs.declared.action.Action.TheVariants.{Change, SheetFile, Show, Undo, Redo, Enter}
 use Rattle.edit_script.specs.declared.command.Command.{Command}
 use Rattle.edit_inverses.specs.Versions.{Version}
 use Rattle.edit_script.specs.declared.script_kind.ScriptKind.{ScriptKind}
@@ -58,6 +58,10 @@ refused number fault = codes "refused " ++ (decimal number ++ refusal fault)
 abbrev pub nothing : ℕ → List ℕ
 nothing number = codes "refused " ++ (decimal number ++ codes " nothing\n")
 
+-- the line about an `in` that finds no document of its name
+abbrev pub no_document : ℕ → List ℕ
+no_document number = codes "refused " ++ (decimal number ++ codes " no-document\n")
+
 -- What the commands do.
 
 -- an edit that has its place is done, and of another it is told why it is refused
@@ -70,13 +74,15 @@ abbrev pub after_step : ℕ → Versions → Option Versions → (Versions → O
 after_step number versions (Some led) next = next led
 after_step number versions None next = writes (nothing number) (next versions)
 
--- one command, where so many edits can be undone, and what comes next; a `sheet` line is the edit that replaces the sheet
+-- One command, where so many edits can be undone, and what comes next. A `sheet` line is the edit that replaces the sheet. Here no
+-- document has a name, so that none is found by one; only the script of a book looks for one.
 abbrev pub action_output : Files → ℕ → ℕ → Action → Versions → (Versions → Output) → Output
 action_output files depth number (Change edit) versions next = after_edit depth number edit versions (place_fault edit versions.present.document) next
 action_output files depth number (SheetFile name) versions next = with_text files (Line number) name (λ text. next (edited depth (ReplaceSheet text) versions))
 action_output files depth number Show versions next = writes (shown number versions.present) (next versions)
 action_output files depth number Undo versions next = after_step number versions (undone versions) next
 action_output files depth number Redo versions next = after_step number versions (redone versions) next
+action_output files depth number (Enter name) versions next = writes (no_document number) (next versions)
 
 -- all of them, in their order
 abbrev pub play : Files → ℕ → List Command → Versions → Output

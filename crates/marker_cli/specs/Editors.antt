@@ -11,7 +11,6 @@ use Rattle.undo_ring.specs.declared.undo_fault.UndoFault.{UndoFault}
 use Rattle.undo_ring.specs.declared.undo_fault.UndoFault.TheVariants as undo_faults
 use Rattle.marker_cli.specs.declared.editor.Editor.{Editor}
 use Rattle.marker_cli.specs.declared.editor.Editor.TheVariants.{Plain, Versioned}
-use Rattle.marker_cli.specs.Output.{Output}
 use Rattle.marker_cli.specs.Versions.{Versions, begun, edited}
 
 -- the versions that an editor has
@@ -31,7 +30,7 @@ pub record AreSameHistories (versions other : Versions) : Type 0 where
   pub future : AreSameVersions versions.future other.future
 
 -- what comes next is no other for versions that are the same
-abbrev pub TellsNoneApart : (Versions → Output) → Type 0
+abbrev pub TellsNoneApart : {A : Type 0} → (Versions → A) → Type 0
 TellsNoneApart next = (versions other : Versions) → AreSameHistories versions other → next versions ≡ next other
 
 -- what an editor answers to an edit, and the versions that it has then

@@ -2,6 +2,7 @@
 use Rattle.std.specs.Prelude.{ℕ, ◌+◌, List, [], ◌∷◌, ◌++◌, length, Result, Ok, Err, codes}
 use Rattle.std.specs.Fmt.{decimal}
 use Rattle.document_walk.specs.Elements.{element_count}
+use Rattle.edit_inverses.specs.Versions.{Version}
 use Rattle.edit_script.specs.Generator.{document, edits_of, sheet}
 use Rattle.generated_texts.specs.Lines.{document_lines}
 use Rattle.marker_engine.specs.Census.{box_count, saturated}
@@ -10,6 +11,7 @@ use Rattle.marker_engine.specs.Engines.{Source}
 use Rattle.node_arena.specs.declared.place_fault.PlaceFault.{PlaceFault}
 use Rattle.plain_types.specs.declared.edit.Edit.{Edit}
 use Rattle.marker_cli.specs.declared.status.Status.TheVariants as status
+use Rattle.marker_cli.specs.EditSteps.{edit_steps, show_steps, start_steps}
 use Rattle.marker_cli.specs.Output.{Output, ends, writes}
 
 -- a document under its sheet after some edits, and how many of these were accepted and refused
@@ -57,3 +59,19 @@ numbers outcome =
 -- the output of `gen SEED COUNT`
 abbrev pub generated_output : ℕ → ℕ → Output
 generated_output seed count = writes (numbers (generated seed count)) (ends status.Ok)
+
+-- How many steps it takes at most: one evaluation at the start, what each edit takes, and at the end one look at each element.
+
+-- a document under its sheet, as one of its versions
+abbrev pub version_in : Source → Version
+version_in source = record { document = source.tree; sheet = source.sheet }
+
+abbrev pub edits_steps : List Edit → Outcome → ℕ
+edits_steps [] outcome = 0
+edits_steps (edit ∷ edits) outcome = edit_steps (version_in outcome.source) edit + edits_steps edits (with_answer outcome (edited outcome.source edit))
+
+abbrev pub outcome_steps : List Edit → Source → ℕ
+outcome_steps edits source = edits_steps edits (unedited source) + show_steps (version_in (after_edits edits (unedited source)).source)
+
+abbrev pub most_generated_steps : ℕ → ℕ → ℕ
+most_generated_steps seed count = start_steps (document seed count) + outcome_steps (edits_of seed count) (record { tree = document seed count; sheet = sheet })

@@ -2,6 +2,7 @@ pub mod Aspects
 pub mod Bake
 pub mod Documents
 pub mod Edit
+pub mod EditSteps
 pub mod Editors
 pub mod Ends
 pub mod Generated

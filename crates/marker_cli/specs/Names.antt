@@ -1,7 +1,7 @@
 -- The names of the files of a run (our own).
 use Rattle.std.specs.Prelude.{ℕ, ◌==◌, if◌then◌else◌, List, [], ◌∷◌}
 use Rattle.edit_script.specs.declared.action.Action.{Action}
-use Rattle.edit_script.specs.declared.action.Action.TheVariants.{Change, SheetFile, Show, Undo, Redo}
+use Rattle.edit_script.specs.declared.action.Action.TheVariants.{Change, SheetFile, Show, Undo, Redo, Enter}
 use Rattle.edit_script.specs.declared.command.Command.{Command}
 use Rattle.marker_cli.specs.declared.status.FileAt.{FileAt}
 use Rattle.marker_cli.specs.declared.status.FileAt.TheVariants.{Word, Line}
@@ -16,6 +16,7 @@ file_of (SheetFile name) = name
 file_of Show = []
 file_of Undo = []
 file_of Redo = []
+file_of (Enter name) = []
 
 -- the file that the line of this number names
 abbrev pub sheet_name : List Command → ℕ → List ℕ

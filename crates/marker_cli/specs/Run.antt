@@ -2,16 +2,17 @@
 use Rattle.std.specs.Prelude.{◌≡◌, ◌⊎◌, ℕ, ℤ, ◌+◌, List, [], ◌∷◌, length, Option, Some, None, Result, Ok, Err}
 use Rattle.std.specs.Option.{option_map_or}
 use Rattle.edit_script.specs.declared.action.Action.{Action}
-use Rattle.edit_script.specs.declared.action.Action.TheVariants.{Change, SheetFile, Show, Undo, Redo}
+use Rattle.edit_script.specs.declared.action.Action.TheVariants.{Change, SheetFile, Show, Undo, Redo, Enter}
 use Rattle.edit_script.specs.declared.command.Command.{Command}
 use Rattle.ports.specs.Files.{Files}
 use Rattle.marker_cli.specs.declared.status.FileAt.{FileAt}
 use Rattle.marker_cli.specs.declared.status.Status.TheVariants.{Usage}
-use Rattle.marker_cli.specs.Aspects.{aspect_output}
-use Rattle.marker_cli.specs.Bake.{BakesTo, bake_output}
+use Rattle.marker_cli.specs.Aspects.{aspect_output, most_steps}
+use Rattle.marker_cli.specs.Bake.{BakesTo, bake_output, most_bake_steps}
 use Rattle.marker_cli.specs.Documents.{DocumentReadsAs, Reading}
 use Rattle.marker_cli.specs.Edit.{ScriptReadsAs, edit_output, kind_of}
-use Rattle.marker_cli.specs.Generated.{generated_output}
+use Rattle.marker_cli.specs.EditSteps.{most_edit_steps}
+use Rattle.marker_cli.specs.Generated.{generated_output, most_generated_steps}
 use Rattle.marker_cli.specs.Names.{name_at}
 use Rattle.marker_cli.specs.Output.{ComesAfter, Output, ends}
 use Rattle.marker_cli.specs.Table.{table_output}
@@ -89,6 +90,7 @@ action_size files (SheetFile name) = size_of files name
 action_size files Show = 0
 action_size files Undo = 0
 action_size files Redo = 0
+action_size files (Enter name) = 0
 
 abbrev pub commands_size : Files → List Command → ℕ
 commands_size files [] = 0
@@ -104,3 +106,16 @@ form_size files script (Some (gen seed count)) = 0
 
 abbrev pub read_size : Files → Readings → ℕ
 read_size files readings = form_size files readings.script readings.form
+
+-- How many steps a run takes at most.
+
+abbrev pub form_steps : Files → Readings → Option Form → ℕ
+form_steps files readings None = 0
+form_steps files readings (Some (aspect what doc sheet)) = most_steps readings.document
+form_steps files readings (Some (bake doc sheet)) = most_bake_steps readings.document
+form_steps files readings (Some (edit doc sheet commands depth)) = most_edit_steps files doc sheet commands depth readings.document readings.script
+form_steps files readings (Some (table sheet style from to)) = 0
+form_steps files readings (Some (gen seed count)) = most_generated_steps seed count
+
+abbrev pub most_run_steps : Files → Readings → ℕ
+most_run_steps files readings = form_steps files readings readings.form

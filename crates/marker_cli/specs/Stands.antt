@@ -1,5 +1,5 @@
 -- Where a run stands, between its start and its end (our own).
-use Rattle.std.specs.Prelude.{◌≡◌, ℕ, List, ◌++◌, Option, Result, OnOk, IfErr}
+use Rattle.std.specs.Prelude.{◌≡◌, ◌≤◌, ◌+◌, ℕ, List, ◌++◌, Option, Result, OnOk, IfErr}
 use Rattle.ports.specs.Grown.{grown}
 use Rattle.marker_cli.specs.declared.status.FileAt.{FileAt}
 use Rattle.marker_cli.specs.declared.status.Status.{Status}
@@ -22,3 +22,8 @@ pub record IsAt (all : Output) (before now : Option (List ℕ)) (left : Output) 
 pub record Goes {A : Type 0} (reads_failed writes_failed : Type 0) (output : Output) (before now : Option (List ℕ)) (left : Output) (result : Result A Status) : Type 0 where
   pub on : OnOk result (IsAt output before now left)
   pub stops : IfErr result (λ status. EndsAs reads_failed writes_failed output before now status)
+
+-- a part of a run takes no more steps than so many, of which so many are left where it goes on
+pub record Spends {A : Type 0} (most before now left : ℕ) (result : Result A Status) : Type 0 where
+  pub on : OnOk result (now + left ≤ before + most)
+  pub within : now ≤ before + most

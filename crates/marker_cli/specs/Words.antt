@@ -73,20 +73,6 @@ abbrev pub ReadsAsForm : List (List ℕ) → Option Form → Type 0
 ReadsAsForm words (Some form) = IsForm words form
 ReadsAsForm words None = (form : Form) → IsForm words form → ⊥
 
-abbrev pub IsOfAspect : Form → Type 0
-IsOfAspect (aspect what document sheet) = Unit {0}
-IsOfAspect (bake document sheet) = ⊥
-IsOfAspect (edit document sheet script depth) = ⊥
-IsOfAspect (table sheet style from to) = ⊥
-IsOfAspect (gen seed count) = ⊥
-
-abbrev pub IsOfBake : Form → Type 0
-IsOfBake (aspect what document sheet) = ⊥
-IsOfBake (bake document sheet) = Unit {0}
-IsOfBake (edit document sheet script depth) = ⊥
-IsOfBake (table sheet style from to) = ⊥
-IsOfBake (gen seed count) = ⊥
-
 abbrev pub IsOfTable : Form → Type 0
 IsOfTable (aspect what document sheet) = ⊥
 IsOfTable (bake document sheet) = ⊥

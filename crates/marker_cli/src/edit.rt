@@ -7,6 +7,7 @@ ghost use Rattle.ports.specs.Causes.{Raises, Rose, RoseAbove};
 ghost use Rattle.ports.specs.Files.{Files};
 ghost use Rattle.marker_cli.specs.Documents.{DocumentReadsAs, Reading};
 ghost use Rattle.marker_cli.specs.Edit.{ScriptReadsAs, edit_output, kind_of};
+ghost use Rattle.marker_cli.specs.EditSteps.{most_edit_steps};
 ghost use Rattle.marker_cli.specs.Ends.{EndsAs, IsCaused, IsStop, ReadsFailed, part_status};
 ghost use Rattle.marker_cli.specs.Names.{TellsOfLine};
 ghost use Rattle.marker_cli.specs.Run.{commands_in, commands_size, size_of};
@@ -51,6 +52,9 @@ pub fn edit<S: Shelf, O: Sink, L: Ledger>(
     ensures reads { (files : Files) (read : Result (List command.Command) ℕ) → S.held shelf.old ≡ Some files
         → ScriptReadsAs files (chars document.now) (chars sheet.now) (chars script.now) (kind_of depth) read → OnOk result (Raises (S.taken shelf.old) (S.taken shelf.new)
         (size_of files (chars document.now) + (size_of files (chars sheet.now) + (size_of files (chars script.now) + commands_size files (commands_in read))))) }
+    ensures steps { (files : Files) (reading : Reading) (read : Result (List command.Command) ℕ) → S.held shelf.old ≡ Some files
+        → DocumentReadsAs files (chars document.now) (chars sheet.now) reading → ScriptReadsAs files (chars document.now) (chars sheet.now) (chars script.now) (kind_of depth) read
+        → steps.new ≤ steps.old + most_edit_steps files (chars document.now) (chars sheet.now) (chars script.now) depth reading read }
 {
     let text = fetch_text(alloc, shelf, FileAt::Word(1), document)?;
     let style = fetch_text(alloc, shelf, FileAt::Word(2), sheet)?;

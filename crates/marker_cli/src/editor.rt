@@ -1,10 +1,11 @@
 //! A document that the commands of a script change.
 
-ghost use Rattle.std.specs.Prelude.{◌≡◌, IfOk, OnErr};
+ghost use Rattle.std.specs.Prelude.{◌≡◌, ◌≤◌, ◌+◌, IfOk, OnErr};
 ghost use Rattle.std.specs.Str.{chars};
 ghost use Rattle.node_arena.specs.Document.{HasElementRoot};
 ghost use Rattle.undo_ring.specs.Histories.{version_of};
 ghost use Rattle.marker_cli.specs.Edit.{kept_edits};
+ghost use Rattle.marker_cli.specs.EditSteps.{edit_steps, led_steps, start_steps};
 ghost use Rattle.marker_cli.specs.Editors.{AnswersEdit, AnswersStep, depth_of, versions_of};
 ghost use Rattle.marker_cli.specs.Versions.{begun, redone, undone};
 
@@ -38,6 +39,7 @@ impl Editor {
         requires element { HasElementRoot document }
         ensures versions { IfOk result (λ editor. versions_of editor ≡ begun (record { document = document; sheet = chars sheet.now })) }
         ensures depth { IfOk result (λ editor. depth_of editor ≡ kept_edits depth) }
+        ensures steps { steps.new ≤ steps.old + start_steps document }
     {
         match depth {
             None => {
@@ -71,6 +73,7 @@ impl Editor {
     ) -> Result<(), EditFault>
         ensures answer { AnswersEdit result (depth_of self.old) edit.now (versions_of self.old) (versions_of self.new) }
         ensures depth { depth_of self.new ≡ depth_of self.old }
+        ensures steps { steps.new ≤ steps.old + edit_steps (versions_of self.old).present edit.now }
     {
         match self {
             Editor::Plain(engine) => engine.apply(alloc, edit, steps),
@@ -86,6 +89,7 @@ impl Editor {
     ) -> Result<(), UndoFault>
         ensures answer { AnswersStep result (versions_of self.old) (versions_of self.new) (undone (versions_of self.old)) }
         ensures depth { depth_of self.new ≡ depth_of self.old }
+        ensures steps { steps.new ≤ steps.old + led_steps (versions_of self.old).present (undone (versions_of self.old)) }
     {
         match self {
             Editor::Plain(_) => Err(UndoFault::Nothing),
@@ -101,6 +105,7 @@ impl Editor {
     ) -> Result<(), UndoFault>
         ensures answer { AnswersStep result (versions_of self.old) (versions_of self.new) (redone (versions_of self.old)) }
         ensures depth { depth_of self.new ≡ depth_of self.old }
+        ensures steps { steps.new ≤ steps.old + led_steps (versions_of self.old).present (redone (versions_of self.old)) }
     {
         match self {
             Editor::Plain(_) => Err(UndoFault::Nothing),

@@ -5,8 +5,9 @@ ghost use Rattle.marker_engine.specs.Edited.{edited};
 ghost use Rattle.marker_engine.specs.Engines.{source_of};
 ghost use Rattle.ports.specs.Causes.{HasCause, Rose};
 ghost use Rattle.ports.specs.Grown.{grown, GrowsByFront};
+ghost use Rattle.marker_cli.specs.EditSteps.{edit_steps};
 ghost use Rattle.marker_cli.specs.Ends.{EndsAs, IsCaused, IsStop, part_status};
-ghost use Rattle.marker_cli.specs.Generated.{after_edits, generated_output, number_lines, numbers, unedited, with_answer};
+ghost use Rattle.marker_cli.specs.Generated.{after_edits, edits_steps, generated_output, most_generated_steps, number_lines, numbers, outcome_steps, unedited, version_in, with_answer};
 ghost use Rattle.marker_cli.specs.Output.{ends, writes};
 ghost use Rattle.marker_cli.specs.Tallies.{tallied};
 ghost use Rattle.marker_cli.specs.declared.status.Status.TheVariants as status;
@@ -44,6 +45,7 @@ fn apply_counted<L: Ledger>(
     requires few { tally.accepted + tally.refused + 1 < 2 ^ 64 }
     ensures counted { IfOk result (λ new. tallied (source_of engine.new) new ≡ with_answer (tallied (source_of engine.old) tally) (edited (source_of engine.old) edit.now)) }
     ensures sum { IfOk result (λ new. new.accepted + new.refused ≡ tally.accepted + tally.refused + 1) }
+    ensures steps { steps.new ≤ steps.old + edit_steps (version_in (source_of engine.old)) edit.now }
 {
     match engine.apply(alloc, edit, steps) {
         Ok(()) => Ok(Tally {
@@ -66,6 +68,7 @@ fn apply_all<L: Ledger>(
     steps: &mut Steps<L>,
 ) -> Result<Tally, Memory>
     ensures tally { IfOk result (λ tally. tallied (source_of engine.new) tally ≡ after_edits edits.now (unedited (source_of engine.old))) }
+    ensures steps { steps.new ≤ steps.old + edits_steps edits.now (unedited (source_of engine.old)) }
 {
     let mut tally = Tally {
         accepted: 0,
@@ -103,6 +106,7 @@ fn put_outcome<O: Sink, L: Ledger>(
     ensures cause { IsCaused ⊥ ⊥ ⊥ (Rose (O.faults out.old) (O.faults out.new)) (part_status result) }
     ensures stops { IfErr result IsStop }
     ensures faults { O.faults out.old ≤ O.faults out.new }
+    ensures steps { steps.new ≤ steps.old + outcome_steps edits.now (source_of engine.old) }
 {
     let tally = apply_all(alloc, edits, engine, steps)?;
     Ok(put_numbers(engine.census(steps), tally, out)?)
@@ -121,6 +125,7 @@ pub fn generated<O: Sink, L: Ledger>(
     ensures cause { IsCaused ⊥ ⊥ ⊥ (Rose (O.faults out.old) (O.faults out.new)) (part_status result) }
     ensures stops { IfErr result IsStop }
     ensures faults { O.faults out.old ≤ O.faults out.new }
+    ensures steps { steps.new ≤ steps.old + most_generated_steps seed count }
 {
     let GeneratedRun {
         document,

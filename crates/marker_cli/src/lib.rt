@@ -23,7 +23,9 @@
 //! - `Versions`: the versions of a document that are there, behind and ahead, and what edits and steps make of them;
 //! - `Edit`: `play`, the events of commands, and with it those of `edit DOC SHEET SCRIPT` and of `history`;
 //! - `Table`, `Generated` and `Tallies`: those of the other two;
-//! - `Run`: `output`, the events of any words, and `read_size`, how many bytes are read for them;
+//! - `EditSteps`: how many steps the commands of a script take at most, over the versions that they go through;
+//! - `Run`: `output`, the events of any words, `read_size`, how many bytes are read for them, and `most_run_steps`, how many
+//!   steps they take at most;
 //! - `Ends`: `EndsAs`, how a run may end against its output, and `IsSettled`, with which statuses nothing of it is kept back;
 //! - `Names`, `Lines` and `Statuses`: the line and the code of a status, and the status of a fault.
 //!
@@ -34,7 +36,7 @@
 //!
 //! `Stands` says where a run stands between two of its parts, and `Editors` what a script's document stands for. Another
 //! aspect of a document has a line in `aspect_bytes` and `words_of`. A command that joins has an `.._output` of its own in
-//! `specs/`, and a line in `words_of`, `TextsReadAs`, `form_output` and `form_size`; a status that joins has a line in
+//! `specs/`, and a line in `words_of`, `TextsReadAs`, `form_output`, `form_size` and `form_steps`; a status that joins has a line in
 //! `code_of`, `message`, `IsCaused`, `IsStop`, `IsSettled`, `IsWhole` and `TellsOfLine`.
 //!
 //! The words, the order of refusals and the lines are our own.

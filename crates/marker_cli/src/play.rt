@@ -1,6 +1,6 @@
 //! The commands of a script, one after another.
 
-ghost use Rattle.std.specs.Prelude.{◌≡◌, ◌≤◌, ◌⊎◌, ℕ, List, Option, Some, IfErr, OnOk, OnErr};
+ghost use Rattle.std.specs.Prelude.{◌≡◌, ◌≤◌, ◌+◌, ◌⊎◌, ℕ, List, Option, Some, IfErr, OnOk, OnErr, unwrap_or};
 ghost use Rattle.std.specs.Str.{chars};
 ghost use Rattle.plain_types.specs.declared.edit.Edit.TheVariants as edits;
 ghost use Rattle.node_arena.specs.Edits.{place_fault};
@@ -10,13 +10,14 @@ ghost use Rattle.ports.specs.Grown.{grown, GrowsByFront};
 ghost use Rattle.undo_ring.specs.Histories.{version_of};
 ghost use Rattle.marker_cli.specs.declared.status.FileAt.TheVariants.{Line};
 ghost use Rattle.marker_cli.specs.declared.status.Status.TheVariants as status;
-ghost use Rattle.marker_cli.specs.Edit.{action_output, after_edit, after_step, nothing, play, shown};
+ghost use Rattle.marker_cli.specs.Edit.{action_output, after_edit, after_step, no_document, nothing, play, shown};
+ghost use Rattle.marker_cli.specs.EditSteps.{action_steps, edit_steps, left_by_edit, script_steps, show_steps, steps_with};
 ghost use Rattle.marker_cli.specs.Editors.{AnswersStep, AreSameHistories, TellsNoneApart, depth_of, versions_of};
 ghost use Rattle.marker_cli.specs.Ends.{EndsAs, IsCaused, IsPutCaused, IsStop, ReadsFailed, part_status};
 ghost use Rattle.marker_cli.specs.Output.{Output};
 ghost use Rattle.marker_cli.specs.Run.{action_size, commands_size, size_of};
-ghost use Rattle.marker_cli.specs.Stands.{Goes};
-ghost use Rattle.marker_cli.specs.Turns.{with_text};
+ghost use Rattle.marker_cli.specs.Stands.{Goes, Spends};
+ghost use Rattle.marker_cli.specs.Turns.{text_in, with_text};
 ghost use Rattle.marker_cli.specs.Versions.{Versions, edited};
 
 use crate::editor::Editor;
@@ -53,6 +54,8 @@ fn play_edit<O: Sink, L: Ledger>(
     ensures cause { IsCaused ⊥ ⊥ ⊥ (Rose (O.faults out.old) (O.faults out.new)) (part_status result) }
     ensures stops { IfErr result IsStop }
     ensures faults { O.faults out.old ≤ O.faults out.new }
+    ensures left { OnOk result (AreSameHistories (versions_of editor.new) (left_by_edit (depth_of editor.old) edit.now (versions_of editor.old) (place_fault edit.now (versions_of editor.old).present.document))) }
+    ensures steps { steps.new ≤ steps.old + edit_steps (versions_of editor.old).present edit.now }
 {
     match editor.apply(alloc, edit, steps) {
         Ok(()) => Ok(()),
@@ -77,6 +80,7 @@ fn replace_sheet<L: Ledger>(
     ensures ok { OnOk result (AreSameHistories (versions_of editor.new) (edited (depth_of editor.old) (edits.ReplaceSheet text) (versions_of editor.old))) }
     ensures depth { depth_of editor.new ≡ depth_of editor.old }
     ensures cause { IfErr result (λ error. error ≡ status.Memory) }
+    ensures steps { steps.new ≤ steps.old + edit_steps (versions_of editor.old).present (edits.ReplaceSheet text) }
 {
     match editor.apply(alloc, &Edit::ReplaceSheet { text }, steps) {
         Ok(()) => Ok(()),
@@ -105,6 +109,9 @@ fn play_sheet<S: Shelf, L: Ledger>(
     ensures held { S.held shelf.new ≡ S.held shelf.old }
     ensures honest { S.honest shelf.new ≡ S.honest shelf.old }
     ensures reads { (files : Files) → S.held shelf.old ≡ Some files → OnOk result (Raises (S.taken shelf.old) (S.taken shelf.new) (size_of files (chars name.now))) }
+    ensures steps { (files : Files) (next : Versions → ℕ) → TellsNoneApart next → S.held shelf.old ≡ Some files
+        → Spends (steps_with (text_in (Line number) (files (chars name.now))) (λ text. edit_steps (versions_of editor.old).present (edits.ReplaceSheet text) + next (edited (depth_of editor.old) (edits.ReplaceSheet text) (versions_of editor.old))))
+        steps.old steps.new (next (versions_of editor.new)) result }
 {
     let text = fetch_text(alloc, shelf, FileAt::Line(number), name)?;
     replace_sheet(alloc, text, editor, steps)
@@ -122,6 +129,7 @@ fn put_shown<O: Sink, L: Ledger>(
     ensures failed { OnErr result (GrowsByFront (O.out out.old) (O.out out.new) (shown number (version_of engine.now))) }
     ensures cause { IsPutCaused (Rose (O.faults out.old) (O.faults out.new)) result }
     ensures faults { O.faults out.old ≤ O.faults out.new }
+    ensures steps { steps.new ≤ steps.old + show_steps (version_of engine.now) }
 {
     put_numbered(b"show ", number, b"\n", out)?;
     show(alloc, engine, out, steps)?;
@@ -139,12 +147,23 @@ fn put_step<O: Sink>(
     ensures cause { IsCaused ⊥ ⊥ ⊥ (Rose (O.faults out.old) (O.faults out.new)) (part_status result) }
     ensures stops { IfErr result IsStop }
     ensures faults { O.faults out.old ≤ O.faults out.new }
+    ensures left { (versions left : Versions) (step : Option Versions) → AnswersStep outcome versions left step → OnOk result (AreSameHistories left (unwrap_or step versions)) }
 {
     match outcome {
         Ok(()) => Ok(()),
         Err(UndoFault::Nothing) => Ok(put_numbered(b"refused ", number, b" nothing\n", out)?),
         Err(UndoFault::Memory) => Err(Status::Memory),
     }
+}
+
+/// Tells that the `in` of the line of this number finds no document of its name.
+fn put_no_document<O: Sink>(number: usize, out: &mut O) -> Result<(), Status>
+    ensures ok { OnOk result (O.out out.new ≡ grown (O.out out.old) (no_document number)) }
+    ensures failed { OnErr result (GrowsByFront (O.out out.old) (O.out out.new) (no_document number)) }
+    ensures cause { IsPutCaused (Rose (O.faults out.old) (O.faults out.new)) result }
+    ensures faults { O.faults out.old ≤ O.faults out.new }
+{
+    Ok(put_numbered(b"refused ", number, b" no-document\n", out)?)
 }
 
 /// Does one command.
@@ -169,6 +188,8 @@ fn play_command<S: Shelf, O: Sink, L: Ledger>(
     ensures held { S.held shelf.new ≡ S.held shelf.old }
     ensures honest { S.honest shelf.new ≡ S.honest shelf.old }
     ensures reads { (files : Files) → S.held shelf.old ≡ Some files → OnOk result (Raises (S.taken shelf.old) (S.taken shelf.new) (action_size files command.now.action)) }
+    ensures steps { (files : Files) (next : Versions → ℕ) → TellsNoneApart next → S.held shelf.old ≡ Some files
+        → Spends (action_steps files (depth_of editor.old) command.now.line command.now.action (versions_of editor.old) next) steps.old steps.new (next (versions_of editor.new)) result }
 {
     let number = command.line;
     match &command.action {
@@ -177,6 +198,7 @@ fn play_command<S: Shelf, O: Sink, L: Ledger>(
         Action::Show => put_shown(alloc, number, editor.engine(), out, steps),
         Action::Undo => put_step(number, editor.undo(alloc, steps), out),
         Action::Redo => put_step(number, editor.redo(alloc, steps), out),
+        Action::Enter(_) => put_no_document(number, out),
     }
 }
 
@@ -197,6 +219,7 @@ pub fn play<S: Shelf, O: Sink, L: Ledger>(
     ensures stops { IfErr result IsStop }
     ensures put_faults { O.faults out.old ≤ O.faults out.new }
     ensures reads { (files : Files) → S.held shelf.old ≡ Some files → OnOk result (Raises (S.taken shelf.old) (S.taken shelf.new) (commands_size files commands.now)) }
+    ensures steps { (files : Files) → S.held shelf.old ≡ Some files → steps.new ≤ steps.old + script_steps files (depth_of editor.old) commands.now (versions_of editor.old) }
 {
     for command in commands {
         play_command(alloc, command, editor, shelf, out, steps)?;

@@ -21,7 +21,7 @@ fn file_of(action: &Action) -> &[u8]
 {
     match action {
         Action::SheetFile(name) => name.as_str().as_bytes(),
-        Action::Change(_) | Action::Show | Action::Undo | Action::Redo => b"",
+        Action::Change(_) | Action::Show | Action::Undo | Action::Redo | Action::Enter(_) => b"",
     }
 }
 

@@ -5,16 +5,12 @@ ghost use Rattle.ports.specs.Causes.{Raises, Rose, RoseAbove};
 ghost use Rattle.ports.specs.Files.{Files};
 ghost use Rattle.ports.specs.Grown.{grown};
 ghost use Rattle.edit_script.specs.declared.command.Command as command;
-ghost use Rattle.marker_cli.specs.Aspects.{most_steps};
-ghost use Rattle.marker_cli.specs.Bake.{most_bake_steps};
 ghost use Rattle.marker_cli.specs.Ends.{EndsAs, IsCaused, IsSettled, IsWhole, ReadsFailed, part_status};
 ghost use Rattle.marker_cli.specs.Lines.{GoesOut, message};
 ghost use Rattle.marker_cli.specs.Output.{bytes_of, status_of};
 ghost use Rattle.marker_cli.specs.Names.{TellsOfLine};
-ghost use Rattle.marker_cli.specs.Run.{AreReadings, HasTurn, OverTexts, OverTold, Readings, TakesNoStep, commands_in, form_output, form_size, name_in, output, read_size};
-ghost use Rattle.marker_cli.specs.Words.{IsForm, IsOfAspect, IsOfBake, IsOfTable, ReadsAsForm, form_of};
-ghost use Rattle.marker_cli.specs.Words as forms;
-ghost use Rattle.marker_cli.specs.declared.aspect.Aspect.{Aspect};
+ghost use Rattle.marker_cli.specs.Run.{AreReadings, HasTurn, OverTexts, OverTold, Readings, TakesNoStep, commands_in, form_output, form_size, form_steps, most_run_steps, name_in, output, read_size};
+ghost use Rattle.marker_cli.specs.Words.{IsOfTable, ReadsAsForm, form_of};
 ghost use Rattle.marker_cli.specs.declared.status.FileAt.{FileAt};
 ghost use Rattle.marker_cli.specs.declared.status.Status.TheVariants as status;
 
@@ -65,9 +61,7 @@ fn perform<S: Shelf, O: Sink, L: Ledger>(
     ensures reads { OverTexts (S.held shelf.old) (form_of form.entry) (λ files readings.
         IsWhole (part_status result) → Raises (S.taken shelf.old) (S.taken shelf.new) (form_size files readings.script (Some (form_of form.entry)))) }
     ensures steps { OverTexts (S.held shelf.old) (form_of form.entry) (λ files readings.
-        IsOfAspect (form_of form.entry) → steps.new ≤ steps.old + most_steps readings.document) }
-    ensures bake_steps { OverTexts (S.held shelf.old) (form_of form.entry) (λ files readings.
-        IsOfBake (form_of form.entry) → steps.new ≤ steps.old + most_bake_steps readings.document) }
+        steps.new ≤ steps.old + form_steps files readings (Some (form_of form.entry))) }
     ensures no_steps { IsOfTable (form_of form.entry) → steps.new ≡ steps.old }
 {
     match form {
@@ -139,10 +133,7 @@ fn perform_words<S: Shelf, O: Sink, L: Ledger>(
     ensures no_output { result ≡ status.Usage → O.out out.new ≡ O.out out.old }
     ensures reads { OverTold (S.held shelf.old) words.now (λ files readings.
         IsWhole result → Raises (S.taken shelf.old) (S.taken shelf.new) (read_size files readings)) }
-    ensures steps { OverTold (S.held shelf.old) words.now (λ files readings.
-        (aspect : Aspect) (document sheet : List ℕ) → IsForm words.now (forms.aspect aspect document sheet) → steps.new ≤ steps.old + most_steps readings.document) }
-    ensures bake_steps { OverTold (S.held shelf.old) words.now (λ files readings.
-        (document sheet : List ℕ) → IsForm words.now (forms.bake document sheet) → steps.new ≤ steps.old + most_bake_steps readings.document) }
+    ensures steps { OverTold (S.held shelf.old) words.now (λ files readings. steps.new ≤ steps.old + most_run_steps files readings) }
     ensures no_steps { TakesNoStep words.now → steps.new ≡ steps.old }
 {
     // Each document bakes to a text: so what is to be baked has a reading too.
@@ -231,10 +222,7 @@ pub fn run<S: Shelf, O: Sink, E: Sink, L: Ledger>(
     ensures any_line { (commands : List command.Command) × GoesOut (Rose (E.faults err.old) (E.faults err.new)) (E.out err.old) (E.out err.new) (message words.now commands result) }
     ensures sheet_line { OverTold (S.held shelf.old) words.now (λ files readings.
         TellsOfLine result → GoesOut (Rose (E.faults err.old) (E.faults err.new)) (E.out err.old) (E.out err.new) (message words.now (commands_in readings.script) result)) }
-    ensures steps { OverTold (S.held shelf.old) words.now (λ files readings.
-        (aspect : Aspect) (document sheet : List ℕ) → IsForm words.now (forms.aspect aspect document sheet) → steps.new ≤ steps.old + most_steps readings.document) }
-    ensures bake_steps { OverTold (S.held shelf.old) words.now (λ files readings.
-        (document sheet : List ℕ) → IsForm words.now (forms.bake document sheet) → steps.new ≤ steps.old + most_bake_steps readings.document) }
+    ensures steps { OverTold (S.held shelf.old) words.now (λ files readings. steps.new ≤ steps.old + most_run_steps files readings) }
     ensures no_steps { TakesNoStep words.now → steps.new ≡ steps.old }
 {
     let mut commands = List::new(alloc);

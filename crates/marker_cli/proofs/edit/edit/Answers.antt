@@ -12,6 +12,7 @@ use Rattle.std.proofs.lemmas.Result.{on_ok_weaker}
 use Rattle.ports.proofs.CauseLemmas.{raises_more, rose_above_after, rose_after}
 use Rattle.marker_cli.specs.Run.{commands_in, commands_size}
 use Rattle.marker_cli.proofs.ReadLemmas.{raised_as}
+use Rattle.marker_cli.proofs.StepLemmas.{most_of_script, script_as}
 use Rattle.marker_cli.proofs.edit.edit.Goals as goal
 
 pub returns-in_err-text-clause-told : goal.returns-in_err-text-clause-told
@@ -107,3 +108,28 @@ returns-clause-cause g c =
     (λ rose. rose_above_after 16777216 _ _ _ (omega (arith, c.in_ok-text.ensures.taken, c.in_ok-style.ensures.taken, c.in_ok-lines.ensures.taken)) rose)
     (λ rose. rose)
     c.play.ensures.cause
+
+pub returns-in_err-editor-clause-steps : goal.returns-in_err-editor-clause-steps
+returns-in_err-editor-clause-steps g c files reading read told reads reads_script =
+    let text : text_in (Word 1) (files (chars c.args.document.now)) ≡ Ok c.in_ok-text.text = c.in_ok-text.ensures.told files told in
+    let style : text_in (Word 2) (files (chars c.args.sheet.now)) ≡ Ok c.in_ok-style.style = c.in_ok-style.ensures.told files (c.in_ok-text.ensures.held ∙ told) in
+    let held = c.in_ok-style.ensures.held ∙ c.in_ok-text.ensures.held ∙ told in
+    let lines : text_in (Word 3) (files (chars c.args.script.now)) ≡ Ok c.in_ok-lines.lines = c.in_ok-lines.ensures.told files held in
+    let most = most_of_script files _ _ _ c.args.depth reading read _ _ _ _ _ text style lines
+    (c.in_ok-tree.ensures.tree reading (rw c.as_str.ensures.characters (reads c.in_ok-text.text c.in_ok-style.style text style)))
+    (c.in_ok-commands.ensures.commands read (rw c.as_str-2.ensures.characters (reads_script c.in_ok-text.text c.in_ok-style.style c.in_ok-lines.lines text style lines))) in
+    omega (arith, most, c.in_err-editor.ensures.steps)
+
+pub returns-clause-steps : goal.returns-clause-steps
+returns-clause-steps g c files reading read told reads reads_script =
+    let text : text_in (Word 1) (files (chars c.args.document.now)) ≡ Ok c.in_ok-text.text = c.in_ok-text.ensures.told files told in
+    let style : text_in (Word 2) (files (chars c.args.sheet.now)) ≡ Ok c.in_ok-style.style = c.in_ok-style.ensures.told files (c.in_ok-text.ensures.held ∙ told) in
+    let held = c.in_ok-style.ensures.held ∙ c.in_ok-text.ensures.held ∙ told in
+    let lines : text_in (Word 3) (files (chars c.args.script.now)) ≡ Ok c.in_ok-lines.lines = c.in_ok-lines.ensures.told files held in
+    let most = most_of_script files _ _ _ c.args.depth reading read _ _ _ _ _ text style lines
+    (c.in_ok-tree.ensures.tree reading (rw c.as_str.ensures.characters (reads c.in_ok-text.text c.in_ok-style.style text style)))
+    (c.in_ok-commands.ensures.commands read (rw c.as_str-2.ensures.characters (reads_script c.in_ok-text.text c.in_ok-style.style c.in_ok-lines.lines text style lines))) in
+    let same = script_as files _ _ _ _ _ _ c.in_ok-editor.ensures.depth c.as_slice.ensures.items
+    (c.in_ok-editor.ensures.versions ∙ ap (λ sheet. begun (record { document = c.in_ok-tree.tree; sheet = sheet })) c.as_str-3.ensures.characters) in
+    let played = c.play.ensures.steps files (c.in_ok-lines.ensures.held ∙ held) in
+    omega (arith, most, same, c.in_ok-editor.ensures.steps, played)

@@ -1,11 +1,13 @@
 use Rattle.std.proofs.Common.{◌+◌, ◌∙◌, ap, arith, drop, refl, sym}
 use Rattle.ports.proofs.CauseLemmas.{raises_none, rose_after}
 use Rattle.marker_cli.specs.Edit.{action_output, play}
+use Rattle.marker_cli.specs.EditSteps.{action_steps, script_steps}
 use Rattle.marker_cli.specs.Editors.{depth_of, versions_of}
 use Rattle.marker_cli.proofs.EndsLemmas.{at_part, at_same, at_start, ends_part, ends_stopped, reads_after}
 use Rattle.marker_cli.proofs.PlayLemmas.{play_next}
 use Rattle.marker_cli.proofs.ReadLemmas.{read_all, read_more}
 use Rattle.marker_cli.proofs.SameLemmas.{play_same}
+use Rattle.marker_cli.proofs.StepLemmas.{script_same, steps_next}
 use Rattle.marker_cli.proofs.play.play.Goals as goal
 
 pub loop-command-preserved : goal.loop-command-preserved
@@ -29,6 +31,13 @@ loop-command-preserved g c =
       put_faults = omega (arith, now.put_faults, c.in_ok-play_command.ensures.put_faults);
       reads = λ files told. read_more files _ _ c.command-item.result _ _ _ c.loop-command-test.true c.command-item.is (now.reads files told)
           (c.in_ok-play_command.ensures.reads files (now.held ∙ told));
+      steps = λ files told.
+          let rest = script_steps files depth (drop (c.loop-command.command-index + 1) c.args.commands.now) in
+          let next = steps_next files depth _ _ c.command-item.result (versions_of c.loop-command.editor) c.loop-command-test.true c.command-item.is
+          ∙ ap (λ d. action_steps files d c.command-item.result.line c.command-item.result.action (versions_of c.loop-command.editor) rest) (sym now.depth) in
+          let so_far = now.steps files told in
+          let spent = (c.in_ok-play_command.ensures.steps files rest (script_same files depth (drop (c.loop-command.command-index + 1) c.args.commands.now)) (now.held ∙ told)).on in
+          omega (arith, next, so_far, spent);
     }
 
 pub returns-in_err-play_command-clause-told : goal.returns-in_err-play_command-clause-told
@@ -55,8 +64,23 @@ loop-command-init g c = record {
   taken = omega arith;
   put_faults = omega arith;
   reads = λ files told. record { so_far = 0; raised = raises_none _ _ refl; parts = omega arith };
+  steps = λ files told. omega arith;
 }
 
 pub returns-clause-reads : goal.returns-clause-reads
 returns-clause-reads g c files told =
     read_all files _ _ _ _ (let end = c.loop-command-test.false in omega arith) (c.loop-command.invariant.reads files told)
+
+pub returns-in_err-play_command-clause-steps : goal.returns-in_err-play_command-clause-steps
+returns-in_err-play_command-clause-steps g c files told =
+    let now = c.loop-command.invariant in
+    let depth = depth_of c.args.editor.now in
+    let rest = script_steps files depth (drop (c.loop-command.command-index + 1) c.args.commands.now) in
+    let next = steps_next files depth _ _ c.command-item.result (versions_of c.loop-command.editor) c.loop-command-test.true c.command-item.is
+    ∙ ap (λ d. action_steps files d c.command-item.result.line c.command-item.result.action (versions_of c.loop-command.editor) rest) (sym now.depth) in
+    let so_far = now.steps files told in
+    let spent = (c.in_err-play_command.ensures.steps files rest (script_same files depth (drop (c.loop-command.command-index + 1) c.args.commands.now)) (now.held ∙ told)).within in
+    omega (arith, next, so_far, spent)
+
+pub returns-clause-steps : goal.returns-clause-steps
+returns-clause-steps g c files told = let so_far = c.loop-command.invariant.steps files told in omega (arith, so_far)

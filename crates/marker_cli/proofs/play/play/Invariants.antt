@@ -1,7 +1,8 @@
-use Rattle.std.proofs.Common.{◌≡◌, ◌≤◌, drop}
+use Rattle.std.proofs.Common.{◌≡◌, ◌≤◌, ◌+◌, drop}
 use Rattle.std.specs.Prelude.{Some}
 use Rattle.ports.specs.Files.{Files}
 use Rattle.marker_cli.specs.Edit.{play}
+use Rattle.marker_cli.specs.EditSteps.{script_steps}
 use Rattle.marker_cli.specs.Editors.{depth_of, versions_of}
 use Rattle.marker_cli.specs.Stands.{IsAt}
 use Rattle.marker_cli.proofs.ReadLemmas.{HaveRead}
@@ -20,4 +21,7 @@ invariant-loop-command g l = record {
   put_faults : g.O.Sink.faults l.initial.out ≤ g.O.Sink.faults l.out;
   reads : (files : Files) → g.S.Shelf.held l.initial.shelf ≡ Some files
       → HaveRead files l.commands l.command-index (g.S.Shelf.taken l.initial.shelf) (g.S.Shelf.taken l.shelf);
+  steps : (files : Files) → g.S.Shelf.held l.initial.shelf ≡ Some files
+      → l.steps + script_steps files (depth_of l.initial.editor) (drop l.command-index l.commands) (versions_of l.editor)
+      ≤ l.initial.steps + script_steps files (depth_of l.initial.editor) l.commands (versions_of l.initial.editor);
 }

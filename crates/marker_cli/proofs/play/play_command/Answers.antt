@@ -1,11 +1,14 @@
-use Rattle.std.proofs.Common.{ap, refl, sym}
+use Rattle.std.proofs.Common.{ap, arith, refl, sym}
 use Rattle.ports.proofs.CauseLemmas.{raises_none}
 use Rattle.marker_cli.specs.Edit.{shown}
+use Rattle.marker_cli.specs.EditSteps.{show_steps}
 use Rattle.marker_cli.specs.Editors.{versions_of}
 use Rattle.marker_cli.specs.Output.{writes}
 use Rattle.marker_cli.proofs.EndsLemmas.{at_same, at_start}
 use Rattle.marker_cli.proofs.PlayLemmas.{goes_put, goes_weaker}
 use Rattle.marker_cli.proofs.ReadLemmas.{on_ok}
+use Rattle.marker_cli.proofs.SameLemmas.{same_history}
+use Rattle.marker_cli.proofs.StepLemmas.{spends_by, spends_nothing}
 use Rattle.marker_cli.proofs.play.play_command.Goals as goal
 
 pub returns-in-Change-clause-told : goal.returns-in-Change-clause-told
@@ -31,6 +34,10 @@ pub returns-in-Redo-clause-told : goal.returns-in-Redo-clause-told
 returns-in-Redo-clause-told g c files next alike told =
     rw c.in-Redo.is (goes_weaker c.put_step-in-Redo.result (λ none. absurd none) (λ failed. failed) (c.put_step-in-Redo.ensures.told _ _ _ next alike c.redo.ensures.answer))
 
+pub returns-in-Enter-clause-told : goal.returns-in-Enter-clause-told
+returns-in-Enter-clause-told g c files next alike told =
+    rw c.in-Enter.is (goes_put c.put_no_document.result (at_start _ _) c.put_no_document.ensures.ok c.put_no_document.ensures.failed c.put_no_document.ensures.cause)
+
 pub returns-in-Change-clause-reads : goal.returns-in-Change-clause-reads
 returns-in-Change-clause-reads g c files told = rw c.in-Change.is (on_ok c.play_edit.result (raises_none _ _ refl))
 
@@ -45,3 +52,33 @@ returns-in-Undo-clause-reads g c files told = rw c.in-Undo.is (on_ok c.put_step.
 
 pub returns-in-Redo-clause-reads : goal.returns-in-Redo-clause-reads
 returns-in-Redo-clause-reads g c files told = rw c.in-Redo.is (on_ok c.put_step-in-Redo.result (raises_none _ _ refl))
+
+pub returns-in-Enter-clause-reads : goal.returns-in-Enter-clause-reads
+returns-in-Enter-clause-reads g c files told = rw c.in-Enter.is (on_ok c.put_no_document.result (raises_none _ _ refl))
+
+pub returns-in-Change-clause-steps : goal.returns-in-Change-clause-steps
+returns-in-Change-clause-steps g c files next alike told =
+    rw c.in-Change.is (spends_by c.play_edit.result next _ _ _ _ _ alike c.play_edit.ensures.steps c.play_edit.ensures.left)
+
+pub returns-in-SheetFile-clause-steps : goal.returns-in-SheetFile-clause-steps
+returns-in-SheetFile-clause-steps g c files next alike told =
+    rw c.in-SheetFile.is (rw c.as_str.ensures.characters at c.play_sheet.ensures.steps files next alike told)
+
+pub returns-in-Show-clause-steps : goal.returns-in-Show-clause-steps
+returns-in-Show-clause-steps g c files next alike told =
+    let version = ap show_steps c.engine.ensures.version in
+    let spent = c.put_shown.ensures.steps in
+    rw c.in-Show.is
+    (spends_by c.put_shown.result next _ _ (show_steps (versions_of c.args.editor.now).present) _ _ alike (omega (arith, version, spent))
+    (on_ok c.put_shown.result (same_history (versions_of c.args.editor.now))))
+
+pub returns-in-Undo-clause-steps : goal.returns-in-Undo-clause-steps
+returns-in-Undo-clause-steps g c files next alike told =
+    rw c.in-Undo.is (spends_by c.put_step.result next _ _ _ _ _ alike c.undo.ensures.steps (c.put_step.ensures.left _ _ _ c.undo.ensures.answer))
+
+pub returns-in-Redo-clause-steps : goal.returns-in-Redo-clause-steps
+returns-in-Redo-clause-steps g c files next alike told =
+    rw c.in-Redo.is (spends_by c.put_step-in-Redo.result next _ _ _ _ _ alike c.redo.ensures.steps (c.put_step-in-Redo.ensures.left _ _ _ c.redo.ensures.answer))
+
+pub returns-in-Enter-clause-steps : goal.returns-in-Enter-clause-steps
+returns-in-Enter-clause-steps g c files next alike told = rw c.in-Enter.is (spends_nothing c.put_no_document.result _ _ _ _ refl refl)

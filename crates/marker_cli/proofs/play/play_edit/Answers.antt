@@ -3,7 +3,8 @@ use Rattle.std.specs.Prelude.{Some}
 use Rattle.node_arena.specs.Edits.{place_fault}
 use Rattle.node_arena.specs.declared.place_fault.PlaceFault.TheVariants.{NoPlace, IntoItself}
 use Rattle.marker_cli.specs.Editors.{depth_of, versions_of}
-use Rattle.marker_cli.proofs.PlayLemmas.{edit_done, edit_untold, goes_on_so, goes_stopped, refused_so, where_ok}
+use Rattle.marker_cli.proofs.PlayLemmas.{edit_done, edit_untold, goes_on_so, goes_stopped, refused_so, where_err, where_ok}
+use Rattle.marker_cli.proofs.StepLemmas.{left_done, left_refused}
 use Rattle.marker_cli.proofs.play.play_edit.Goals as goal
 
 pub returns-in-Ok-clause-told : goal.returns-in-Ok-clause-told
@@ -24,3 +25,20 @@ returns-in_err-put_numbered-in-Err-IntoItself-clause-told g c next alike =
     refused_so _ c.apply.result _ IntoItself c.in-Err-IntoItself.is c.in-Err-IntoItself.field-0-is c.apply.ensures.answer.refused c.apply.ensures.answer.memory in
     goes_stopped c.from_residual-in_err-put_numbered-in-Err-IntoItself.result c.from_residual-in_err-put_numbered-in-Err-IntoItself.ensures
     (edit_untold (depth_of c.args.editor.now) _ c.args.edit.now (versions_of c.args.editor.now) _ next _ is refl c.in_err-put_numbered-in-Err-IntoItself.ensures.cause.failed c.in_err-put_numbered-in-Err-IntoItself.ensures.failed)
+
+pub returns-in-Ok-clause-left : goal.returns-in-Ok-clause-left
+returns-in-Ok-clause-left g c =
+    left_done (depth_of c.args.editor.now) c.args.edit.now (versions_of c.args.editor.now) _ _ (where_ok c.apply.result c.in-Ok.is c.apply.ensures.answer.place)
+    (where_ok c.apply.result c.in-Ok.is c.apply.ensures.answer.done)
+
+pub returns-in_ok-put_numbered-in-Err-NoPlace-clause-left : goal.returns-in_ok-put_numbered-in-Err-NoPlace-clause-left
+returns-in_ok-put_numbered-in-Err-NoPlace-clause-left g c =
+    left_refused (depth_of c.args.editor.now) c.args.edit.now (versions_of c.args.editor.now) _ _ NoPlace
+    (refused_so _ c.apply.result _ NoPlace c.in-Err-NoPlace.is c.in-Err-NoPlace.field-0-is c.apply.ensures.answer.refused c.apply.ensures.answer.memory)
+    (where_err c.apply.result c.in-Err-NoPlace.is c.apply.ensures.answer.stays)
+
+pub returns-in_ok-put_numbered-in-Err-IntoItself-clause-left : goal.returns-in_ok-put_numbered-in-Err-IntoItself-clause-left
+returns-in_ok-put_numbered-in-Err-IntoItself-clause-left g c =
+    left_refused (depth_of c.args.editor.now) c.args.edit.now (versions_of c.args.editor.now) _ _ IntoItself
+    (refused_so _ c.apply.result _ IntoItself c.in-Err-IntoItself.is c.in-Err-IntoItself.field-0-is c.apply.ensures.answer.refused c.apply.ensures.answer.memory)
+    (where_err c.apply.result c.in-Err-IntoItself.is c.apply.ensures.answer.stays)

@@ -1,6 +1,8 @@
+use Rattle.std.proofs.Common.{refl}
 use Rattle.marker_cli.proofs.EndsLemmas.{at_start, at_text, ends_no_text}
 use Rattle.marker_cli.proofs.PlayLemmas.{goes_replaced, goes_stopped}
 use Rattle.marker_cli.proofs.ReadLemmas.{on_ok}
+use Rattle.marker_cli.proofs.StepLemmas.{spends_by, spends_none, spends_text}
 use Rattle.marker_cli.proofs.play.play_sheet.Goals as goal
 
 pub returns-in_err-text-clause-told : goal.returns-in_err-text-clause-told
@@ -15,3 +17,11 @@ returns-clause-told g c files before next alike told =
 
 pub returns-clause-reads : goal.returns-clause-reads
 returns-clause-reads g c files told = on_ok c.replace_sheet.result (c.in_ok-text.ensures.came files told)
+
+pub returns-in_err-text-clause-steps : goal.returns-in_err-text-clause-steps
+returns-in_err-text-clause-steps g c files next alike told = spends_none c.from_residual.result _ _ _ _ c.from_residual.ensures.0 refl
+
+pub returns-clause-steps : goal.returns-clause-steps
+returns-clause-steps g c files next alike told =
+    spends_text c.replace_sheet.result c.in_ok-text.text _ _ _ _ _ (c.in_ok-text.ensures.told files told)
+    (spends_by c.replace_sheet.result next _ _ _ _ _ alike c.replace_sheet.ensures.steps c.replace_sheet.ensures.ok)

@@ -21,11 +21,11 @@ returns-in-Aspect-clause-told g c files readings told reads =
     (c.write_aspect.ensures.told files readings.document told (rw (document, sheet) texts)))
 
 pub returns-in-Aspect-clause-steps : goal.returns-in-Aspect-clause-steps
-returns-in-Aspect-clause-steps g c files readings told reads is =
+returns-in-Aspect-clause-steps g c files readings told reads =
     let texts : TextsReadAs files readings (Some (aspect c.in-Aspect.aspect c.in-Aspect.document.now c.in-Aspect.sheet.now)) = rw c.in-Aspect.is at reads in
     let document = c.as_str.ensures.characters in
     let sheet = c.as_str-in-Aspect.ensures.characters in
-    c.write_aspect.ensures.steps files readings.document told (rw (document, sheet) texts)
+    rw c.in-Aspect.is (c.write_aspect.ensures.steps files readings.document told (rw (document, sheet) texts))
 
 pub returns-in-Aspect-clause-reads : goal.returns-in-Aspect-clause-reads
 returns-in-Aspect-clause-reads g c files readings told reads =
@@ -51,12 +51,12 @@ returns-in-Bake-clause-reads g c files readings told reads =
     rw c.in-Bake.is
     (λ whole. raised_as (λ i. size_of files (sym document i) + size_of files (sym sheet i)) (c.write_baked.ensures.reads files told whole))
 
-pub returns-in-Bake-clause-bake_steps : goal.returns-in-Bake-clause-bake_steps
-returns-in-Bake-clause-bake_steps g c files readings told reads is =
+pub returns-in-Bake-clause-steps : goal.returns-in-Bake-clause-steps
+returns-in-Bake-clause-steps g c files readings told reads =
     let texts : TextsReadAs files readings (Some (bake c.in-Bake.document.now c.in-Bake.sheet.now)) = rw c.in-Bake.is at reads in
     let document = c.as_str-in-Bake.ensures.characters in
     let sheet = c.as_str-in-Bake-2.ensures.characters in
-    c.write_baked.ensures.steps files readings.document told (rw (document, sheet) texts.0)
+    rw c.in-Bake.is (c.write_baked.ensures.steps files readings.document told (rw (document, sheet) texts.0))
 
 pub returns-in-Script-clause-told : goal.returns-in-Script-clause-told
 returns-in-Script-clause-told g c files readings told reads =
@@ -86,6 +86,15 @@ returns-in-Script-clause-reads g c files readings told reads =
     (λ whole. raised_as (λ i. size_of files (sym document i) + (size_of files (sym sheet i) + (size_of files (sym script i) + commands_size files (commands_in readings.script))))
     (of_whole c.edit.result c.edit.ensures.stops (c.edit.ensures.reads files readings.script told (rw (document, sheet, script) texts.1)) whole))
 
+pub returns-in-Script-clause-steps : goal.returns-in-Script-clause-steps
+returns-in-Script-clause-steps g c files readings told reads =
+    let texts : TextsReadAs files readings (Some (edit c.in-Script.document.now c.in-Script.sheet.now c.in-Script.script.now c.in-Script.depth)) = rw c.in-Script.is at reads in
+    let document = c.as_str-in-Script.ensures.characters in
+    let sheet = c.as_str-in-Script-2.ensures.characters in
+    let script = c.as_str-in-Script-3.ensures.characters in
+    let taken = c.edit.ensures.steps files readings.document readings.script told (rw (document, sheet) texts.0) (rw (document, sheet, script) texts.1) in
+    rw c.in-Script.is (rw (document, sheet, script) at taken)
+
 pub returns-in-Table-clause-told : goal.returns-in-Table-clause-told
 returns-in-Table-clause-told g c files readings told reads =
     let sheet = c.as_str-in-Table.ensures.characters in
@@ -101,3 +110,6 @@ returns-in-Table-clause-reads g c files readings told reads =
     let sheet = c.as_str-in-Table.ensures.characters in
     rw c.in-Table.is
     (λ whole. raised_as (λ i. size_of files (sym sheet i)) (of_whole c.table.result c.table.ensures.stops (c.table.ensures.reads files told) whole))
+
+pub returns-in-Gen-clause-steps : goal.returns-in-Gen-clause-steps
+returns-in-Gen-clause-steps g c files readings told reads = rw c.in-Gen.is c.generated.ensures.steps

@@ -1,12 +1,12 @@
-use Rattle.std.proofs.Common.{refl, sym, subst, inl, inr}
+use Rattle.std.proofs.Common.{arith, refl, sym, subst, inl, inr}
 use Rattle.std.specs.Prelude.{Some}
 use Rattle.marker_cli.specs.Ends.{IsWhole}
 use Rattle.marker_cli.specs.Names.{TellsOfLine}
-use Rattle.marker_cli.specs.Words.{IsForm, IsOfAspect, IsOfBake, IsOfTable, aspect, bake, form_of, read_form_of, table}
+use Rattle.marker_cli.specs.Words.{IsForm, IsOfTable, form_of, read_form_of, table}
 use Rattle.marker_cli.proofs.EndsLemmas.{at_start, ends_same, ends_whole}
 use Rattle.marker_cli.proofs.FormLemmas.{one_form}
 use Rattle.marker_cli.proofs.ReadLemmas.{raised_as}
-use Rattle.marker_cli.proofs.RunLemmas.{output_of, output_usage, size_same, some_readings, texts_of}
+use Rattle.marker_cli.proofs.RunLemmas.{output_of, output_usage, size_same, some_readings, steps_same, texts_of}
 use Rattle.marker_cli.proofs.run.perform_words.Goals as goal
 
 pub returns-in-Ok-Some-clause-readings : goal.returns-in-Ok-Some-clause-readings
@@ -31,16 +31,11 @@ returns-in-Ok-Some-clause-reads g c files readings told reads whole =
     (c.perform.ensures.reads files readings told (texts_of c.args.words.now files readings _ is reads) (subst IsWhole c.status_of.ensures whole))
 
 pub returns-in-Ok-Some-clause-steps : goal.returns-in-Ok-Some-clause-steps
-returns-in-Ok-Some-clause-steps g c files readings told reads what document sheet other =
+returns-in-Ok-Some-clause-steps g c files readings told reads =
     let is : IsForm c.args.words.now (form_of c.in-Ok-Some.form) = rw c.in-Ok-Some.field-0-is at c.in-Ok-Some.ensures.form in
-    c.perform.ensures.steps files readings told (texts_of c.args.words.now files readings _ is reads)
-    (subst IsOfAspect (sym (one_form c.args.words.now (aspect what document sheet) _ other is)) tt)
-
-pub returns-in-Ok-Some-clause-bake_steps : goal.returns-in-Ok-Some-clause-bake_steps
-returns-in-Ok-Some-clause-bake_steps g c files readings told reads document sheet other =
-    let is : IsForm c.args.words.now (form_of c.in-Ok-Some.form) = rw c.in-Ok-Some.field-0-is at c.in-Ok-Some.ensures.form in
-    c.perform.ensures.bake_steps files readings told (texts_of c.args.words.now files readings _ is reads)
-    (subst IsOfBake (sym (one_form c.args.words.now (bake document sheet) _ other is)) tt)
+    let same = steps_same c.args.words.now files readings _ is reads.form in
+    let taken = c.perform.ensures.steps files readings told (texts_of c.args.words.now files readings _ is reads) in
+    omega (arith, same, taken)
 
 pub returns-in-Ok-Some-clause-no_steps : goal.returns-in-Ok-Some-clause-no_steps
 returns-in-Ok-Some-clause-no_steps g c (inl none) = absurd (none _ (rw c.in-Ok-Some.field-0-is at c.in-Ok-Some.ensures.form))

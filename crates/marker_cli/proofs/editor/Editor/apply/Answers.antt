@@ -1,4 +1,5 @@
 use Rattle.marker_cli.proofs.EditorLemmas.{engine_answers, history_answers}
+use Rattle.marker_cli.proofs.StepLemmas.{engine_most}
 use Rattle.marker_cli.proofs.editor.Editor.apply.Goals as goal
 
 pub returns-in-Plain-clause-answer : goal.returns-in-Plain-clause-answer
@@ -12,3 +13,10 @@ returns-in-Versioned-clause-answer g c =
     (history_answers c.apply-in-Versioned.result c.args.edit.now c.in-Versioned.history c.apply-in-Versioned.new.self c.apply-in-Versioned.ensures.present
     c.apply-in-Versioned.ensures.past c.apply-in-Versioned.ensures.future c.apply-in-Versioned.ensures.refused c.apply-in-Versioned.ensures.memory
     c.apply-in-Versioned.ensures.failed)
+
+pub returns-in-Plain-clause-steps : goal.returns-in-Plain-clause-steps
+returns-in-Plain-clause-steps g c = rw c.in-Plain.is (engine_most c.args.edit.now c.in-Plain.engine _ _ c.apply.ensures.steps c.apply.ensures.no_steps)
+
+pub returns-in-Versioned-clause-steps : goal.returns-in-Versioned-clause-steps
+returns-in-Versioned-clause-steps g c =
+    rw c.in-Versioned.is (engine_most c.args.edit.now c.in-Versioned.history.book _ _ c.apply-in-Versioned.ensures.steps c.apply-in-Versioned.ensures.no_steps)
