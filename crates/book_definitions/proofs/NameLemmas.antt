@@ -10,7 +10,7 @@ use Rattle.book_definitions.specs.Chapters.{Chapter, IsChapterName}
 use Rattle.book_definitions.specs.Laws.{NamesAimAtTheirChapters}
 
 -- the address of a name and an id
-address_of_name : (id name : List ℕ) → AllByRecursion (λ character. character ≢ number_sign) name → address (name ++ number_sign ∷ id) ≡ Some (record { name = name; id = id })
+pub address_of_name : (id name : List ℕ) → AllByRecursion (λ character. character ≢ number_sign) name → address (name ++ number_sign ∷ id) ≡ Some (record { name = name; id = id })
 address_of_name id [] no_sign = refl
 address_of_name id (first ∷ rest) no_sign = elim (cases_Bool (first == number_sign)) [
   | inl e ↦ absurd (no_sign.0 (eqb-true first number_sign e))

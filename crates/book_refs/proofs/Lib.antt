@@ -1,1 +1,11 @@
 pub mod VolumeLemmas
+pub mod UrlLemmas
+pub mod TargetTexts
+pub mod BoxTexts
+pub mod ShownBoxes
+pub mod PieceLoops
+pub mod Walks
+pub mod PutCauses
+pub mod ShownLines
+pub mod ChapterWalks
+pub mod ShownChapters

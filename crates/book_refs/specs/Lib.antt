@@ -1,3 +1,5 @@
 pub mod Volumes
 pub mod Given
 pub mod Edited
+pub mod ShowWork
+pub mod Machinery

@@ -2,21 +2,28 @@
 
 ghost use Rattle.std.specs.Prelude.{◌≡◌, ◌<◌, ◌≤◌, ◌+◌, ◌*◌, Err, IfOk, IfErr, IfSome, OnOk, OnErr, length, map, slice_get};
 ghost use Rattle.std.specs.Str.{chars};
-ghost use Rattle.book_definitions.specs.Fresh.{chapter_source};
+ghost use Rattle.book_definitions.specs.Fresh.{chapter_source, fresh_chapter_dump};
 ghost use Rattle.dirty_walk.specs.WorkBounds.{IsWithinWork, StopsWithinWork};
 ghost use Rattle.document_walk.specs.Elements.{element_count};
 ghost use Rattle.marker_engine.specs.declared.edit_fault.EditFault.TheVariants as faults;
 ghost use Rattle.marker_engine.specs.Edited.{edit_fault, edited};
+ghost use Rattle.ports.specs.Grown.{grown, GrowsByFront};
+ghost use Rattle.ports.specs.Puts.{HasPutCause};
 ghost use Rattle.book_refs.specs.Edited.{IsEditedAt};
 ghost use Rattle.book_refs.specs.Given.{MakeVolume, elements_given, given_source};
+ghost use Rattle.book_refs.specs.ShowWork.{chapter_work};
 ghost use Rattle.book_refs.specs.Volumes.{keyed_source, place_named, source_of};
 
 use crate::chapter::Chapter;
 use crate::evaluated_chapter::EvaluatedChapter;
+use crate::lines::put_chapter;
+use book_definitions::laws::keys_do_not_matter;
 use marker_engine::edit_fault::EditFault;
 use plain_types::edit::Edit;
 use plain_types::list::List;
 use plain_types::memory::Memory;
+use ports::put_fault::PutFault;
+use ports::sink::Sink;
 use std::alloc::Global;
 use std::marker::Model;
 use std::sync::ledger::Ledger;
@@ -34,6 +41,7 @@ impl Model for Volume {
     ghost use Rattle.std.specs.Coded.{coded_list};
     ghost use Rattle.plain_types.specs.contracts.node.Node as node;
     ghost use Rattle.book_definitions.specs.Chapters.{Chapter, IsVolume};
+    ghost use Rattle.book_refs.specs.ShowWork.{chapter_work};
     ghost use Rattle.book_refs.specs.Volumes.{coded_chapter};
 
     ghost Value = { List Chapter };
@@ -93,6 +101,31 @@ impl Volume {
     {
         let chapter = &mut self.chapters[place];
         chapter.apply(alloc, edit, steps)
+    }
+
+    /// Puts the dump of the chapter at this place to `out`: a line for each marker, before and after box of its document, in
+    /// tree order. The urls of its boxes aim into whichever chapter they name, as the chapters stand now: their texts are told
+    /// anew at each call, those of all other boxes are there already. Where it fails, a front of the dump went out.
+    ///
+    /// It takes time linear in the chapter and the bytes of the dump, and for each url in the chapters' names and in what it
+    /// writes; and memory for the path of a node, for the nodes that it is in, and for the texts of a box.
+    pub fn show<O: Sink, L: Ledger>(
+        &self,
+        alloc: Global,
+        place: usize,
+        out: &mut O,
+        steps: &mut Steps<L>,
+    ) -> Result<(), PutFault>
+        requires within { place < length self.now }
+        ensures ok { OnOk result (IfSome (slice_get self.now place) (λ own. O.out out.new ≡ grown (O.out out.old) (fresh_chapter_dump (map chapter_source self.now) (chapter_source own)))) }
+        ensures failed { OnErr result (IfSome (slice_get self.now place) (λ own. GrowsByFront (O.out out.old) (O.out out.new) (fresh_chapter_dump (map chapter_source self.now) (chapter_source own)))) }
+        ensures cause { HasPutCause (O.faults out.old) (O.faults out.new) result }
+        ensures steps { IfSome (slice_get self.now place) (λ own. steps.new ≤ steps.old + 4 * chapter_work self.now own) }
+    {
+        // The documents have keys of their own, and the lines are those of any keys.
+        keys_do_not_matter();
+        let chapters = self.chapters.as_slice();
+        put_chapter(alloc, chapters, &chapters[place], out, steps)
     }
 
     /// The place of the chapter of this name, compared as written; None exactly where there is none. It takes no memory, and

@@ -1,0 +1,20 @@
+use Rattle.std.proofs.Common.{◌≡◌, ◌∙◌, Option, None, Some, ap, option_copied, refl, sym}
+use Rattle.std.proofs.lemmas.Bool.{false≢true}
+use Rattle.std.specs.Prelude.{false, is_some}
+use Rattle.forest.specs.Forest.{Forest}
+use Rattle.forest.specs.Keys.{Keyed}
+use Rattle.node_arena.specs.Nodes.{name_of}
+use Rattle.plain_types.specs.declared.node.Node.{Node}
+use Rattle.book_definitions.specs.Chapters.{chapter_sheet}
+use Rattle.book_refs.proofs.evaluated_chapter.EvaluatedChapter.entry.Goals as goal
+
+nothing : {A : Type 0} (o : Option A) → is_some o ≡ false → None ≡ o
+nothing None e = refl
+nothing (Some value) e = absurd (false≢true (sym e))
+
+-- a text has no name, and so no entry
+pub returns-in_err-_name-clause-entry : goal.returns-in_err-_name-clause-entry
+returns-in_err-_name-clause-entry g c =
+    let unnamed = c.in_err-_name.ensures.characters ∙ ap (λ (t : Forest (Keyed Node)). name_of t c.args.key) c.arena.ensures.tree in
+    let elements = c.elements_have_entries.ensures.keys (chapter_sheet c.args.self.now) c.args.self.now.document c.args.key c.arena.ensures.document.distinct in
+    ap option_copied c.from_residual.ensures ∙ nothing _ (elements ∙ ap is_some (sym unnamed))

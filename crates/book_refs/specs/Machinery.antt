@@ -1,0 +1,2 @@
+pub mod VolumeBoxes
+pub mod TargetElements
