@@ -21,9 +21,9 @@ use Rattle.merged_walk.specs.Evaluators.{told_all}
 use Rattle.surroundings.specs.StyledEvaluators.{root_surroundings, styled_evaluator}
 use Rattle.surroundings.proofs.Asking.{asks-all}
 use Rattle.kept_elements.specs.Evaluations.{told_of}
-use Rattle.dirty_walk.specs.Plain.{are_plain, are_unstarted}
+use Rattle.dirty_walk.specs.Unstarted.{are_unstarted}
 use Rattle.dirty_walk.proofs.StartLemmas.{unasked_told}
-use Rattle.dirty_walk.proofs.UnstartedLemmas.{not_true, plain_unstarted}
+use Rattle.dirty_walk.proofs.UnstartedLemmas.{not_true}
 
 has_mapped : {A : Type 0} (f g : A → Start) (items : List A) → has_starts (map f items) ≡ has_starts (map g items)
 has_mapped f g [] = refl
@@ -90,11 +90,3 @@ module _ (table : List CounterStyle) (style : ℕ → Option Style → ElementSt
   without_starts_unstarted unstarted =
       unasked_told table style tree
       (sym (asks-all table (styled style no_starts tree) root_surroundings) ∙ not_true _ unstarted)
-
-  -- so it is where what is told is plain
-  pub plain_without_starts : are_plain (told_of table style tree) ≡ true → told_all (styled_evaluator table) root_surroundings (styled style no_starts tree) ≡ told_of table style tree
-  plain_without_starts plain = unstarted_without_starts (plain_unstarted (told_of table style tree) plain)
-
-  pub without_starts_plain : are_plain (told_all (styled_evaluator table) root_surroundings (styled style no_starts tree)) ≡ true
-      → told_all (styled_evaluator table) root_surroundings (styled style no_starts tree) ≡ told_of table style tree
-  without_starts_plain plain = without_starts_unstarted (plain_unstarted (told_all (styled_evaluator table) root_surroundings (styled style no_starts tree)) plain)

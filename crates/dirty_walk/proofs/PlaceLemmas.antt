@@ -1,13 +1,11 @@
 -- A walk from the place of an edit finds what comes to a board.
-use Rattle.std.proofs.Common.{◌≡◌, ◌≢◌, ◌≤◌, ◌+◌, ◌*◌, ◌⊎◌, ℕ, true, false, List, [], ◌∷◌, length, map, Option, Some, None, refl, sym, ap, subst, ◌∙◌, inl, inr, arith, unwrap_or}
-use Rattle.std.specs.Prelude.{All, Contains, IfSome, option_map}
-use Rattle.std.proofs.lemmas.Bool.{cases_Bool, true≢false}
+use Rattle.std.proofs.Common.{◌≡◌, ◌≢◌, ◌≤◌, ◌+◌, ℕ, true, false, List, ◌∷◌, Option, Some, None, refl, sym, ap, subst, ◌∙◌, unwrap_or}
+use Rattle.std.specs.Prelude.{Contains, IfSome, option_map}
 use Rattle.std.specs.FinMap.{FinMap, get}
 use Rattle.std.specs.Ordering.{nat_cmp}
-use Rattle.std.proofs.lemmas.List.{length-map}
-use Rattle.std.proofs.lemmas.List.Elements.{All-contains, All-contains_itself, All-map, All-weaker, Contains-append_cases}
+use Rattle.std.proofs.lemmas.List.Elements.{All-contains_itself, All-weaker}
 use Rattle.forest.specs.Forest.{Forest}
-use Rattle.forest.specs.Keys.{Keyed, without_keys}
+use Rattle.forest.specs.Keys.{Keyed}
 use Rattle.plain_types.specs.declared.edit.Edit.{Edit}
 use Rattle.plain_types.specs.declared.counter_style.CounterStyle.{CounterStyle}
 use Rattle.plain_types.specs.declared.node.Node.{Node}
@@ -24,17 +22,15 @@ use Rattle.generated_texts.specs.Documents.{agent_sheet, counter_styles, documen
 use Rattle.generated_texts.specs.References.{kept_at, known_targets}
 use Rattle.generated_texts.specs.StyleElements.{author_sheet}
 use Rattle.merged_walk.specs.declared.stop.Stop.{Stop}
-use Rattle.merged_walk.specs.Entries.{AreAmong, Covers, Holds, first_at}
+use Rattle.merged_walk.specs.Entries.{Holds, first_at}
 use Rattle.merged_walk.specs.Evaluators.{told_all}
 use Rattle.merged_walk.specs.Laws.{Merges}
 use Rattle.merged_walk.specs.Merges.{Merge}
-use Rattle.merged_walk.proofs.EntryLaws.{contains-first}
 use Rattle.surroundings.specs.declared.told.Told.{Told}
 use Rattle.surroundings.specs.declared.walked.Walked.{Walked}
 use Rattle.surroundings.specs.StyledEvaluators.{is_element, root_surroundings, styled_evaluator}
 use Rattle.document_walk.specs.Catching.{Reading}
-use Rattle.document_walk.specs.CatchingUp.{AreAllAmong, CanCatchUp, CoversAll, IsWithinBudget}
-use Rattle.document_walk.specs.Elements.{element_count}
+use Rattle.document_walk.specs.CatchingUp.{CanCatchUp, IsWithinBudget}
 use Rattle.edit_merge.specs.EditMerges.{inserted_key}
 use Rattle.edit_merge.specs.Laws.{IsDone}
 use Rattle.edit_merge.proofs.EditLaws.{edits_merge}
@@ -57,27 +53,18 @@ use Rattle.dirty_walk.specs.declared.local_stops.LocalStops.{LocalStops}
 use Rattle.dirty_walk.specs.declared.read_ahead.ReadAhead.{ReadAhead}
 use Rattle.dirty_walk.specs.declared.styled_arena.StyledArena.{StyledArena}
 use Rattle.target_index.specs.declared.index.Index.{Index}
-use Rattle.kept_elements.specs.Changes.{AreChanges, Renews}
 use Rattle.dirty_walk.specs.DocumentStyles.{document_styles, read_styles}
-use Rattle.kept_elements.specs.Evaluations.{all_kept_of, document_kept, document_told, kept_of, said_of}
+use Rattle.kept_elements.specs.Evaluations.{document_kept, document_told, kept_of, said_of}
 use Rattle.dirty_walk.specs.PlaceReadings.{read_of}
 use Rattle.dirty_walk.specs.PlaceStyles.{StandsBefore}
 use Rattle.dirty_walk.specs.ReadAhead.{StandsRead, WasReadOf}
-use Rattle.dirty_walk.specs.Places.{IsLocalEdit, IsSomePlace, IsWithinPlace, nothing_known, place_budget, place_merge, reading_of, walked_at}
-use Rattle.dirty_walk.specs.Plain.{are_plain, is_plain, is_unstarted, rests_on_others}
-use Rattle.dirty_walk.proofs.AskLemmas.{plain_without_starts, unstarted_without_starts, without_starts_plain}
+use Rattle.dirty_walk.specs.Places.{IsLocalEdit, IsSomePlace, place_budget, place_merge, reading_of, walked_at}
+use Rattle.dirty_walk.specs.Unstarted.{is_unstarted}
+use Rattle.dirty_walk.proofs.AskLemmas.{unstarted_without_starts}
 use Rattle.kept_elements.proofs.KnownLemmas.{kept_mapped}
-use Rattle.dirty_walk.proofs.PlainLemmas.{all_plain, each_plain, same_kept}
 use Rattle.dirty_walk.proofs.PlanLemmas.{its_author}
-use Rattle.kept_elements.proofs.RenewalLemmas.{at_first, kept_there, later, once_there, renews, the_one}
-use Rattle.kept_elements.proofs.ToldLemmas.{kept_count, told_once}
-
-contains_mapped : {A B : Type 0} (f : A → B) (xs : List A) (x : A) → Contains xs x → Contains (map f xs) (f x)
-contains_mapped f [] x there = absurd (omega (arith, there.1))
-contains_mapped f (y ∷ xs) x there = elim (Contains-append_cases (y ∷ []) xs x there) [
-  | inl first ↦ subst (λ z. Contains (map f (y ∷ xs)) (f z)) (the_one y x first) (contains-first (f y) (map f xs))
-  | inr rest ↦ later (f y) (f x) (map f xs) (contains_mapped f xs x rest)
-]
+use Rattle.kept_elements.proofs.RenewalLemmas.{at_first, kept_there, once_there}
+use Rattle.kept_elements.proofs.ToldLemmas.{told_once}
 
 walked_of : (f : Told → Kept) → ((told : Told) → (f told).walked ≡ told.walked) → (o : Option Told) → option_map (λ (kept : Kept). kept.walked) (option_map f o) ≡ option_map (λ (told : Told). told.walked) o
 walked_of f same None = refl
@@ -147,7 +134,7 @@ module _ (edit : Edit) (text : List ℕ) (held : FinMap nat_cmp Kept) (stops : L
   walkable : IsWalkable is_element (stops_where (looks_beside text old) edit old new) (place_merge edit text old new)
   walkable = styled_reaches_are_walkable edit old new at.done (looks_beside text old) (style_beside text old) (style_beside text new) no_starts no_starts None
 
-  forests : Merges (place_merge edit text old new) (styled (style_beside text old) no_starts old) (styled (style_beside text new) no_starts new)
+  pub forests : Merges (place_merge edit text old new) (styled (style_beside text old) no_starts old) (styled (style_beside text new) no_starts new)
   forests =
       subst (λ (t : List ℕ). Merges (styled_merge (style_beside text old) (style_beside t new) no_starts no_starts None whole) (styled (style_beside text old) no_starts old) (styled (style_beside t new) no_starts new))
       sheet_is
@@ -167,104 +154,6 @@ module _ (edit : Edit) (text : List ℕ) (held : FinMap nat_cmp Kept) (stops : L
     leaves = walkable.leaves;
     led = walkable.led;
   })
-
-  -- What it finds. Where the document is plain, so is that.
-
-  -- what the new document's evaluation tells under an author's sheet
-  abbrev told_under : Sheet → List (ℕ × Told)
-  told_under a = told_all (styled_evaluator (counter_styles a)) root_surroundings (styled (document_style a new) no_starts new)
-
-  module _ (caught : List (ℕ × Told)) (among_all : AreAllAmong (reading_of text new) (walked_at held) stops caught) where
-    all_found : is_plain (author_sheet text new) new ≡ true → are_plain caught ≡ true
-    all_found plain =
-        let is : is_plain author new ≡ true = ap (λ (a : Sheet). is_plain a new) (sym sheet_stays) ∙ plain in
-        let same : told_now ≡ document_told author new = plain_without_starts table (document_style author new) new is in
-        let among : AreAmong caught told_now = subst (λ (a : Sheet). AreAmong caught (told_under a)) sheet_stays (among_all (place_merge edit text old new) told_at can) in
-        all_plain caught
-        (All-weaker (Contains told_now) (λ (one : ℕ × Told). rests_on_others one.1 ≡ false)
-        (λ one there. each_plain (document_told author new) is one (subst (λ (told : List (ℕ × Told)). Contains told one) same there)) caught among)
-
-    pub rests_now : are_plain caught ≡ false → is_plain (author_sheet text new) new ≡ false
-    rests_now rests = elim (cases_Bool (is_plain (author_sheet text new) new)) [
-      | inl plain ↦ absurd (true≢false (sym (all_found plain) ∙ rests))
-      | inr not ↦ not
-    ]
-
-  -- And where that is plain, and the document was so, it is so still.
-
-  module _ (was_plain : is_plain (author_sheet text old) old ≡ true) (caught : List (ℕ × Told)) (covers_all : CoversAll (reading_of text new) (walked_at held) stops caught) (among_all : AreAllAmong (reading_of text new) (walked_at held) stops caught)
-      (plain : are_plain caught ≡ true) where
-    covers : Covers caught told_at told_now
-    covers = subst (λ (a : Sheet). Covers caught told_at (told_under a)) sheet_stays (covers_all (place_merge edit text old new) told_at can)
-
-    among : AreAmong caught told_now
-    among = subst (λ (a : Sheet). AreAmong caught (told_under a)) sheet_stays (among_all (place_merge edit text old new) told_at can)
-
-    each : All (λ (one : ℕ × Told). rests_on_others one.1 ≡ false) told_now
-    each =
-        All-weaker (λ (one : ℕ × Told). Contains caught one ⊎ (told_at one.0 ≡ Some one.1)) (λ (one : ℕ × Told). rests_on_others one.1 ≡ false)
-        (λ one is. elim is [ inl there ↦ each_plain caught plain one there | inr is ↦ each_plain told_before was_plain one (before one is) ])
-        told_now covers
-
-    told_is : told_now ≡ document_told author new
-    told_is = without_starts_plain table (document_style author new) new (all_plain told_now each)
-
-    pub plain_now : is_plain (author_sheet text new) new ≡ true
-    plain_now = ap (λ (a : Sheet). is_plain a new) sheet_stays ∙ ap are_plain (sym told_is) ∙ all_plain told_now each
-
-    abbrev known_now : Known
-    known_now = known_targets table new (said_of (document_told author new))
-
-    abbrev all : List (ℕ × Kept)
-    all = document_kept author new
-
-    abbrev found : List (ℕ × Kept)
-    found = all_kept_of table nothing_known caught
-
-    into : (one : ℕ × Told) → Contains caught one → Contains all (one.0, kept_of table nothing_known one.1)
-    into one there =
-        subst (λ (kept : Kept). Contains all (one.0, kept)) (same_kept table known_now nothing_known one.1 (each_plain caught plain one there))
-        (contains_mapped (λ (e : ℕ × Told). (e.0, kept_of table known_now e.1)) (document_told author new) one
-        (subst (λ (told : List (ℕ × Told)). Contains told one) told_is (All-contains (Contains told_now) caught one among there)))
-
-    all_among : AreAmong found all
-    all_among =
-        All-map (Contains all) (λ (e : ℕ × Told). (e.0, kept_of table nothing_known e.1)) caught
-        (All-weaker (Contains caught) (λ (e : ℕ × Told). Contains all (e.0, kept_of table nothing_known e.1)) into caught (All-contains_itself caught))
-
-    module _ (changes : List (ℕ × Kept)) (are : AreChanges held found changes) where
-      first : Renews held found changes
-      first = renews held found changes are
-
-      covered : (one : ℕ × Told) → Contains caught one ⊎ (told_at one.0 ≡ Some one.1)
-          → Contains changes (one.0, kept_of table known_now one.1) ⊎ (get held one.0 ≡ Some (kept_of table known_now one.1))
-      covered one (inl there) =
-          subst (λ (kept : Kept). Contains changes (one.0, kept) ⊎ (get held one.0 ≡ Some kept)) (same_kept table nothing_known known_now one.1 (each_plain caught plain one there))
-          (All-contains (λ (e : ℕ × Kept). Contains changes e ⊎ (get held e.0 ≡ Some e.1)) found (one.0, kept_of table nothing_known one.1) first.covers
-          (contains_mapped (λ (e : ℕ × Told). (e.0, kept_of table nothing_known e.1)) caught one there))
-      covered one (inr is) =
-          inr (kept_before one.0
-          ∙ ap (option_map (kept_of table known_before)) (sym (at_first told_before one.0) ∙ is)
-          ∙ ap (λ (kept : Kept). Some kept) (same_kept table known_before known_now one.1 (each_plain told_before was_plain one (before one is))))
-
-      all_covered : Covers changes (get held) all
-      all_covered =
-          All-map (λ (e : ℕ × Kept). Contains changes e ⊎ (get held e.0 ≡ Some e.1)) (λ (e : ℕ × Told). (e.0, kept_of table known_now e.1)) (document_told author new)
-          (subst (λ (told : List (ℕ × Told)). All (λ (e : ℕ × Told). Contains changes (e.0, kept_of table known_now e.1) ⊎ (get held e.0 ≡ Some (kept_of table known_now e.1))) told) told_is
-          (All-weaker (λ (one : ℕ × Told). Contains caught one ⊎ (told_at one.0 ≡ Some one.1))
-          (λ (e : ℕ × Told). Contains changes (e.0, kept_of table known_now e.1) ⊎ (get held e.0 ≡ Some (kept_of table known_now e.1))) covered told_now covers))
-
-      pub renewed : length caught ≤ element_count (without_keys new) → Renews held (document_kept (author_sheet text new) new) changes
-      renewed few =
-          subst (λ (a : Sheet). Renews held (document_kept a new) changes) (sym sheet_stays) (record {
-            among = All-weaker (Contains found) (Contains all) (λ one there. All-contains (Contains all) found one all_among there) changes first.among;
-            covers = all_covered;
-            others = first.others;
-            few =
-                let fewer : length changes ≤ length found = first.few in
-                let same : length found ≡ length caught = length-map caught (λ (e : ℕ × Told). (e.0, kept_of table nothing_known e.1)) in
-                omega (arith, fewer, same, few, kept_count author new at.done.after.distinct);
-          })
 
 -- The same where a document and its styles are known, and some edit.
 
@@ -309,55 +198,6 @@ module _ (document : StyledArena) (is_agent : document.agent.now ≡ agent_sheet
       let there : CanCatchUp (reading_of text tree) (walked_at held) stops (place_merge place.edit text place.old tree) (told_at place.edit text held stops place.old tree place.at place.stops_are) =
       can place.edit text held stops place.old tree place.at place.stops_are in
       (subst (λ (from : Reading). IsWithinBudget from (walked_at held) stops before now) (reads document is_agent styles_are) within) _ _ there
-
-  pub rests : (caught : List (ℕ × Told)) → AreAllAmong (read_of document) (walked_at held) stops caught → are_plain caught ≡ false → is_plain (author_sheet text tree) tree ≡ false
-  rests caught among is =
-      rests_now place.edit text held stops place.old tree place.at place.stops_are caught
-      (subst (λ (from : Reading). AreAllAmong from (walked_at held) stops caught) (reads document is_agent styles_are) among) is
-
-  module _ (was_plain : is_plain (author_sheet text place.old) place.old ≡ true) (caught : List (ℕ × Told)) (covers : CoversAll (read_of document) (walked_at held) stops caught)
-      (among : AreAllAmong (read_of document) (walked_at held) stops caught) (plain : are_plain caught ≡ true) where
-    covers_now : CoversAll (reading_of text tree) (walked_at held) stops caught
-    covers_now = subst (λ (from : Reading). CoversAll from (walked_at held) stops caught) (reads document is_agent styles_are) covers
-
-    among_now : AreAllAmong (reading_of text tree) (walked_at held) stops caught
-    among_now = subst (λ (from : Reading). AreAllAmong from (walked_at held) stops caught) (reads document is_agent styles_are) among
-
-    pub is_plain_now : is_plain (author_sheet text tree) tree ≡ true
-    is_plain_now = plain_now place.edit text held stops place.old tree place.at place.stops_are was_plain caught covers_now among_now plain
-
-    pub renews_now : (changes : List (ℕ × Kept)) → AreChanges held (all_kept_of document.styles.now.table nothing_known caught) changes → length caught ≤ element_count (without_keys tree)
-        → Renews held (document_kept (author_sheet text tree) tree) changes
-    renews_now changes are few =
-        renewed place.edit text held stops place.old tree place.at place.stops_are was_plain caught covers_now among_now plain changes
-        (subst (λ (table : List CounterStyle). AreChanges held (all_kept_of table nothing_known caught) changes)
-        (its_table document.styles.now text tree styles_are ∙ ap counter_styles (sheet_stays place.edit text held stops place.old tree place.at place.stops_are)) are)
-        few
-
--- What a walk costs, and what is read of what it has found.
-module _ (document : StyledArena) (is_agent : document.agent.now ≡ agent_sheet) (styles_are : document.styles.now ≡ document_styles document.styles.now.sheet document.arena.now.tree)
-    (held : FinMap nat_cmp Kept) (stops : List Stop) where
-  twice : (before now budget : ℕ) → now ≤ before + budget → now ≤ before + 2 * budget
-  twice before now budget few = omega arith
-
-  once_more : (before walked spent found come budget : ℕ) → (walked + found) ≤ before + budget → found ≤ 0 + budget → spent ≤ walked + found → come ≤ found → (spent + come) ≤ before + 2 * budget
-  once_more before walked spent found come budget few small read fewer = omega arith
-
-  pub within_place : (before now spent : ℕ) → IsWithinBudget (read_of document) (walked_at held) stops before now → spent ≤ now → IsWithinPlace document.styles.now.sheet held stops document.arena.now.tree before spent
-  within_place before now spent within few place =
-      let walk : now ≤ before + place_budget place.edit document.styles.now.sheet place.old document.arena.now.tree = walk_within document is_agent styles_are held stops place before now within in
-      twice before spent (place_budget place.edit document.styles.now.sheet place.old document.arena.now.tree) (less spent now before _ few walk)
-    where
-      less : (spent now before budget : ℕ) → spent ≤ now → now ≤ before + budget → spent ≤ before + budget
-      less spent now before budget few walk = omega arith
-
-  pub read_within_place : (before walked spent found come : ℕ) → IsWithinBudget (read_of document) (walked_at held) stops before (walked + found) → IsWithinBudget (read_of document) (walked_at held) stops 0 found
-      → spent ≤ walked + found → come ≤ found → IsWithinPlace document.styles.now.sheet held stops document.arena.now.tree before (spent + come)
-  read_within_place before walked spent found come few small read fewer place =
-      once_more before walked spent found come (place_budget place.edit document.styles.now.sheet place.old document.arena.now.tree)
-      (walk_within document is_agent styles_are held stops place before (walked + found) few)
-      (walk_within document is_agent styles_are held stops place 0 found small)
-      read fewer
 
 -- A book before its edit is evaluated.
 

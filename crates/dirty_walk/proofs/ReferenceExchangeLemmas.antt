@@ -32,7 +32,7 @@ use Rattle.kept_elements.specs.declared.kept.Kept.{Kept}
 use Rattle.kept_elements.specs.Renewals.{is_told}
 use Rattle.dirty_walk.specs.declared.reference_exchange.Reference.{Reference}
 use Rattle.dirty_walk.specs.Exchanges.{exchanges, held, unheld}
-use Rattle.dirty_walk.specs.Machinery.ReferenceLists.{all_before, all_kept, all_told, box_references, boxes_references, element_references, exchanged, kept_box_references, kept_references, piece_references, referred, unreferred}
+use Rattle.dirty_walk.specs.Machinery.ReferenceLists.{all_kept, all_told, box_references, boxes_references, element_references, exchanged, kept_box_references, kept_references, piece_references, referred, unreferred}
 use Rattle.dirty_walk.specs.ReferenceExchanges.{ChangesReferences, LeadsBack, references_in, references_kept, references_of_boxes}
 
 -- Tests.
@@ -184,13 +184,6 @@ module _ (id : List ℕ) (key : ℕ) where
         ∙ ap₂ (λ a b. a || b) (lists_kept own held) (listed_kept keys)
         ∙ one_more own (λ k. among (references_kept held k)) (is_among keys key)
 
-    listed_before : (told : List (ℕ × Told)) → is_listed (all_before held told) ≡ (is_told told key && among (references_kept held key))
-    listed_before [] = refl
-    listed_before (element ∷ told) =
-        list_any-append is_that_pair (kept_references held element.0) (all_before held told)
-        ∙ ap₂ (λ a b. a || b) (lists_kept element.0 held) (listed_before told)
-        ∙ one_more element.0 (λ k. among (references_kept held k)) (is_told told key)
-
   listed_told : (at : ℕ → List (List ℕ)) (told : List (ℕ × Told)) → All (λ (element : ℕ × Told). at element.0 ≡ references_of element.1.said) told
       → is_listed (all_told told) ≡ (is_told told key && among (at key))
   listed_told at [] all = refl
@@ -230,14 +223,15 @@ module _ (id : List ℕ) (key : ℕ) where
   goes false true false false gone stays = refl
   goes false false was is gone stays = stays refl refl
 
-  module _ (held : FinMap nat_cmp Kept) (takes : List ℕ) (told : List (ℕ × Told)) (before after : Evaluated) (h : ChangesReferences held takes told before after) where
+  module _ (held : FinMap nat_cmp Kept) (takes : List ℕ) (told : List (ℕ × Told)) (keys : List ℕ) (keys_are : (k : ℕ) → is_among keys k ≡ is_told told k)
+      (before after : Evaluated) (h : ChangesReferences held takes told before after) where
     abbrev was_listed : List Reference
-    was_listed = all_kept held takes ++ all_before held told
+    was_listed = all_kept held takes ++ all_kept held keys
 
     was_are : is_listed was_listed ≡ ((is_among takes key && among (references_at before key)) || (is_told told key && among (references_at before key)))
     was_are =
-        list_any-append is_that_pair (all_kept held takes) (all_before held told)
-        ∙ ap₂ (λ a b. a || b) (listed_kept held takes) (listed_before held told)
+        list_any-append is_that_pair (all_kept held takes) (all_kept held keys)
+        ∙ ap₂ (λ a b. a || b) (listed_kept held takes) (listed_kept held keys ∙ ap (λ b. b && among (references_kept held key)) (keys_are key))
         ∙ ap (λ ids. (is_among takes key && among ids) || (is_told told key && among ids)) (h.kept key)
 
     is_are : is_listed (all_told told) ≡ (is_told told key && among (references_at after key))
@@ -275,16 +269,16 @@ pub exchanged_none : (was is : List Reference) → AddsNoHolders (exchanged was 
 exchanged_none was is = no_holders_both (map unreferred was) (map referred is) (unreferred_none was) (referred_none is)
 
 -- An index whose references are exchanged so.
-module _ (held : FinMap nat_cmp Kept) (takes : List ℕ) (told : List (ℕ × Told)) (old new : Index)
-    (made : (id : List ℕ) (key : ℕ) → is_reference new id key ≡ refers_after_all (exchanged (all_kept held takes ++ all_before held told) (all_told told)) id key (is_reference old id key)) where
+module _ (held : FinMap nat_cmp Kept) (takes : List ℕ) (told : List (ℕ × Told)) (keys : List ℕ) (keys_are : (k : ℕ) → is_among keys k ≡ is_told told k) (old new : Index)
+    (made : (id : List ℕ) (key : ℕ) → is_reference new id key ≡ refers_after_all (exchanged (all_kept held takes ++ all_kept held keys) (all_told told)) id key (is_reference old id key)) where
   abbrev were : List Reference
-  were = all_kept held takes ++ all_before held told
+  were = all_kept held takes ++ all_kept held keys
 
   module _ (before after : Evaluated) (h : ChangesReferences held takes told before after) (tells : TellsReferences old before) where
     -- it tells those of the edited document
     pub index_comes : TellsReferences new after
     index_comes id key =
-        made id key ∙ ap (λ b. refers_after_all (exchanged were (all_told told)) id key b) (tells id key) ∙ pair_comes id key held takes told before after h
+        made id key ∙ ap (λ b. refers_after_all (exchanged were (all_told told)) id key b) (tells id key) ∙ pair_comes id key held takes told keys keys_are before after h
 
     -- and on the way back those that it told before
     pub index_goes : (back : List IndexChange) → back ≡ exchanged (all_told told) were → AreReserved new back → LeadsBack back new old
@@ -293,7 +287,7 @@ module _ (held : FinMap nat_cmp Kept) (takes : List ℕ) (told : List (ℕ × To
       references = λ id key.
           ap (λ (changes : List IndexChange). refers_after_all changes id key (is_reference new id key)) are
           ∙ ap (λ b. refers_after_all (exchanged (all_told told) were) id key b) (index_comes id key)
-          ∙ pair_goes id key held takes told before after h
+          ∙ pair_goes id key held takes told keys keys_are before after h
           ∙ sym (tells id key);
       holders = λ id key held. ap (λ (changes : List IndexChange). holds_after_all changes id key held) are ∙ exchanged_hold id key (all_told told) were held;
       adds_none = subst AddsNoHolders (sym are) (exchanged_none (all_told told) were);
@@ -313,24 +307,24 @@ module _ (index : Index) (changes back made way both : List IndexChange) (first 
 
 -- What holds once an exchange answers the way back.
 
-pub on_comes : (held : FinMap nat_cmp Kept) (takes : List ℕ) (told : List (ℕ × Told)) (was is : List Reference) (old new : Index) (result : Result (List IndexChange) Memory)
-    → was ≡ all_kept held takes ++ all_before held told → is ≡ all_told told
+pub on_comes : (held : FinMap nat_cmp Kept) (takes : List ℕ) (told : List (ℕ × Told)) (keys : List ℕ) → ((k : ℕ) → is_among keys k ≡ is_told told k) → (was is : List Reference) (old new : Index) (result : Result (List IndexChange) Memory)
+    → was ≡ all_kept held takes ++ all_kept held keys → is ≡ all_told told
     → OnOk result ((id : List ℕ) (key : ℕ) → is_reference new id key ≡ refers_after_all (exchanged was is) id key (is_reference old id key))
     → OnOk result ((before after : Evaluated) → ChangesReferences held takes told before after → TellsReferences old before → TellsReferences new after)
-on_comes held takes told was is old new (Err memory) first second made = tt
-on_comes held takes told was is old new (Ok back) first second made = λ before after h tells.
-    index_comes held takes told old new
+on_comes held takes told keys keys_are was is old new (Err memory) first second made = tt
+on_comes held takes told keys keys_are was is old new (Ok back) first second made = λ before after h tells.
+    index_comes held takes told keys keys_are old new
     (λ id key. made id key ∙ ap₂ (λ (w i : List Reference). refers_after_all (exchanged w i) id key (is_reference old id key)) first second)
     before after h tells
 
-pub on_goes : (held : FinMap nat_cmp Kept) (takes : List ℕ) (told : List (ℕ × Told)) (was is : List Reference) (old new : Index) (result : Result (List IndexChange) Memory)
-    → was ≡ all_kept held takes ++ all_before held told → is ≡ all_told told
+pub on_goes : (held : FinMap nat_cmp Kept) (takes : List ℕ) (told : List (ℕ × Told)) (keys : List ℕ) → ((k : ℕ) → is_among keys k ≡ is_told told k) → (was is : List Reference) (old new : Index) (result : Result (List IndexChange) Memory)
+    → was ≡ all_kept held takes ++ all_kept held keys → is ≡ all_told told
     → OnOk result ((id : List ℕ) (key : ℕ) → is_reference new id key ≡ refers_after_all (exchanged was is) id key (is_reference old id key))
     → IfOk result (λ back. back ≡ exchanged is was) → IfOk result (AreReserved new)
     → IfOk result (λ back. (before after : Evaluated) → ChangesReferences held takes told before after → TellsReferences old before → LeadsBack back new old)
-on_goes held takes told was is old new (Err memory) first second made back reserved = tt
-on_goes held takes told was is old new (Ok back) first second made its reserved = λ before after h tells.
-    index_goes held takes told old new
+on_goes held takes told keys keys_are was is old new (Err memory) first second made back reserved = tt
+on_goes held takes told keys keys_are was is old new (Ok back) first second made its reserved = λ before after h tells.
+    index_goes held takes told keys keys_are old new
     (λ id key. made id key ∙ ap₂ (λ (w i : List Reference). refers_after_all (exchanged w i) id key (is_reference old id key)) first second)
     before after h tells back (its ∙ ap₂ (λ (i w : List Reference). exchanged i w) second first) reserved
 

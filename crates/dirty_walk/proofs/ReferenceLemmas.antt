@@ -1,50 +1,25 @@
 -- The references of a document's elements, and an index that tells of them.
-use Rattle.std.proofs.Common.{◌≡◌, ◌++◌, ◌∙◌, ℕ, Bool, true, false, List, [], ◌∷◌, Option, Some, None, flat_map, unwrap_or, refl, sym, ap, subst}
-use Rattle.std.specs.Prelude.{IfSome, codes, option_map}
-use Rattle.std.specs.List.{list_any}
+use Rattle.std.proofs.Common.{◌≡◌, ◌++◌, ◌∙◌, ℕ, Bool, List, [], ◌∷◌, Option, Some, None, flat_map, unwrap_or, refl, sym, subst}
+use Rattle.std.specs.Prelude.{IfSome, codes}
 use Rattle.std.specs.Option.{option_map_or}
-use Rattle.std.specs.Str.{bytes_eq}
-use Rattle.std.proofs.lemmas.Bool.{or_parts}
 use Rattle.forest.specs.Forest.{Forest}
 use Rattle.forest.specs.Keys.{Keyed, keys}
 use Rattle.plain_types.specs.declared.node.Node.{Node}
-use Rattle.plain_types.specs.declared.sheet.Sheet.{Sheet}
 use Rattle.node_arena.specs.Nodes.{attr_of}
-use Rattle.box_eval.specs.declared.element_record.ElementRecord.{ElementRecord}
-use Rattle.generated_texts.specs.References.{kept_at}
 use Rattle.generated_texts.specs.StyleElements.{author_sheet}
-use Rattle.edit_work.specs.KeyedSources.{references_of}
 use Rattle.surroundings.specs.declared.told.Told.{Told}
 use Rattle.target_index.specs.declared.change.IndexChange.{IndexChange}
 use Rattle.target_index.specs.declared.change.IndexChange.TheVariants.{Hold}
 use Rattle.target_index.specs.declared.index.Index.{Index}
 use Rattle.target_index.specs.Changes.{refers_after_all}
 use Rattle.target_index.specs.Holders.{is_reference}
-use Rattle.referring_elements.specs.Indexes.{TellsReferences, refers_to}
+use Rattle.referring_elements.specs.Indexes.{TellsReferences}
 use Rattle.referring_elements.specs.References.{AreOnce}
 use Rattle.dirty_walk.specs.declared.exchange.ElementId.{ElementId}
-use Rattle.kept_elements.specs.Evaluations.{document_told, evaluated_document}
+use Rattle.kept_elements.specs.Evaluations.{evaluated_document}
 use Rattle.dirty_walk.specs.Exchanges.{exchanges, held, unheld}
-use Rattle.box_pieces.specs.BoxPieces.{refers}
-use Rattle.dirty_walk.specs.Plain.{is_plain, rests_on_others}
 use Rattle.kept_elements.proofs.ChangeLemmas.{HasKeysOnce}
 use Rattle.dirty_walk.proofs.IdLemmas.{id_change, id_changes}
-use Rattle.kept_elements.proofs.KnownLemmas.{kept_mapped}
-use Rattle.kept_elements.proofs.NoReferences.{of_element}
-use Rattle.dirty_walk.proofs.PlainLemmas.{each_plain}
-use Rattle.kept_elements.proofs.RenewalLemmas.{kept_there}
-
--- in a plain document no element refers to an id
-pub plain_refers_to_none : (author : Sheet) (document : Forest (Keyed Node)) → is_plain author document ≡ true → (id : List ℕ) (key : ℕ) → refers_to (evaluated_document author document) id key ≡ false
-plain_refers_to_none author document plain id key =
-    ap (λ (o : Option ElementRecord). list_any (bytes_eq id) (option_map_or references_of o [])) (kept_mapped (λ (told : Told). told.said) (document_told author document) key)
-    ∙ by (kept_at (document_told author document) key) refl
-  where
-    by : (o : Option Told) → kept_at (document_told author document) key ≡ o → list_any (bytes_eq id) (option_map_or references_of (option_map (λ (told : Told). told.said) o) []) ≡ false
-    by None is = refl
-    by (Some told) is =
-        let rests : rests_on_others told ≡ false = each_plain (document_told author document) plain (key, told) (kept_there (document_told author document) key told is) in
-        ap (list_any (bytes_eq id)) (of_element told.said (or_parts told.asks (refers told.said) rests).1)
 
 -- Changes of holders change no references.
 
@@ -103,15 +78,6 @@ pub refers_where : (tree other : Forest (Keyed Node)) (text : List ℕ) (index n
     → TellsReferences index (evaluated_document (author_sheet text tree) tree) → TellsReferences new (evaluated_document (author_sheet text other) other)
 refers_where tree other text index new same answers tells =
     subst (λ (t : Forest (Keyed Node)). TellsReferences new (evaluated_document (author_sheet text t) t)) (sym same) (λ id key. answers id key ∙ tells id key)
-
--- where no element refers to an id, neither does the index know of one
-pub none_where_plain : (author : Sheet) (document : Forest (Keyed Node)) (index : Index) → TellsReferences index (evaluated_document author document) → is_plain author document ≡ true
-    → (id : List ℕ) (key : ℕ) → is_reference index id key ≡ false
-none_where_plain author document index tells plain id key = tells id key ∙ plain_refers_to_none author document plain id key
-
-pub plain_tells_none : (author : Sheet) (document : Forest (Keyed Node)) (index : Index) → ((id : List ℕ) (key : ℕ) → is_reference index id key ≡ false) → is_plain author document ≡ true
-    → TellsReferences index (evaluated_document author document)
-plain_tells_none author document index none plain id key = none id key ∙ sym (plain_refers_to_none author document plain id key)
 
 -- The index that was made anew, or else the one that was there.
 

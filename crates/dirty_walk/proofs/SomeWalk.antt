@@ -1,6 +1,19 @@
 -- What a walk from the place of an edit has told of the edited document, where no element asks for the start of a reversed
--- counter: all that its evaluation tells, its references, and what the texts of the elements that refer are made again by.
-use Rattle.std.proofs.Common.{◌≡◌, ◌∙◌, ◌⊎◌, ℕ, nat_eq, true, false, List, Some, refl, sym, ap, subst, inl, inr}
+-- counter: all that its evaluation tells, and what of it is told otherwise than before.
+use Rattle.std.proofs.Common.{◌≡◌, ◌∙◌, ◌⊎◌, ℕ, nat_eq, true, false, List, Some, refl, sym, ap, subst, inl, inr, arith}
+use Rattle.forest.specs.Keys.{times}
+use Rattle.forest.specs.Spots.{IsLink}
+use Rattle.box_eval.specs.Evaluation.{StyledNode}
+use Rattle.merged_walk.specs.Merges.{new_of, old_of}
+use Rattle.merged_walk.specs.Stops.{stops_of}
+use Rattle.surroundings.specs.Laws.{told_document}
+use Rattle.edit_merge.specs.EditMerges.{is_element}
+use Rattle.styled_merge.specs.Laws.{style_beside}
+use Rattle.referring_elements.specs.References.{AreOnce}
+use Rattle.kept_elements.specs.News.{AreNewsOf, KeepsTold, TellsNews}
+use Rattle.kept_elements.proofs.KeptTold.{styled_merges_keep_told}
+use Rattle.kept_elements.proofs.StopLemmas.{stops_lead}
+use Rattle.dirty_walk.specs.PlaceNews.{AreNewsFrom}
 use Rattle.std.specs.Prelude.{All, Contains, option_map}
 use Rattle.std.specs.FinMap.{FinMap, get}
 use Rattle.std.specs.List.{list_any}
@@ -51,12 +64,12 @@ use Rattle.dirty_walk.specs.Exchanges.{elements_in, leaving, taken_keys}
 use Rattle.dirty_walk.specs.FormerTargets.{AreFormerTargetsOf}
 use Rattle.dirty_walk.specs.PlaceReadings.{read_of}
 use Rattle.dirty_walk.specs.Places.{IsLocalEdit, IsSomePlace, place_merge, reading_of, walked_at}
-use Rattle.dirty_walk.specs.Plain.{are_unstarted, is_unstarted}
+use Rattle.dirty_walk.specs.Unstarted.{are_unstarted, is_unstarted}
 use Rattle.dirty_walk.specs.ReferenceExchanges.{ChangesReferences}
 use Rattle.dirty_walk.proofs.AskLemmas.{unstarted_without_starts, without_starts_unstarted}
 use Rattle.dirty_walk.proofs.ExchangeLaws.{takes_are}
 use Rattle.dirty_walk.proofs.KeptReferences.{changes_references, told_keys}
-use Rattle.dirty_walk.proofs.PlaceLemmas.{can, its_table, reads, sheet_stays, told_at}
+use Rattle.dirty_walk.proofs.PlaceLemmas.{can, forests, its_table, reads, sheet_stays, told_at}
 use Rattle.dirty_walk.proofs.ReferenceLemmas.{are_once}
 use Rattle.dirty_walk.proofs.UnstartedLemmas.{AsksForNone, all_unstarted, each_unstarted}
 
@@ -87,6 +100,31 @@ module _ (edit : Edit) (text : List ℕ) (held : FinMap nat_cmp Kept) (stops : L
 
   merges : Merges merge old new
   merges = reached_merge_has_forests (begins_at (reach (looks_beside text old) old edit)) (edit_merge edit old new) old new (edits_merge edit old new at.done)
+
+  pub its_stops : stops ≡ stops_of is_element 0 merge
+  its_stops = stops_are ∙ (reaches_are_walkable edit old new at.done (looks_beside text old)).stops
+
+  -- the stops lead to nodes of the document
+  pub links : All (λ (stop : Stop). IsLink new stop.link) stops
+  links =
+      subst (λ (at : List Stop). All (λ (stop : Stop). IsLink new stop.link) at) (sym its_stops)
+      (stops_lead is_element new 0 merge (λ k. let same : times k (new_of merge) ≡ times k new = ap (times k) merges.new in omega (arith, same)))
+
+  abbrev whole : Merge StyledNode
+  whole = place_merge edit text old new
+
+  whole_merges : Merges whole (styled (style_beside text old) no_starts old) (styled (style_beside text new) no_starts new)
+  whole_merges = forests edit text held stops old new at stops_are
+
+  -- what is told of its old forest was told before
+  told_old : told_document (counter_styles author) (old_of whole) ≡ was
+  told_old =
+      ap (told_document (counter_styles author)) whole_merges.old
+      ∙ ap (λ (a : Sheet). told_document (counter_styles a) (styled (style_beside text old) no_starts old)) (sheet_stays edit text held stops old new at stops_are)
+      ∙ unstarted_without_starts (counter_styles was_author) (document_style was_author old) old was_unstarted
+
+  once_before : AreOnce (told_document (counter_styles author) (old_of whole))
+  once_before = subst (λ (told : List (ℕ × Told)). AreOnce told) (sym told_old) (are_once was (told_once was_author old at.done.before.distinct))
 
   held_are : (key : ℕ) → get held key ≡ option_map (kept_in (counter_styles author) old was) (kept_at was key)
   held_are key =
@@ -149,17 +187,26 @@ module _ (edit : Edit) (text : List ℕ) (held : FinMap nat_cmp Kept) (stops : L
         among = among;
       }
 
-      -- the edit exchanges the references of what it takes out and of what was caught
-      pub references_change : (takes : List ℕ) → takes ≡ taken_keys edit (elements_in (leaving edit old))
-          → ChangesReferences held takes caught (evaluated_document was_author old) (evaluated_document author new)
-      references_change takes are =
-          changes_references was_author author old new at.done.before.distinct at.done.after.distinct held at.kept takes
-          (λ key. ap (list_any (nat_eq key)) are ∙ takes_are edit old new at.done key) caught covers among
+      keeps_told : KeepsTold merge was is
+      keeps_told =
+          subst (λ (told : List (ℕ × Told)). KeepsTold merge told is) told_old
+          (subst (λ (told : List (ℕ × Told)). KeepsTold merge (told_document (counter_styles author) (old_of whole)) told) (ap (told_document (counter_styles author)) whole_merges.new ∙ told_is)
+          (styled_merges_keep_told (counter_styles author) (style_beside text old) (style_beside text new) no_starts no_starts merge once_before))
+
+      module _ (news : List (ℕ × Told)) (news_are : AreNewsOf stops new caught held news) where
+        pub tells_news : TellsNews (counter_styles author) merge old new was is news held
+        tells_news = news_are (counter_styles author) merge old was is its_stops keeps_told tells_of_walk
+
+        -- the edit exchanges the references of what it takes out and of what is told otherwise
+        pub references_change : (takes : List ℕ) → takes ≡ taken_keys edit (elements_in (leaving edit old))
+            → ChangesReferences held takes news (evaluated_document was_author old) (evaluated_document author new)
+        references_change takes are =
+            changes_references was_author author old new at.done.before.distinct at.done.after.distinct held at.kept takes
+            (λ key. ap (list_any (nat_eq key)) are ∙ takes_are edit old new at.done key) news tells_news.tells.covers tells_news.tells.among
 
 -- The same where a document and its styles are known, and some edit.
 module _ (document : StyledArena) (is_agent : document.agent.now ≡ agent_sheet) (styles_are : document.styles.now ≡ document_styles document.styles.now.sheet document.arena.now.tree)
-    (held : FinMap nat_cmp Kept) (stops : List Stop) (place : IsSomePlace document.styles.now.sheet held stops document.arena.now.tree)
-    (caught : List (ℕ × Told)) (among : AreAllAmong (read_of document) (walked_at held) stops caught) where
+    (held : FinMap nat_cmp Kept) (stops : List Stop) (place : IsSomePlace document.styles.now.sheet held stops document.arena.now.tree) where
   abbrev text : List ℕ
   text = document.styles.now.sheet
 
@@ -169,51 +216,63 @@ module _ (document : StyledArena) (is_agent : document.agent.now ≡ agent_sheet
   abbrev its_author : Sheet
   its_author = author_sheet text tree
 
+  abbrev told_before : List (ℕ × Told)
+  told_before = document_told (author_sheet text place.old) place.old
+
   abbrev told_there : List (ℕ × Told)
   told_there = document_told its_author tree
 
-  among_there : AreAllAmong (reading_of text tree) (walked_at held) stops caught
-  among_there = subst (λ (from : Reading). AreAllAmong from (walked_at held) stops caught) (reads document is_agent styles_are) among
+  abbrev its_merge : Merge Node
+  its_merge = reached_merge (looks_beside text place.old) place.edit place.old tree
 
   table_is : document.styles.now.table ≡ counter_styles its_author
   table_is = its_table document.styles.now text tree styles_are
 
-  pub document_starts : are_unstarted caught ≡ false → is_unstarted its_author tree ≡ false
-  document_starts = starts_now place.edit text held stops place.old tree place.at place.stops_are caught among_there
+  pub document_links : All (λ (stop : Stop). IsLink tree stop.link) stops
+  document_links = links place.edit text held stops place.old tree place.at place.stops_are
 
-  module _ (covers : CoversAll (read_of document) (walked_at held) stops caught) (unstarted : are_unstarted caught ≡ true) where
-    covers_there : CoversAll (reading_of text tree) (walked_at held) stops caught
-    covers_there = subst (λ (from : Reading). CoversAll from (walked_at held) stops caught) (reads document is_agent styles_are) covers
+  module _ (caught : List (ℕ × Told)) (among : AreAllAmong (read_of document) (walked_at held) stops caught) where
+    among_there : AreAllAmong (reading_of text tree) (walked_at held) stops caught
+    among_there = subst (λ (from : Reading). AreAllAmong from (walked_at held) stops caught) (reads document is_agent styles_are) among
+
+    pub document_starts : are_unstarted caught ≡ false → is_unstarted its_author tree ≡ false
+    document_starts = starts_now place.edit text held stops place.old tree place.at place.stops_are caught among_there
+
+  module _ (news : List (ℕ × Told)) (from : AreNewsFrom document held stops news) where
+    covers_there : CoversAll (reading_of text tree) (walked_at held) stops from.caught
+    covers_there = subst (λ (read : Reading). CoversAll read (walked_at held) stops from.caught) (reads document is_agent styles_are) from.covers
 
     pub document_unstarted : is_unstarted its_author tree ≡ true
-    document_unstarted = unstarted_now place.edit text held stops place.old tree place.at place.stops_are caught among_there covers_there unstarted
+    document_unstarted = unstarted_now place.edit text held stops place.old tree place.at place.stops_are from.caught (among_there from.caught from.among) covers_there from.unstarted
 
     pub document_references_change : (takes : List ℕ) → takes ≡ taken_keys place.edit (elements_in (leaving place.edit place.old))
-        → ChangesReferences held takes caught (evaluated_document (author_sheet text place.old) place.old) (evaluated_document its_author tree)
-    document_references_change = references_change place.edit text held stops place.old tree place.at place.stops_are caught among_there covers_there unstarted
+        → ChangesReferences held takes news (evaluated_document (author_sheet text place.old) place.old) (evaluated_document its_author tree)
+    document_references_change =
+        references_change place.edit text held stops place.old tree place.at place.stops_are from.caught (among_there from.caught from.among) covers_there from.unstarted news from.news_are
 
-    pub document_tells : TellsOfWalk document.styles.now.table (reached_merge (looks_beside text place.old) place.edit place.old tree) place.old tree (document_told (author_sheet text place.old) place.old) told_there caught held
-    document_tells =
-        subst (λ (table : List CounterStyle). TellsOfWalk table (reached_merge (looks_beside text place.old) place.edit place.old tree) place.old tree (document_told (author_sheet text place.old) place.old) told_there caught held)
-        (sym table_is) (tells_of_walk place.edit text held stops place.old tree place.at place.stops_are caught among_there covers_there unstarted)
+    pub document_news : TellsNews (counter_styles its_author) its_merge place.old tree told_before told_there news held
+    document_news = tells_news place.edit text held stops place.old tree place.at place.stops_are from.caught (among_there from.caught from.among) covers_there from.unstarted news from.news_are
+
+    pub document_tells : TellsOfWalk document.styles.now.table its_merge place.old tree told_before told_there news held
+    document_tells = subst (λ (table : List CounterStyle). TellsOfWalk table its_merge place.old tree told_before told_there news held) (sym table_is) document_news.tells
 
     module _ (index : Index) (former : List FormerTarget) (former_are : AreFormerTargetsOf place.edit place.old former) (refers : TellsReferences index (evaluated_document its_author tree)) where
       -- the walk is one by which the texts of the elements that refer may be made again
-      abbrev pub some_walk : IsSomeWalk document.styles.now.table index former stops tree caught held
+      abbrev pub some_walk : IsSomeWalk document.styles.now.table index former stops tree news held
       some_walk = record {
-        merge = reached_merge (looks_beside text place.old) place.edit place.old tree;
+        merge = its_merge;
         old = place.old;
-        was = document_told (author_sheet text place.old) place.old;
+        was = told_before;
         is = told_there;
         tells = document_tells;
-        stops_are = place.stops_are ∙ (reaches_are_walkable place.edit place.old tree place.at.done (looks_beside text place.old)).stops;
+        stops_are = its_stops place.edit text held stops place.old tree place.at place.stops_are;
         former_are = former_are (evaluated_document (author_sheet text place.old) place.old) (evaluated_document its_author tree) refl place.at.done;
         refers = refers;
       }
 
       -- what comes by it is what a fresh evaluation has
       pub walk_renews : (changes : List (ℕ × Kept))
-          → ((walk : IsSomeWalk document.styles.now.table index former stops tree caught held)
+          → ((walk : IsSomeWalk document.styles.now.table index former stops tree news held)
           → Renews held (all_kept_of document.styles.now.table (known_targets document.styles.now.table tree (said_of walk.is)) walk.is) changes)
           → Renews held (document_kept its_author tree) changes
       walk_renews changes renews =

@@ -6,8 +6,7 @@ use Rattle.std.proofs.lemmas.Bool.{or_parts, true≢false}
 use Rattle.std.proofs.lemmas.List.Elements.{All-cons, All-nil}
 use Rattle.std.proofs.lemmas.List.Folds.{list_any_none}
 use Rattle.surroundings.specs.declared.told.Told.{Told}
-use Rattle.dirty_walk.specs.Plain.{are_plain, are_unstarted}
-use Rattle.dirty_walk.proofs.PlainLemmas.{no_asks}
+use Rattle.dirty_walk.specs.Unstarted.{are_unstarted}
 
 -- the element asks for none
 abbrev pub AsksForNone : ℕ × Told → Type 0
@@ -28,7 +27,3 @@ each_unstarted told unstarted = none_asks told (not_true _ unstarted)
 
 pub all_unstarted : (told : List (ℕ × Told)) → All AsksForNone told → are_unstarted told ≡ true
 all_unstarted told each = ap not (list_any_none (λ (element : ℕ × Told). element.1.asks) told each)
-
--- plain ones ask for none
-pub plain_unstarted : (told : List (ℕ × Told)) → are_plain told ≡ true → are_unstarted told ≡ true
-plain_unstarted told plain = ap not (no_asks told plain)

@@ -1,5 +1,5 @@
 -- The steps of an edit are within its work.
-use Rattle.std.proofs.Common.{◌≡◌, ◌≢◌, ◌≤◌, ◌+◌, ◌*◌, ◌⊎◌, ◌∙◌, ℕ, Bool, true, false, List, Option, Some, None, IfSome, sym, ap, inl, inr, arith}
+use Rattle.std.proofs.Common.{◌≡◌, ◌≢◌, ◌≤◌, ◌+◌, ◌*◌, ◌⊎◌, ◌∙◌, ℕ, true, false, List, Option, Some, None, IfSome, sym, ap, inl, inr, arith, length}
 use Rattle.std.specs.Prelude.{IfNone, is_some}
 use Rattle.std.specs.FinMap.{FinMap, get}
 use Rattle.std.specs.Ordering.{nat_cmp}
@@ -34,6 +34,7 @@ use Rattle.styled_merge.specs.StyledMerges.{styled_merge}
 use Rattle.styled_merge.proofs.LawLemmas.{styled_merges_keep_shape}
 use Rattle.edit_work.specs.KeyedSources.{KeyedSource}
 use Rattle.edit_work.specs.Laws.{Leads}
+use Rattle.edit_work.specs.ReachedLaws.{PaysForReachedWalks}
 use Rattle.edit_work.specs.Work.{edit_reach, walk_work, work}
 use Rattle.edit_work.proofs.LawLemmas.{whole_reach_is_paid}
 use Rattle.edit_work.proofs.ReachedLemmas.{nodes_reached_are_paid}
@@ -42,10 +43,13 @@ use Rattle.kept_elements.specs.declared.kept.Kept.{Kept}
 use Rattle.dirty_walk.specs.declared.local_stops.LocalStops.{LocalStops}
 use Rattle.dirty_walk.specs.DocumentStyles.{document_styles}
 use Rattle.kept_elements.specs.Evaluations.{document_kept}
-use Rattle.dirty_walk.specs.PlaceStyles.{IsWithinPlaceOf, StandsBefore}
-use Rattle.dirty_walk.specs.Places.{place_budget}
-use Rattle.dirty_walk.specs.Plain.{is_plain, is_unstarted}
-use Rattle.dirty_walk.specs.WorkBounds.{IsWithinWork, StaysPlain}
+use Rattle.dirty_walk.specs.declared.read_ahead.ReadAhead.{ReadAhead}
+use Rattle.dirty_walk.specs.FormerTargets.{AreFormerTargetsOf}
+use Rattle.dirty_walk.specs.PlaceNews.{IsWithinPlaceOf}
+use Rattle.dirty_walk.specs.PlaceStyles.{StandsBefore}
+use Rattle.dirty_walk.specs.Places.{place_budget, place_work}
+use Rattle.dirty_walk.specs.Unstarted.{is_unstarted}
+use Rattle.dirty_walk.specs.WorkBounds.{IsWithinWork, StaysUnstarted}
 use Rattle.dirty_walk.proofs.GoneLemmas.{gone-reached}
 use Rattle.dirty_walk.proofs.PlaceLemmas.{stands_there}
 
@@ -54,9 +58,9 @@ use Rattle.dirty_walk.proofs.PlaceLemmas.{stands_there}
 whole : (was is was_count is_count work before now : ℕ) → was_count ≡ was → is_count ≡ is → (was_count + is_count) ≤ work → now ≤ before + (13 * is + 2 * was) → now ≤ before + 24 * (work + 1)
 whole was is was_count is_count work before now same_was same touched few = omega arith
 
-place : (budget other gone going taken walk work before now total : ℕ) → budget ≡ other → gone ≡ going → (2 * budget + gone) ≤ 24 * (walk + 1) → walk ≤ work → now ≤ before + 2 * other → taken ≤ going → total ≤ now + taken
-    → total ≤ before + 24 * (work + 1)
-place budget other gone going taken walk work before now total same same_gone paid within few goes sum = omega arith
+place : (budget other gone going takes taken walk its_work work before now total : ℕ) → budget ≡ other → gone ≡ going → its_work ≡ work → (2 * budget + gone) ≤ 24 * (walk + 1) → going ≤ walk → walk ≤ work
+    → now ≤ before + (other + (takes + 3 * its_work)) → takes ≤ going → taken ≤ going → total ≤ now + taken → total ≤ before + 24 * (work + 1)
+place budget other gone going takes taken walk its_work work before now total same same_gone same_work paid gone_paid within few goes took sum = omega arith
 
 -- An edit makes one document of another, and the text of its sheet.
 module _ (edit : Edit) (text next : List ℕ) (old new : Forest (Keyed Node)) (done : IsDone edit old new) (next_is : next ≡ edited_sheet edit text) where
@@ -99,12 +103,21 @@ module _ (edit : Edit) (text next : List ℕ) (old new : Forest (Keyed Node)) (d
   unfolding work
   walk_within = omega arith
 
-  pub at_place : (from now taken total : ℕ) → edit_reach edit before after ≢ All → now ≤ from + 2 * place_budget edit text old new → taken ≤ gone_count is_element (edit_merge edit old new) → total ≤ now + taken
+  same_work : edit_reach edit before after ≢ All → place_work edit text old new ≡ work edit before after
+  same_work other = ap (λ (t : List ℕ). work edit before (record { tree = new; sheet = t })) (sym (same_sheet other))
+
+  goes_where_reached : (taken : ℕ) → taken ≤ gone_count is_element (edit_merge edit old new) → taken ≤ gone_count is_element whole_merge
+  goes_where_reached taken goes = omega (arith, goes, gone-reached (begins_at (reach (looks_beside text old) old edit)) (edit_merge edit old new))
+
+  pub at_place : (from now takes taken total : ℕ) → edit_reach edit before after ≢ All → now ≤ from + (place_budget edit text old new + (takes + 3 * place_work edit text old new))
+      → takes ≤ gone_count is_element (edit_merge edit old new) → taken ≤ gone_count is_element (edit_merge edit old new) → total ≤ now + taken
       → total ≤ from + 24 * (work edit before after + 1)
-  at_place from now taken total other few goes sum =
-      place (merge_budget next) (place_budget edit text old new) (gone_count is_styled_element (styled_with next)) (gone_count is_element whole_merge) taken (walk_work edit before after) (work edit before after) from now total
-      (ap merge_budget (same_sheet other)) shape.gone (nodes_reached_are_paid edit before after leads other).plain walk_within few
-      (omega (arith, goes, gone-reached (begins_at (reach (looks_beside text old) old edit)) (edit_merge edit old new))) sum
+  at_place from now takes taken total other few goes took sum =
+      let paid : PaysForReachedWalks edit before after = nodes_reached_are_paid edit before after leads other in
+      place (merge_budget next) (place_budget edit text old new) (gone_count is_styled_element (styled_with next)) (gone_count is_element whole_merge) takes taken (walk_work edit before after)
+      (place_work edit text old new) (work edit before after) from now total
+      (ap merge_budget (same_sheet other)) shape.gone (same_work other) paid.plain paid.gone walk_within few
+      (goes_where_reached takes goes) (goes_where_reached taken took) sum
 
 -- A book whose document is edited.
 module _ (edit : Edit) (styles : DocumentStyles) (held : FinMap nat_cmp Kept) (old new : Forest (Keyed Node)) (stops : Option LocalStops)
@@ -117,28 +130,29 @@ module _ (edit : Edit) (styles : DocumentStyles) (held : FinMap nat_cmp Kept) (o
   is = record { tree = new; sheet = next }
 
   -- its steps are within the work of the edit, where it walks from the stops of the edit, or by all elements
-  pub within_work : (was_plain : Bool) → was_plain ≡ is_plain (author_sheet styles.sheet old) old → (from now taken total : ℕ) → IfSome stops (λ _. is_unstarted (author_sheet styles.sheet old) old ≡ true)
+  pub within_work : (ahead : ReadAhead) → AreFormerTargetsOf edit old ahead.former.now → length ahead.takes.now ≤ gone_count is_element (edit_merge edit old new) → (from now taken total : ℕ)
+      → IfSome stops (λ _. is_unstarted (author_sheet styles.sheet old) old ≡ true)
       → IfSome stops (λ local. local.extent ≡ reach (looks_beside styles.sheet old) old edit) → IfSome stops (λ local. local.extent ≢ All)
       → IfSome stops (λ local. local.stops.items ≡ reach_stops local.extent edit 0 old)
-      → IfNone stops ((is_plain (author_sheet styles.sheet old) old ≡ false) ⊎ (reach (looks_beside styles.sheet old) old edit ≡ All))
-      → IfSome stops (λ local. IsWithinPlaceOf was_plain edit styles held local new from now)
+      → IfNone stops ((is_unstarted (author_sheet styles.sheet old) old ≡ false) ⊎ (reach (looks_beside styles.sheet old) old edit ≡ All))
+      → IfSome stops (λ local. IsWithinPlaceOf edit styles held local new ahead from now)
       → taken ≤ gone_count is_element (edit_merge edit old new) → total ≤ now + taken → total ≤ from + (13 * element_count (without_keys new) + 2 * element_count (without_keys old))
       → IsWithinWork edit was is from total
-  within_work was_plain plain_is from now taken total unstarted extent other stops_are none within goes sum few measured = elim measured [
+  within_work ahead former takes from now taken total unstarted extent other stops_are none within goes sum few measured = elim measured [
     | inl stays ↦ by stops stays unstarted extent other stops_are none within
     | inr all ↦ everywhere edit styles.sheet next old new done next_is from total all few
   ]
     where
-      by : (found : Option LocalStops) → StaysPlain edit was is → IfSome found (λ _. is_unstarted (author_sheet styles.sheet old) old ≡ true)
+      by : (found : Option LocalStops) → StaysUnstarted edit was is → IfSome found (λ _. is_unstarted (author_sheet styles.sheet old) old ≡ true)
           → IfSome found (λ local. local.extent ≡ reach (looks_beside styles.sheet old) old edit) → IfSome found (λ local. local.extent ≢ All)
           → IfSome found (λ local. local.stops.items ≡ reach_stops local.extent edit 0 old)
-          → IfNone found ((is_plain (author_sheet styles.sheet old) old ≡ false) ⊎ (reach (looks_beside styles.sheet old) old edit ≡ All))
-          → IfSome found (λ local. IsWithinPlaceOf was_plain edit styles held local new from now) → total ≤ from + 24 * (work edit was is + 1)
+          → IfNone found ((is_unstarted (author_sheet styles.sheet old) old ≡ false) ⊎ (reach (looks_beside styles.sheet old) old edit ≡ All))
+          → IfSome found (λ local. IsWithinPlaceOf edit styles held local new ahead from now) → total ≤ from + 24 * (work edit was is + 1)
       by None stays unstarted extent other stops_are none within = elim none [
-        | inl rests ↦ absurd (true≢false (sym stays.was ∙ rests))
+        | inl starts ↦ absurd (true≢false (sym stays.was ∙ starts))
         | inr all ↦ everywhere edit styles.sheet next old new done next_is from total all few
       ]
       by (Some local) stays unstarted extent other stops_are none within =
           let there : StandsBefore edit styles held local new = stands_there edit styles held old new styles_are done kept local unstarted extent other stops_are in
-          at_place edit styles.sheet next old new done next_is from now taken total there.at.local
-          (within (plain_is ∙ stays.was) (ap (λ (text : List ℕ). is_plain (author_sheet text new) new) (sym next_is) ∙ stays.is) there) goes sum
+          at_place edit styles.sheet next old new done next_is from now (length ahead.takes.now) taken total there.at.local
+          (within (ap (λ (text : List ℕ). is_unstarted (author_sheet text new) new) (sym next_is) ∙ stays.is) there former) takes goes sum

@@ -23,8 +23,7 @@ use Rattle.kept_elements.specs.declared.kept.Kept.{Kept}
 use Rattle.dirty_walk.specs.DocumentStyles.{document_styles}
 use Rattle.kept_elements.specs.Evaluations.{document_kept, evaluated_document}
 use Rattle.referring_elements.specs.Indexes.{IsIndexOf, TellsReferences}
-use Rattle.dirty_walk.specs.Plain.{is_plain}
-use Rattle.dirty_walk.specs.Referring.{IsReferringIn}
+use Rattle.dirty_walk.specs.Unstarted.{is_unstarted}
 
 -- a document whose nodes have keys, the text of its style sheet, whether they are settled, which is that no edit is
 -- planned, and what is kept of the document's elements under their keys
@@ -74,16 +73,15 @@ HasRoomFor room document = (key : ℕ) → IsSome (name_of document key) → key
 
 -- A book stands for its arena's tree, its sheet's text, what its board holds, and whether no edit is planned. It has the
 -- user agent's sheet, that document's styles and the index of its ids and references, room for what is kept of its elements,
--- and knows whether they rest on more than what they are handed, and where it knows one that refers to an id, it is one. A settled one keeps what a fresh evaluation does, and uses the keys of
--- its nodes alone; an edit that is planned can be taken back.
-pub record IsBook (arena : Document) (agent : Sheet) (styles : DocumentStyles) (board : Records Kept) (index : Index) (plain : Bool) (referring : Option ℕ) (planned : Option Reversal) (styled : StyledDocument) : Type 0 where
+-- and knows whether any of these asks for the start of a reversed counter. A settled one keeps what a fresh evaluation does, and
+-- uses the keys of its nodes alone; an edit that is planned can be taken back.
+pub record IsBook (arena : Document) (agent : Sheet) (styles : DocumentStyles) (board : Records Kept) (index : Index) (unstarted : Bool) (planned : Option Reversal) (styled : StyledDocument) : Type 0 where
   pub agent_is : agent ≡ agent_sheet
   pub styles_are : styles ≡ document_styles styled.sheet styled.tree
   pub kept : styled.settled ≡ true → KeepsAll styled
   pub room : HasRoomFor board.room styled.tree
   pub indexed : IsIndexOf index styled.tree
   pub refers : TellsReferences index (evaluated_document (author_sheet styled.sheet styled.tree) styled.tree)
-  pub plain_is : plain ≡ is_plain (author_sheet styled.sheet styled.tree) styled.tree
-  pub referring_is : IfSome referring (IsReferringIn (author_sheet styled.sheet styled.tree) styled.tree)
+  pub unstarted_is : unstarted ≡ is_unstarted (author_sheet styled.sheet styled.tree) styled.tree
   pub back : IfSome planned (λ reversal. IsReversal arena reversal)
   pub keys : UsesItsKeys arena planned

@@ -9,7 +9,7 @@ use Rattle.kept_elements.specs.declared.kept.Kept.{Kept}
 use Rattle.dirty_walk.specs.DocumentStyles.{document_styles}
 use Rattle.kept_elements.specs.Evaluations.{document_kept, evaluated_document}
 use Rattle.reference_reach.specs.ChangedTargets.{Evaluated}
-use Rattle.dirty_walk.specs.Plain.{is_plain}
+use Rattle.dirty_walk.specs.Unstarted.{is_unstarted}
 
 module _ (document : EditedArena) where
   -- the text of the sheet
@@ -30,6 +30,6 @@ module _ (document : EditedArena) where
   abbrev pub evaluated_after : Evaluated
   evaluated_after = evaluated_document author_after document.arena.now.tree
 
-  -- none of them rests on more than what it is handed
-  abbrev pub is_plain_after : Bool
-  is_plain_after = is_plain author_after document.arena.now.tree
+  -- none of them asks for the start of a reversed counter
+  abbrev pub is_unstarted_after : Bool
+  is_unstarted_after = is_unstarted author_after document.arena.now.tree

@@ -6,13 +6,13 @@ pub mod FormerTargets
 pub mod FreshPieces
 pub mod Machinery
 pub mod NamedElements
+pub mod PlaceNews
 pub mod PlaceReadings
 pub mod PlaceStyles
 pub mod Places
-pub mod Plain
 pub mod PlannedEntries
 pub mod Plans
 pub mod ReadAhead
 pub mod ReferenceExchanges
-pub mod Referring
+pub mod Unstarted
 pub mod WorkBounds

@@ -1,5 +1,5 @@
 -- Where what comes to a board by an edit is told by a walk from the edit's place (our own).
-use Rattle.std.specs.Prelude.{◌≡◌, ◌≢◌, ◌≤◌, ◌+◌, ◌*◌, ℕ, true, List, [], Option, None, option_map}
+use Rattle.std.specs.Prelude.{◌≡◌, ◌≢◌, ℕ, true, List, Option, None, option_map}
 use Rattle.std.specs.FinMap.{FinMap, get}
 use Rattle.std.specs.Ordering.{nat_cmp}
 use Rattle.forest.specs.Forest.{Forest}
@@ -8,7 +8,6 @@ use Rattle.plain_types.specs.declared.edit.Edit.{Edit}
 use Rattle.plain_types.specs.declared.node.Node.{Node}
 use Rattle.box_eval.specs.Evaluation.{StyledNode}
 use Rattle.box_eval.specs.Starts.{no_starts}
-use Rattle.content_eval.specs.Targets.{Known}
 use Rattle.generated_texts.specs.Documents.{counter_styles}
 use Rattle.generated_texts.specs.References.{kept_at}
 use Rattle.generated_texts.specs.StyleElements.{author_sheet}
@@ -17,6 +16,7 @@ use Rattle.merged_walk.specs.Counts.{budget}
 use Rattle.merged_walk.specs.Merges.{Merge}
 use Rattle.document_walk.specs.Catching.{Reading}
 use Rattle.edit_merge.specs.Laws.{IsDone}
+use Rattle.edit_work.specs.Work.{work}
 use Rattle.style_reach.specs.Reaches.{reach}
 use Rattle.style_reach.specs.declared.extent.Reach.TheVariants.{All}
 use Rattle.styled_merge.specs.Laws.{looks_beside, style_beside}
@@ -27,11 +27,7 @@ use Rattle.surroundings.specs.declared.walked.Walked.{Walked}
 use Rattle.surroundings.specs.StyledEvaluators.{root_surroundings, styled_evaluator}
 use Rattle.kept_elements.specs.declared.kept.Kept.{Kept}
 use Rattle.kept_elements.specs.Evaluations.{document_kept}
-use Rattle.dirty_walk.specs.Plain.{is_unstarted}
-
--- nothing is known of any element
-abbrev pub nothing_known : Known
-nothing_known = record { counters = λ id. None; characters = λ id. []; flat = λ id part. None }
+use Rattle.dirty_walk.specs.Unstarted.{is_unstarted}
 
 -- A document has become another by an edit that does not change styles everywhere, so the text of the sheet stays. The
 -- first asked for no start of a reversed counter, and this is kept of it.
@@ -58,10 +54,9 @@ abbrev pub place_budget : Edit → List ℕ → (old new : Forest (Keyed Node)) 
 place_budget edit text old new =
     budget (styled_evaluator (counter_styles (author_sheet text new))) root_surroundings root_surroundings (place_merge edit text old new)
 
--- between one number of steps and another are no more than such a walk takes, and one for each record that it finds, of
--- which there are no more than its budget
-abbrev pub IsWithinPlace : List ℕ → FinMap nat_cmp Kept → List Stop → Forest (Keyed Node) → (before now : ℕ) → Type 0
-IsWithinPlace text held stops new before now = (place : IsSomePlace text held stops new) → now ≤ before + 2 * place_budget place.edit text place.old new
+-- the work of that edit
+abbrev pub place_work : Edit → List ℕ → (old new : Forest (Keyed Node)) → ℕ
+place_work edit text old new = work edit (record { tree = old; sheet = text }) (record { tree = new; sheet = text })
 
 -- What a walk reads of a document under the sheet of this text, where all starts are 0.
 abbrev pub reading_of : List ℕ → Forest (Keyed Node) → Reading

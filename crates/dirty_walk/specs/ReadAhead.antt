@@ -1,5 +1,5 @@
 -- What is read of a document before an edit of it is done (our own).
-use Rattle.std.specs.Prelude.{◌≡◌, ℕ, List, IfSome}
+use Rattle.std.specs.Prelude.{◌≡◌, ℕ, List}
 use Rattle.std.specs.FinMap.{FinMap}
 use Rattle.std.specs.Ordering.{nat_cmp}
 use Rattle.forest.specs.Forest.{Forest}
@@ -20,15 +20,11 @@ use Rattle.dirty_walk.specs.Exchanges.{elements_in, leaving, taken_keys}
 use Rattle.dirty_walk.specs.FormerTargets.{AreFormerTargetsOf}
 use Rattle.dirty_walk.specs.Places.{IsSomePlace}
 use Rattle.dirty_walk.specs.PlaceStyles.{StandsBefore}
-use Rattle.dirty_walk.specs.Plain.{is_plain}
-use Rattle.dirty_walk.specs.Referring.{IsReferringIn}
 
 -- this was read of a document under the author's sheet before this edit, and the index tells its references
 pub record WasReadOf (edit : Edit) (author : Sheet) (old : Forest (Keyed Node)) (ahead : ReadAhead) (index : Index) : Type 0 where
   pub takes : ahead.takes.now ≡ taken_keys edit (elements_in (leaving edit old))
   pub former : AreFormerTargetsOf edit old ahead.former.now
-  pub plain : ahead.is_plain ≡ is_plain author old
-  pub referring : IfSome ahead.referring (IsReferringIn author old)
   pub tells : TellsReferences index (evaluated_document author old)
 
 -- some edit has made this document, of which these are the stops, and this was read before it

@@ -1,6 +1,6 @@
 -- The references of a document's elements before an edit and after it, and an index that is brought from one to the other (our
 -- own, over CSS Generated Content 3, 2.6).
-use Rattle.std.specs.Prelude.{◌≡◌, ◌++◌, ℕ, Bool, true, false, List, [], All, Option}
+use Rattle.std.specs.Prelude.{◌≡◌, ◌≤◌, ◌+◌, ◌++◌, ℕ, Bool, true, false, List, [], All, Option, length}
 use Rattle.std.specs.FinMap.{FinMap, get}
 use Rattle.std.specs.List.{filter_map}
 use Rattle.std.specs.Option.{option_and_then, option_map_or}
@@ -41,6 +41,11 @@ pub record ChangesReferences (held : FinMap nat_cmp Kept) (takes : List ℕ) (to
   pub gone : (key : ℕ) → is_among takes key ≡ true → references_at after key ≡ []
   pub come : All (λ (element : ℕ × Told). references_at after element.0 ≡ references_of element.1.said) told
   pub others : (key : ℕ) → is_among takes key ≡ false → is_told told key ≡ false → references_at after key ≡ references_at before key
+
+-- Between one number of steps and another are so many, and no more than a list has, of its own choice, of all elements of which
+-- this is told.
+abbrev pub IsWithinKeys : List (ℕ × Told) → (more before now : ℕ) → Type 0
+IsWithinKeys told more before now = (keys : List ℕ) → ((key : ℕ) → is_told told key ≡ true → is_among keys key ≡ true) → now ≤ before + (more + length keys)
 
 -- Ways back.
 

@@ -6,25 +6,25 @@ use Rattle.edit_work.specs.KeyedSources.{KeyedSource, author}
 use Rattle.edit_work.specs.Laws.{Leads}
 use Rattle.edit_work.specs.Work.{edit_reach, work}
 use Rattle.dirty_walk.specs.Books.{StyledDocument}
-use Rattle.dirty_walk.specs.Plain.{is_plain}
+use Rattle.dirty_walk.specs.Unstarted.{is_unstarted}
 
 -- the document of a book and the text of its sheet
 abbrev pub keyed_source : StyledDocument → KeyedSource
 keyed_source styled = record { tree = styled.tree; sheet = styled.sheet }
 
--- no element of a document rests on more than what it is handed
-abbrev pub IsPlain : KeyedSource → Type 0
-IsPlain source = is_plain (author source) source.tree ≡ true
+-- no element of a document asks for the start of a reversed counter
+abbrev pub IsUnstarted : KeyedSource → Type 0
+IsUnstarted source = is_unstarted (author source) source.tree ≡ true
 
 module _ (edit : Edit) (before after : KeyedSource) where
-  -- an edit of a plain document makes a plain document of it
-  pub record StaysPlain : Type 0 where
-    pub was : IsPlain before
-    pub is : IsPlain after
+  -- so it is before an edit and after it
+  pub record StaysUnstarted : Type 0 where
+    pub was : IsUnstarted before
+    pub is : IsUnstarted after
 
   -- The edits whose work pays for their steps: such an edit, or one that can change styles everywhere.
   abbrev pub IsPaidByWork : Type 0
-  IsPaidByWork = StaysPlain ⊎ (edit_reach edit before after ≡ All)
+  IsPaidByWork = StaysUnstarted ⊎ (edit_reach edit before after ≡ All)
 
   -- Where the edit is such a one: between one number of steps and another are at most 24 for each unit of its work, and 24
   -- more.

@@ -21,8 +21,8 @@ ghost use Rattle.dirty_walk.specs.DocumentStyles.{document_styles};
 ghost use Rattle.dirty_walk.specs.Exchanges.{elements_in, leaving, taken_keys};
 ghost use Rattle.dirty_walk.specs.FormerTargets.{AreFormerTargetsOf};
 ghost use Rattle.dirty_walk.specs.FreshPieces.{fresh_pieces};
-ghost use Rattle.dirty_walk.specs.Plain.{is_plain, is_unstarted};
 ghost use Rattle.dirty_walk.specs.Plans.{settled_after, IsPlannedBy, plan_size};
+ghost use Rattle.dirty_walk.specs.Unstarted.{is_unstarted};
 ghost use Rattle.dirty_walk.specs.WorkBounds.{IsWithinWork, StopsWithinWork, keyed_source};
 
 use crate::board::{put_changes, take_entries};
@@ -37,7 +37,6 @@ use crate::places::stops_at_place;
 use crate::plan::Plan;
 use crate::planning::{Renewal, evaluated};
 use crate::read_ahead::ReadAhead;
-use crate::referring::is_unstarted;
 use crate::style_elements::style_texts;
 use content_eval::generated::Piece;
 use generated_texts::entry::NodeEntry;
@@ -76,11 +75,8 @@ pub struct Book {
     board: Board<Kept>,
     /// The index of the ids and the references of its elements.
     index: Index,
-    /// Whether no element of the document rests on more than what it is handed: no box asks for the start of a reversed
-    /// counter, and none holds a reference to an id.
-    is_plain: bool,
-    /// An element that refers to an id, where no box asks for the start of a reversed counter.
-    referring: Option<usize>,
+    /// Whether no box of the document asks for the start of a reversed counter.
+    is_unstarted: bool,
     /// The way back from an edit that is planned.
     planned: Option<Reversal>,
 }
@@ -97,7 +93,7 @@ impl Model for Book {
 
     ghost view = { λ book. record { tree = book.arena.tree; sheet = book.styles.sheet; settled = is_none book.planned; kept = book.board.held } };
 
-    ghost invariant = { λ book. IsBook book.arena book.agent book.styles book.board book.index book.is_plain book.referring book.planned (record { tree = book.arena.tree; sheet = book.styles.sheet; settled = is_none book.planned; kept = book.board.held }) };
+    ghost invariant = { λ book. IsBook book.arena book.agent book.styles book.board book.index book.is_unstarted book.planned (record { tree = book.arena.tree; sheet = book.styles.sheet; settled = is_none book.planned; kept = book.board.held }) };
 }
 
 /// The styles of a document under the sheet of this text, read.
@@ -164,8 +160,7 @@ impl Book {
         let Fresh {
             kept: board,
             index,
-            is_plain,
-            referring,
+            is_unstarted,
         } = fresh_board(alloc, &arena, &agent, &styles, steps)?;
         Ok(Book {
             arena,
@@ -173,8 +168,7 @@ impl Book {
             styles,
             board,
             index,
-            is_plain,
-            referring,
+            is_unstarted,
             planned: None,
         })
     }
@@ -190,7 +184,7 @@ impl Book {
         ensures extent { IfOk result (λ ahead. IfSome ahead.stops (λ local. local.extent ≡ reach (looks_beside self.now.sheet self.now.tree) self.now.tree edit.now)) }
         ensures local { IfOk result (λ ahead. IfSome ahead.stops (λ local. local.extent ≢ reaches.All)) }
         ensures stops { IfOk result (λ ahead. IfSome ahead.stops (λ local. local.stops.items ≡ reach_stops local.extent edit.now 0 self.now.tree)) }
-        ensures none { IfOk result (λ ahead. IfNone ahead.stops ((is_plain (author_sheet self.now.sheet self.now.tree) self.now.tree ≡ false) ⊎ (reach (looks_beside self.now.sheet self.now.tree) self.now.tree edit.now ≡ reaches.All))) }
+        ensures none { IfOk result (λ ahead. IfNone ahead.stops ((is_unstarted (author_sheet self.now.sheet self.now.tree) self.now.tree ≡ false) ⊎ (reach (looks_beside self.now.sheet self.now.tree) self.now.tree edit.now ≡ reaches.All))) }
     {
         let gone = leaving_elements(alloc, &self.arena, edit)?;
         let takes = taken_keys(alloc, edit, gone.as_slice())?;
@@ -199,7 +193,7 @@ impl Book {
             &self.arena,
             &self.agent,
             &self.styles.author,
-            is_unstarted(self.is_plain, self.referring),
+            self.is_unstarted,
             edit,
         )?;
         let former = former_targets(alloc, &self.arena, &self.index, edit, gone.as_slice())?;
@@ -218,11 +212,11 @@ impl Book {
     /// edit touches is evaluated, and the elements whose styles it can change; and the texts are made again of the elements that
     /// refer to any of these, or to an id that names another element now, and of those that refer to such ones. Else, and where
     /// it can change all styles, the edited document is evaluated whole, which costs what `begin` costs, and may come on top of a
-    /// walk that did not tell all; where the texts of the sheet and of the style elements are as before, none is read. Beside
+    /// walk that found such a box; where the texts of the sheet and of the style elements are as before, none is read. Beside
     /// that come the arena's `prepare` and `commit`.
     /// What is as before stays where it is, and with it what it has in memory. With those of `commit` its steps are bounded
-    /// by the work of the edit, where the document is plain before and after it, and where the edit can change all styles;
-    /// so are its own where it answers `Memory`.
+    /// by the work of the edit, where no box of the document asks for such a start before the edit and after it, and where the
+    /// edit can change all styles; so are its own where it answers `Memory`.
     pub fn plan<L: Ledger>(
         &mut self,
         alloc: Global,
@@ -261,8 +255,6 @@ impl Book {
         let ahead = ReadAhead {
             takes: takes.as_slice(),
             former: former.as_slice(),
-            is_plain: self.is_plain,
-            referring: self.referring,
         };
         let gone = gone.as_slice();
         let index = &mut self.index;
@@ -273,13 +265,11 @@ impl Book {
                     styles,
                     index,
                     changes,
-                    is_plain,
-                    referring,
+                    is_unstarted,
                 } = made;
                 replace_styles(&mut self.styles, styles);
                 replace_index(&mut self.index, index);
-                self.is_plain = is_plain;
-                self.referring = referring;
+                self.is_unstarted = is_unstarted;
                 self.planned = Some(reversal);
                 Ok(Plan {
                     puts: changes,

@@ -1,6 +1,6 @@
 //! A fresh evaluation of a document under its styles.
 
-ghost use Rattle.std.specs.Prelude.{◌≡◌, ◌≤◌, ◌+◌, ◌*◌, true, length, IfOk, IfSome};
+ghost use Rattle.std.specs.Prelude.{◌≡◌, ◌≤◌, ◌+◌, ◌*◌, true, length, IfOk};
 ghost use Rattle.forest.specs.Keys.{without_keys};
 ghost use Rattle.generated_texts.specs.Documents.{agent_sheet};
 ghost use Rattle.generated_texts.specs.StyleElements.{author_sheet};
@@ -10,16 +10,14 @@ ghost use Rattle.kept_elements.specs.Changes.{AreBelow, Renews};
 ghost use Rattle.dirty_walk.specs.DocumentStyles.{document_styles};
 ghost use Rattle.kept_elements.specs.Evaluations.{document_kept, document_told, evaluated_document};
 ghost use Rattle.referring_elements.specs.Indexes.{IsIndexOf, TellsReferences};
-ghost use Rattle.dirty_walk.specs.Plain.{is_plain};
-ghost use Rattle.dirty_walk.specs.Referring.{IsReferringIn};
+ghost use Rattle.dirty_walk.specs.Unstarted.{is_unstarted};
 
 use crate::board::room_for;
 use crate::document_styles::DocumentStyles;
 use crate::evaluation::{document_changes, document_told, put_document_entries};
 use crate::index::index_with;
-use crate::plain::are_plain;
-use crate::referring::referring_of;
 use crate::styled_arena::StyledArena;
+use crate::unstarted::are_unstarted;
 use css_reader::sheet::read_sheet;
 use kept_elements::kept::Kept;
 use mini_cascade::agent_sheet::AGENT_SHEET;
@@ -71,10 +69,8 @@ pub(crate) struct Fresh<K> {
     pub(crate) kept: K,
     /// The index of their ids and references.
     pub(crate) index: Index,
-    /// Whether none of them rests on more than what it is handed.
-    pub(crate) is_plain: bool,
-    /// One that refers to an id, where no box asks for the start of a reversed counter.
-    pub(crate) referring: Option<usize>,
+    /// Whether none of them asks for the start of a reversed counter.
+    pub(crate) is_unstarted: bool,
 }
 
 /// A board with what is kept of a document's elements, and the index. One walk evaluates the document, and where a box
@@ -93,8 +89,7 @@ pub(crate) fn fresh_board<L: Ledger>(
     ensures room { IfOk result (λ made. HasRoomFor made.kept.room arena.now.tree) }
     ensures indexed { IfOk result (λ made. IsIndexOf made.index arena.now.tree) }
     ensures refers { IfOk result (λ made. TellsReferences made.index (evaluated_document (author_sheet styles.now.sheet arena.now.tree) arena.now.tree)) }
-    ensures plain { IfOk result (λ made. made.is_plain ≡ is_plain (author_sheet styles.now.sheet arena.now.tree) arena.now.tree) }
-    ensures referring { IfOk result (λ made. IfSome made.referring (IsReferringIn (author_sheet styles.now.sheet arena.now.tree) arena.now.tree)) }
+    ensures unstarted { IfOk result (λ made. made.is_unstarted ≡ is_unstarted (author_sheet styles.now.sheet arena.now.tree) arena.now.tree) }
     ensures steps { steps.new ≤ steps.old + 7 * element_count (without_keys arena.now.tree) }
 {
     arena_holds_document(arena);
@@ -121,8 +116,7 @@ pub(crate) fn fresh_board<L: Ledger>(
     Ok(Fresh {
         kept: board,
         index,
-        is_plain: are_plain(records),
-        referring: referring_of(records),
+        is_unstarted: are_unstarted(records),
     })
 }
 
@@ -137,8 +131,7 @@ pub(crate) fn fresh_changes<L: Ledger>(
     ensures changes { IfOk result (λ made. Renews board.old.held (document_kept (author_sheet document.now.styles.now.sheet document.now.arena.now.tree) document.now.arena.now.tree) made.kept.items) }
     ensures indexed { IfOk result (λ made. IsIndexOf made.index document.now.arena.now.tree) }
     ensures refers { IfOk result (λ made. TellsReferences made.index (evaluated_document (author_sheet document.now.styles.now.sheet document.now.arena.now.tree) document.now.arena.now.tree)) }
-    ensures plain { IfOk result (λ made. made.is_plain ≡ is_plain (author_sheet document.now.styles.now.sheet document.now.arena.now.tree) document.now.arena.now.tree) }
-    ensures referring { IfOk result (λ made. IfSome made.referring (IsReferringIn (author_sheet document.now.styles.now.sheet document.now.arena.now.tree) document.now.arena.now.tree)) }
+    ensures unstarted { IfOk result (λ made. made.is_unstarted ≡ is_unstarted (author_sheet document.now.styles.now.sheet document.now.arena.now.tree) document.now.arena.now.tree) }
     ensures room { IfOk result (λ made. AreBelow board.new.room made.kept.items) }
     ensures held { board.new.held ≡ board.old.held }
     ensures grown { board.old.room ≤ board.new.room }
@@ -162,7 +155,6 @@ pub(crate) fn fresh_changes<L: Ledger>(
     Ok(Fresh {
         kept: changes,
         index,
-        is_plain: are_plain(records),
-        referring: referring_of(records),
+        is_unstarted: are_unstarted(records),
     })
 }

@@ -17,29 +17,28 @@
 //! does all that can want memory, and leaves the board as it is. `commit` takes and puts, and cannot fail; between the
 //! two the book isn't settled, and can't be asked. What is as before stays, with its texts and counters.
 //!
-//! Where no box of a document asks for the start of a reversed counter, what is told of an element rests on its styles and
-//! on what it is handed. Then `plan` walks from the place of the edit (`document_walk::catch_up`), and evaluates only what the
-//! edit touches and the nodes that it reaches, with all that is in them: in these alone it can change other styles
-//! (`style_reach`). The texts of an element that refers to ids rest on their targets too. They are made again where it refers
-//! to one that was evaluated or is another than before, or to one that refers so (`kept_elements::renewed_texts`). Where an
-//! edit reaches everywhere, or where a box of the edited document turns out to ask for a start, `plan` evaluates the whole
-//! document: by one walk, and by a second one with the starts, where a box asks for one. It does so too where elements refer to
-//! ids and more than three times as many elements go as the walk evaluates, and where the one element that is known to refer to
-//! an id does so no longer and the walk has told of no other. A document is plain where no box asks for a start and none
-//! holds a reference to an id.
+//! Where no box of a document asks for the start of a reversed counter, what is told of an element rests on its styles
+//! and on what it is handed. Then `plan` walks from the place of the edit (`document_walk::catch_up`), and evaluates
+//! only what the edit touches and the nodes that it reaches, with all that is in them: in these alone it can change
+//! other styles (`style_reach`). Of what the walk tells, that is left out which can only be told as before
+//! (`kept_elements::news`). The texts of an element that refers to ids rest on their targets too. They are made again
+//! where it refers to one that was told otherwise or is another than before, or to one that refers so
+//! (`kept_elements::renewed_texts`). Where an edit reaches everywhere, or where a box of the edited document turns out
+//! to ask for a start, `plan` evaluates the whole document: by one walk, and by a second one with the starts, where a
+//! box asks for one.
 //!
 //! Steps are counted. A whole evaluation takes at most 6 for each element, a walk from a place at most 4, and it is one
-//! for each record that is read, put or taken. Where an edit of a plain document leaves it plain, or where it can change
-//! styles everywhere, its work (`edit_work`) bounds them.
+//! for each record that is read, put or taken. Where no box asks for a start before an edit and after it, or where the edit can
+//! change styles everywhere, its work (`edit_work`) bounds them.
 //!
 //! The layer above knows this crate by `StyledDocument`, `fresh_entry` and `Keeps` of `specs/Books.antt`: what a book
 //! stands for, what a fresh evaluation keeps of an element, and that the book keeps it; and by `settled_after`,
 //! `IsPlannedBy` and `plan_size` of `specs/Plans.antt`: what a planned edit makes of a book, which plans are a book's,
-//! and how much comes and goes. Between the two `specs/PlannedEntries.antt` says what is kept of the edited document, by what the
-//! plan puts and by what was kept before. `specs/WorkBounds.antt` says of which edits the work bounds the steps, and
-//! `specs/Places.antt` where a walk from a place stands. What a volume of several documents needs of each, beside entries, a
-//! settled book tells too: its counter styles, the first element of an id, and by `fresh_pieces` of
-//! `specs/FreshPieces.antt` the pieces of a box where one of them has a url.
+//! and how much comes and goes. Between the two `specs/PlannedEntries.antt` says what is kept of the edited document,
+//! by what the plan puts and by what was kept before. `specs/WorkBounds.antt` says of which edits the work bounds the
+//! steps, `specs/Places.antt` where a walk from a place stands, and `specs/PlaceNews.antt` what it costs. What a volume
+//! of several documents needs of each, beside entries, a settled book tells too: its counter styles, the first element
+//! of an id, and by `fresh_pieces` of `specs/FreshPieces.antt` the pieces of a box where one of them has a url.
 //!
 //! ```text
 //! let mut book = Book::begin(alloc, &tree, "h1 { counter-increment: section }", steps)?;
@@ -66,12 +65,11 @@ pub mod laws;
 mod local_stops;
 mod named_elements;
 mod places;
-mod plain;
 pub mod plan;
 mod planning;
 mod read_ahead;
 mod reference_exchange;
-mod referring;
 mod style_elements;
 mod styled_arena;
 mod targets;
+mod unstarted;

@@ -9,13 +9,12 @@ ghost use Rattle.document_walk.specs.Elements.{element_count};
 ghost use Rattle.target_index.specs.Holders.{is_holder, is_reference};
 ghost use Rattle.kept_elements.specs.Changes.{AreBelow, Renews};
 ghost use Rattle.dirty_walk.specs.DocumentStyles.{document_styles, read_styles};
-ghost use Rattle.dirty_walk.specs.EditedArenas.{author_after, evaluated_after, is_plain_after, kept_after, styles_after};
+ghost use Rattle.dirty_walk.specs.EditedArenas.{author_after, evaluated_after, is_unstarted_after, kept_after, styles_after};
 ghost use Rattle.dirty_walk.specs.Exchanges.{IsIndexBefore};
 ghost use Rattle.referring_elements.specs.Indexes.{IsIndexOf, TellsReferences};
-ghost use Rattle.dirty_walk.specs.PlaceStyles.{IsWithinPlaceOf};
+ghost use Rattle.dirty_walk.specs.PlaceNews.{IsWithinPlaceOf};
 ghost use Rattle.dirty_walk.specs.ReadAhead.{StandsRead};
 ghost use Rattle.dirty_walk.specs.ReferenceExchanges.{HoldersStayReserved};
-ghost use Rattle.dirty_walk.specs.Referring.{IsReferringIn};
 
 use crate::document_styles::DocumentStyles;
 use crate::edited_arena::EditedArena;
@@ -74,10 +73,8 @@ pub(crate) struct Renewal {
     pub(crate) index: Option<Index>,
     /// What comes to the board.
     pub(crate) changes: Vec<(usize, Kept)>,
-    /// Whether no element rests on more than what it is handed.
-    pub(crate) is_plain: bool,
-    /// An element that refers to an id, where no box asks for the start of a reversed counter.
-    pub(crate) referring: Option<usize>,
+    /// Whether no element asks for the start of a reversed counter.
+    pub(crate) is_unstarted: bool,
 }
 
 /// What an edit makes of a book by a walk from the stops of the edit, where the key of what it put in is known now: none
@@ -95,22 +92,21 @@ fn from_place<L: Ledger>(
     requires indexed { IsIndexOf index.old document.now.arena.now.tree }
     ensures styles { IfOk result (λ found. IfSome found (λ made. unwrap_or made.styles document.now.styles.now ≡ styles_after document.now)) }
     ensures changes { IfOk result (λ found. IfSome found (λ made. Renews board.old.held (kept_after document.now) made.changes.items)) }
-    ensures plain { IfOk result (λ found. IfSome found (λ made. made.is_plain ≡ is_plain_after document.now)) }
-    ensures referring { IfOk result (λ found. IfSome found (λ made. IfSome made.referring (IsReferringIn (author_after document.now) document.now.arena.now.tree))) }
+    ensures unstarted { IfOk result (λ found. IfSome found (λ made. made.is_unstarted ≡ is_unstarted_after document.now)) }
     ensures index { IfOk result (λ found. IfSome found (λ made. made.index ≡ None)) }
     ensures refers { IfOk result (λ found. IfSome found (λ _. TellsReferences index.new (evaluated_after document.now))) }
     ensures unmoved { IfOk result (λ found. IfNone found ((id : List ℕ) (key : ℕ) → is_reference index.new id key ≡ is_reference index.old id key)) }
     ensures err { OnErr result ((id : List ℕ) (key : ℕ) → is_reference index.new id key ≡ is_reference index.old id key) }
     ensures holders { (id : List ℕ) (key : ℕ) → is_holder index.new id key ≡ is_holder index.old id key }
     ensures stay { HoldersStayReserved index.old index.new }
-    ensures none { IfOk result (λ found. IfNone found (IfSome stops (λ _. ahead.now.is_plain ≡ true → is_plain_after document.now ≡ false))) }
+    ensures none { IfOk result (λ found. IfNone found (IfSome stops (λ _. is_unstarted_after document.now ≡ false))) }
     ensures room { IfOk result (λ found. IfSome found (λ made. AreBelow board.new.room made.changes.items)) }
     ensures held { board.new.held ≡ board.old.held }
     ensures grown { board.old.room ≤ board.new.room }
-    ensures few { IfOk result (λ found. IfSome found (λ made. IfSome stops (λ local. IsWithinPlaceOf ahead.now.is_plain document.now.edit.now document.now.styles.now board.old.held local document.now.arena.now.tree steps.old (steps.new + length made.changes.items)))) }
-    ensures most { IfSome stops (λ local. IsWithinPlaceOf ahead.now.is_plain document.now.edit.now document.now.styles.now board.old.held local document.now.arena.now.tree steps.old steps.new) }
-    ensures walk { IfOk result (λ found. IfNone found (steps.new ≤ steps.old + 5 * element_count (without_keys document.now.arena.now.tree))) }
-    ensures steps { steps.new ≤ steps.old + (length ahead.now.takes.now + 9 * element_count (without_keys document.now.arena.now.tree)) }
+    ensures few { IfOk result (λ found. IfSome found (λ made. IfSome stops (λ local. IsWithinPlaceOf document.now.edit.now document.now.styles.now board.old.held local document.now.arena.now.tree ahead.now steps.old (steps.new + length made.changes.items)))) }
+    ensures most { IfSome stops (λ local. IsWithinPlaceOf document.now.edit.now document.now.styles.now board.old.held local document.now.arena.now.tree ahead.now steps.old steps.new) }
+    ensures walk { IfOk result (λ found. IfNone found (steps.new ≤ steps.old + 4 * element_count (without_keys document.now.arena.now.tree))) }
+    ensures steps { steps.new ≤ steps.old + (length ahead.now.takes.now + 10 * element_count (without_keys document.now.arena.now.tree)) }
 {
     let Some(LocalStops { extent, mut stops }) = stops else {
         return Ok(None);
@@ -121,13 +117,13 @@ fn from_place<L: Ledger>(
         agent: document.agent,
         styles: document.styles,
     };
+    let stops = stops.as_slice();
     match changes_from_place(alloc, &styled, ahead, index, board, stops, steps)? {
-        Some(made) => Ok(Some(Renewal {
+        Some(changes) => Ok(Some(Renewal {
             styles: None,
             index: None,
-            changes: made.changes,
-            is_plain: made.is_plain,
-            referring: made.referring,
+            changes,
+            is_unstarted: true,
         })),
         None => Ok(None),
     }
@@ -142,8 +138,7 @@ fn from_whole<L: Ledger>(
 ) -> Result<Renewal, Memory>
     ensures styles { IfOk result (λ made. unwrap_or made.styles document.now.styles.now ≡ styles_after document.now) }
     ensures changes { IfOk result (λ made. Renews board.old.held (kept_after document.now) made.changes.items) }
-    ensures plain { IfOk result (λ made. made.is_plain ≡ is_plain_after document.now) }
-    ensures referring { IfOk result (λ made. IfSome made.referring (IsReferringIn (author_after document.now) document.now.arena.now.tree)) }
+    ensures unstarted { IfOk result (λ made. made.is_unstarted ≡ is_unstarted_after document.now) }
     ensures index { IfOk result (λ made. IfSome made.index (λ index. IsIndexOf index document.now.arena.now.tree × TellsReferences index (evaluated_after document.now))) }
     ensures some { IfOk result (λ made. is_some made.index ≡ true) }
     ensures room { IfOk result (λ made. AreBelow board.new.room made.changes.items) }
@@ -160,15 +155,13 @@ fn from_whole<L: Ledger>(
     let Fresh {
         kept,
         index,
-        is_plain,
-        referring,
+        is_unstarted,
     } = fresh_changes(alloc, &styled, board, steps)?;
     Ok(Renewal {
         styles: new,
         index: Some(index),
         changes: kept,
-        is_plain,
-        referring,
+        is_unstarted,
     })
 }
 
@@ -186,8 +179,7 @@ fn renewed<L: Ledger>(
     requires indexed { IsIndexOf index.old document.now.arena.now.tree }
     ensures styles { IfOk result (λ made. unwrap_or made.styles document.now.styles.now ≡ styles_after document.now) }
     ensures changes { IfOk result (λ made. Renews board.old.held (kept_after document.now) made.changes.items) }
-    ensures plain { IfOk result (λ made. made.is_plain ≡ is_plain_after document.now) }
-    ensures referring { IfOk result (λ made. IfSome made.referring (IsReferringIn (author_after document.now) document.now.arena.now.tree)) }
+    ensures unstarted { IfOk result (λ made. made.is_unstarted ≡ is_unstarted_after document.now) }
     ensures index { IfOk result (λ made. IfSome made.index (λ index. IsIndexOf index document.now.arena.now.tree × TellsReferences index (evaluated_after document.now))) }
     ensures refers { IfOk result (λ made. IfNone made.index (TellsReferences index.new (evaluated_after document.now))) }
     ensures err { OnErr result ((id : List ℕ) (key : ℕ) → is_reference index.new id key ≡ is_reference index.old id key) }
@@ -196,8 +188,8 @@ fn renewed<L: Ledger>(
     ensures room { IfOk result (λ made. AreBelow board.new.room made.changes.items) }
     ensures held { board.new.held ≡ board.old.held }
     ensures grown { board.old.room ≤ board.new.room }
-    ensures few { IfOk result (λ made. IfSome stops (λ local. IsWithinPlaceOf ahead.now.is_plain document.now.edit.now document.now.styles.now board.old.held local document.now.arena.now.tree steps.old (steps.new + length made.changes.items))) }
-    ensures most { IfSome stops (λ local. IsWithinPlaceOf ahead.now.is_plain document.now.edit.now document.now.styles.now board.old.held local document.now.arena.now.tree steps.old steps.new) }
+    ensures few { IfOk result (λ made. IfSome stops (λ local. IsWithinPlaceOf document.now.edit.now document.now.styles.now board.old.held local document.now.arena.now.tree ahead.now steps.old (steps.new + length made.changes.items))) }
+    ensures most { IfSome stops (λ local. IsWithinPlaceOf document.now.edit.now document.now.styles.now board.old.held local document.now.arena.now.tree ahead.now steps.old steps.new) }
     ensures steps { steps.new ≤ steps.old + (length ahead.now.takes.now + 12 * element_count (without_keys document.now.arena.now.tree)) }
 {
     match from_place(alloc, document, ahead, index, board, stops, steps)? {
@@ -222,8 +214,7 @@ pub(crate) fn evaluated<L: Ledger>(
     requires place { IfSome stops (λ local. StandsRead document.now.edit.now document.now.styles.now board.old.held local document.now.arena.now.tree ahead.now index.old) }
     ensures styles { IfOk result (λ made. unwrap_or made.styles document.now.styles.now ≡ styles_after document.now) }
     ensures changes { IfOk result (λ made. Renews board.old.held (kept_after document.now) made.changes.items) }
-    ensures plain { IfOk result (λ made. made.is_plain ≡ is_plain_after document.now) }
-    ensures referring { IfOk result (λ made. IfSome made.referring (IsReferringIn (author_after document.now) document.now.arena.now.tree)) }
+    ensures unstarted { IfOk result (λ made. made.is_unstarted ≡ is_unstarted_after document.now) }
     ensures indexed { IfOk result (λ made. IsIndexOf (unwrap_or made.index index.new) document.now.arena.now.tree) }
     ensures refers { IfOk result (λ made. TellsReferences (unwrap_or made.index index.new) (evaluated_after document.now)) }
     ensures err { OnErr result ((id : List ℕ) (key : ℕ) → is_holder index.new id key ≡ is_holder index.old id key) }
@@ -231,8 +222,8 @@ pub(crate) fn evaluated<L: Ledger>(
     ensures room { IfOk result (λ made. AreBelow board.new.room made.changes.items) }
     ensures held { board.new.held ≡ board.old.held }
     ensures grown { board.old.room ≤ board.new.room }
-    ensures few { IfOk result (λ made. IfSome stops (λ local. IsWithinPlaceOf ahead.now.is_plain document.now.edit.now document.now.styles.now board.old.held local document.now.arena.now.tree steps.old (steps.new + length made.changes.items))) }
-    ensures most { IfSome stops (λ local. IsWithinPlaceOf ahead.now.is_plain document.now.edit.now document.now.styles.now board.old.held local document.now.arena.now.tree steps.old steps.new) }
+    ensures few { IfOk result (λ made. IfSome stops (λ local. IsWithinPlaceOf document.now.edit.now document.now.styles.now board.old.held local document.now.arena.now.tree ahead.now steps.old (steps.new + length made.changes.items))) }
+    ensures most { IfSome stops (λ local. IsWithinPlaceOf document.now.edit.now document.now.styles.now board.old.held local document.now.arena.now.tree ahead.now steps.old steps.new) }
     ensures steps { steps.new ≤ steps.old + (length ahead.now.takes.now + 12 * element_count (without_keys document.now.arena.now.tree)) }
 {
     let back = exchange_ids(alloc, index, document.arena, document.edit, gone)?;

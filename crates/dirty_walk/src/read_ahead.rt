@@ -2,15 +2,11 @@
 
 use referring_elements::former::FormerTarget;
 
-/// What was read of a document before an edit of it was done, and what was known of it.
+/// What was read of a document before an edit of it was done.
 #[derive(Drop)]
 pub(crate) struct ReadAhead<'a> {
     /// The keys of the elements that the document has no longer then.
     pub(crate) takes: &'a [usize],
     /// What the ids named that the edit can give another target.
     pub(crate) former: &'a [FormerTarget],
-    /// Whether no element rested on more than what it was handed.
-    pub(crate) is_plain: bool,
-    /// An element that referred to an id, where no box asked for the start of a reversed counter.
-    pub(crate) referring: Option<usize>,
 }

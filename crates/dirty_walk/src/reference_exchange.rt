@@ -5,8 +5,8 @@ ghost use Rattle.target_index.specs.Changes.{AreReserved, refers_after_all};
 ghost use Rattle.target_index.specs.Holders.{is_holder, is_reference};
 ghost use Rattle.reference_reach.specs.ChangedTargets.{Evaluated};
 ghost use Rattle.referring_elements.specs.Indexes.{TellsReferences};
-ghost use Rattle.dirty_walk.specs.ReferenceExchanges.{ChangesReferences, HoldersStayReserved, LeadsBack};
-ghost use Rattle.dirty_walk.specs.Machinery.ReferenceLists.{all_before, all_kept, all_told, box_references, boxes_references, element_references, exchanged, kept_box_references, kept_references, piece_references, referred, unreferred};
+ghost use Rattle.dirty_walk.specs.ReferenceExchanges.{ChangesReferences, HoldersStayReserved, IsWithinKeys, LeadsBack};
+ghost use Rattle.dirty_walk.specs.Machinery.ReferenceLists.{all_kept, all_told, box_references, boxes_references, element_references, exchanged, kept_box_references, kept_references, piece_references, referred, unreferred};
 
 use box_eval::element_record::ElementRecord;
 use box_eval::made::Made;
@@ -14,6 +14,7 @@ use box_pieces::box_pieces::BoxPieces;
 use content_eval::generated::Piece;
 use content_eval::targets::reference;
 use kept_elements::kept::Kept;
+use kept_elements::renewed_texts::told_keys;
 use plain_types::duplicate::Duplicate;
 use plain_types::list::List;
 use plain_types::memory::Memory;
@@ -132,24 +133,6 @@ fn put_all_kept<L: Ledger>(
     Ok(())
 }
 
-/// Appends the references that elements had of which this is told. It is a step for each.
-fn put_all_before<L: Ledger>(
-    alloc: Global,
-    board: &Board<Kept>,
-    told: &[(usize, Told)],
-    references: &mut List<Reference>,
-    steps: &mut Steps<L>,
-) -> Result<(), Memory>
-    ensures ok { OnOk result (references.new ≡ references.old ++ all_before board.now.held told.now) }
-    ensures steps { OnOk result (steps.new ≡ steps.old + length told.now) }
-    ensures most { steps.new ≤ steps.old + length told.now }
-{
-    for (key, _told) in told {
-        put_kept(alloc, board, *key, references, steps)?;
-    }
-    Ok(())
-}
-
 /// Appends the references of a box.
 fn put_box(
     alloc: Global,
@@ -190,21 +173,20 @@ fn references_after(alloc: Global, told: &[(usize, Told)]) -> Result<List<Refere
     Ok(references)
 }
 
-/// The references of the elements that go, and those that the others had of which this is told. It is a step for each of both.
+/// The references of the elements that go, and those that these others had. It is a step for each of both.
 fn references_before<L: Ledger>(
     alloc: Global,
     board: &Board<Kept>,
     takes: &[usize],
-    told: &[(usize, Told)],
+    others: &[usize],
     steps: &mut Steps<L>,
 ) -> Result<List<Reference>, Memory>
-    ensures references { IfOk result (λ references. references ≡ all_kept board.now.held takes.now ++ all_before board.now.held told.now) }
-    ensures steps { OnOk result (steps.new ≡ steps.old + (length takes.now + length told.now)) }
-    ensures most { steps.new ≤ steps.old + (length takes.now + length told.now) }
+    ensures references { IfOk result (λ references. references ≡ all_kept board.now.held takes.now ++ all_kept board.now.held others.now) }
+    ensures most { steps.new ≤ steps.old + (length takes.now + length others.now) }
 {
     let mut references = List::new(alloc);
     put_all_kept(alloc, board, takes, &mut references, steps)?;
-    put_all_before(alloc, board, told, &mut references, steps)?;
+    put_all_kept(alloc, board, others, &mut references, steps)?;
     Ok(references)
 }
 
@@ -283,10 +265,11 @@ fn exchange(
 }
 
 /// Brings the references of an index to those of the edited document, where these elements are gone, and this is told of
-/// those that were evaluated. It answers the way back, whose memory is taken; after `Memory` the index has the references
-/// that it had. It leaves the holders as they are, and what is reserved for them.
+/// others. It answers the way back, whose memory is taken; after `Memory` the index has the references that it had. It leaves the
+/// holders as they are, and what is reserved for them.
 ///
-/// It takes a step for each of these elements, and memory of the ids to which they referred and refer, and time linear in them.
+/// It takes a step for each element that is gone, and for each of which this is told, which is counted once; and memory of the ids
+/// to which they referred and refer, and time linear in them.
 pub(crate) fn exchange_references<L: Ledger>(
     alloc: Global,
     index: &mut Index,
@@ -300,10 +283,10 @@ pub(crate) fn exchange_references<L: Ledger>(
     ensures err { OnErr result ((id : List ℕ) (key : ℕ) → is_reference index.new id key ≡ is_reference index.old id key) }
     ensures holders { (id : List ℕ) (key : ℕ) → is_holder index.new id key ≡ is_holder index.old id key }
     ensures stay { HoldersStayReserved index.old index.new }
-    ensures steps { OnOk result (steps.new ≡ steps.old + (length takes.now + length told.now)) }
-    ensures most { steps.new ≤ steps.old + (length takes.now + length told.now) }
+    ensures most { IsWithinKeys told.now (length takes.now) steps.old steps.new }
 {
-    let was = references_before(alloc, board, takes, told, steps)?;
+    let others = told_keys(alloc, told)?;
+    let was = references_before(alloc, board, takes, others.as_slice(), steps)?;
     let is = references_after(alloc, told)?;
     exchange(alloc, index, was.as_slice(), is.as_slice())
 }

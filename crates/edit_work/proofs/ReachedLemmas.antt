@@ -137,6 +137,7 @@ module _ (told : OfEachDocument AreItsInputs) (edit : Edit) (before after : Keye
       record {
         plain = pays-walk no_starts no_starts (λ k. or-left (plain k) (started k)) plain-merges;
         started = pays-walk (own_starts before) (own_starts after) (λ k. or-right (plain k) (started k));
+        gone = omega (arith, paid.few, walk-least edit before after);
       }
 
 pub nodes_reached_are_paid : NodesReachedArePaid

@@ -12,6 +12,7 @@ use Rattle.surroundings.specs.StyledEvaluators.{root_surroundings, styled_evalua
 use Rattle.surroundings.specs.StyledEvaluators.{is_element as is_styled_element}
 use Rattle.style_reach.specs.Reaches.{all_features}
 use Rattle.style_reach.specs.declared.extent.Reach.TheVariants.{All}
+use Rattle.edit_merge.specs.EditMerges.{is_element}
 use Rattle.styled_merge.specs.Reached.{reached_merge}
 use Rattle.styled_merge.specs.StyledMerges.{styled_merge}
 use Rattle.edit_work.specs.Laws.{OfEachEdit}
@@ -36,10 +37,12 @@ module _ (edit : Edit) (before after : KeyedSource) where
   abbrev pub ReachedMergesWith : (was_start start : BoxId → List ℕ → ℤ) → Type 0
   ReachedMergesWith was_start start = Merges (reached_with was_start start) (styled_with before was_start) (styled_with after start)
 
-  -- So it is with all starts 0; and with those that each document has, where no element that is kept has another start.
+  -- So it is with all starts 0; and with those that each document has, where no element that is kept has another start. What
+  -- goes is no more than what pays for walks.
   pub record PaysForReachedWalks : Type 0 where
     pub plain : PaysForReachedWalk no_starts no_starts
     pub started : ReachedMergesWith (own_starts before) (own_starts after) → PaysForReachedWalk (own_starts before) (own_starts after)
+    pub gone : gone_count is_element (reached_merge (all_features agent_sheet (author before)) edit before.tree after.tree) ≤ walk_work edit before after
 
 -- where an edit does not change styles everywhere
 abbrev pub NodesReachedArePaid : Type 0

@@ -12,18 +12,20 @@ use Rattle.forest.specs.Forest.{Forest, labels}
 use Rattle.forest.specs.Keys.{HasDistinctKeys, Keyed}
 use Rattle.plain_types.specs.declared.edit.Edit.{Edit}
 use Rattle.plain_types.specs.declared.node.Node.{Node}
+use Rattle.box_eval.specs.declared.element_record.ElementRecord.{ElementRecord}
 use Rattle.generated_texts.specs.References.{kept_at}
 use Rattle.edit_merge.specs.EditMerges.{is_element}
-use Rattle.edit_work.specs.KeyedSources.{KeyedSource, element_key, elements_in, is_among, weight}
+use Rattle.edit_work.specs.KeyedSources.{KeyedSource, author, element_key, elements_in, is_among, weight}
 use Rattle.edit_work.specs.Work.{around_places, differing, in_scopes, placed, referring, walk_work, work}
 use Rattle.surroundings.specs.declared.told.Told.{Told}
-use Rattle.reference_reach.specs.Laws.{other_points}
+use Rattle.reference_reach.specs.ChangedTargets.{Evaluated}
+use Rattle.reference_reach.specs.Laws.{evaluated, other_points}
 use Rattle.reference_reach.specs.MergedNodes.{entered_elements}
 use Rattle.reference_reach.specs.ToldLaws.{keys_of, told_of, whole_merge}
 use Rattle.reference_reach.proofs.LawLemmas.{entered_are_placed, referring_is_paid, unstarted_changes_are_told}
 use Rattle.kept_elements.specs.News.{NewsArePaid}
-use Rattle.kept_elements.specs.RenewalSteps.{RenewalIsPaid}
-use Rattle.kept_elements.specs.Renewals.{is_told}
+use Rattle.kept_elements.specs.RenewalSteps.{RenewalIsPaid, renewal_weight}
+use Rattle.kept_elements.specs.Renewals.{evaluated_as, is_told}
 use Rattle.kept_elements.proofs.ChangeLemmas.{some-kept, some_of}
 use Rattle.kept_elements.proofs.KeptTold.{left_among, right_among}
 use Rattle.kept_elements.proofs.RenewalLemmas.{kept_there}
@@ -31,6 +33,7 @@ use Rattle.kept_elements.proofs.RenewedLemmas.{caught_there}
 use Rattle.kept_elements.proofs.KeyWeights.{either_true, elements_labels, weigh_less}
 use Rattle.kept_elements.proofs.SaidLemmas.{often, often-cons, times-often}
 use Rattle.kept_elements.proofs.StepLemmas.{keys_told}
+use Rattle.kept_elements.proofs.ToldLemmas.{said_is}
 
 -- The elements of trees stand there once.
 
@@ -141,6 +144,10 @@ renewal_is_paid edit before after merge caught distinct points =
 
 -- What is told otherwise than before, or is entered, falls under such a point.
 
+-- what is told of a document says its evaluation
+told_so : (source : KeyedSource) → HasDistinctKeys source.tree → evaluated source ≡ evaluated_as source.tree (told_of source)
+told_so source distinct = ap (λ (said : List (ℕ × ElementRecord)). record { tree = source.tree; said = said }) (sym (said_is (author source) source.tree distinct))
+
 pub news_are_paid : NewsArePaid
 news_are_paid edit before after leads other was_unstarted is_unstarted table news held tells =
     let merge = whole_merge edit before after in
@@ -155,8 +162,11 @@ news_are_paid edit before after leads other was_unstarted is_unstarted table new
       | inl enters ↦ entered k enters
       | inr otherwise ↦ changes.points k t.0 now otherwise
     ] in
+    let paid =
     renewal_is_paid edit before after merge news tells.tells.distinct_after
     (λ k there. elim (either_true (is_among (keys_of news) k) (is_among (entered_elements merge) k) (sym (list_any-append (λ other. other == k) (keys_of news) (entered_elements merge)) ∙ there)) [
       | inl told ↦ of_news k told
       | inr enters ↦ entered k enters
-    ])
+    ]) in
+    subst (λ (was : Evaluated). renewal_weight was (evaluated_as after.tree (told_of after)) merge news ≤ work edit before after) (told_so before tells.tells.distinct_before)
+    (subst (λ (is : Evaluated). renewal_weight (evaluated before) is merge news ≤ work edit before after) (told_so after tells.tells.distinct_after) paid)

@@ -19,13 +19,12 @@ use Rattle.edit_merge.specs.EditMerges.{is_element}
 use Rattle.edit_work.specs.KeyedSources.{is_among}
 use Rattle.edit_work.specs.Work.{work}
 use Rattle.styled_merge.specs.StyledMerges.{Starting, Styling, styled_merge}
-use Rattle.reference_reach.specs.Laws.{evaluated}
 use Rattle.reference_reach.specs.MergedNodes.{entered_elements}
 use Rattle.reference_reach.specs.ToldLaws.{OfEachUnstartedEdit, told_of, whole_merge}
 use Rattle.referring_elements.specs.References.{AreOnce}
 use Rattle.kept_elements.specs.declared.kept.Kept.{Kept}
 use Rattle.kept_elements.specs.RenewalSteps.{renewal_weight}
-use Rattle.kept_elements.specs.Renewals.{TellsOfWalk}
+use Rattle.kept_elements.specs.Renewals.{TellsOfWalk, evaluated_as}
 
 -- an element was handed the same, and the same was handed on behind its children
 abbrev pub is_handed_so : Walked → Walked → Bool
@@ -71,4 +70,4 @@ NewsArePaid =
     OfEachUnstartedEdit (λ edit before after. (table : List CounterStyle) (news : List (ℕ × Told)) (held : FinMap nat_cmp Kept) →
     let merge = whole_merge edit before after in
     TellsNews table merge before.tree after.tree (told_of before) (told_of after) news held
-    → renewal_weight (evaluated before) (evaluated after) merge news ≤ work edit before after)
+    → renewal_weight (evaluated_as before.tree (told_of before)) (evaluated_as after.tree (told_of after)) merge news ≤ work edit before after)

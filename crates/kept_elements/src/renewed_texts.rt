@@ -13,7 +13,7 @@ ghost use Rattle.kept_elements.specs.Evaluations.{all_kept_of, said_of};
 ghost use Rattle.kept_elements.specs.Known.{IsKeptIn, all_flat_texts_of};
 ghost use Rattle.kept_elements.specs.RenewalSteps.{renewal_weight};
 ghost use Rattle.kept_elements.specs.Renewals.{IsSomeEdit, IsSomeWalk, evaluated_as, is_told};
-ghost use Rattle.kept_elements.specs.Machinery.Renewals.{IsRenewal, IsWithinLists, held_of, known_again, renewed_kept, renewed_known};
+ghost use Rattle.kept_elements.specs.Machinery.Renewals.{IsRenewal, IsWithinLists, ListsAll, held_of, known_again, renewed_kept, renewed_known};
 
 use crate::again::put_all_again;
 use crate::by_key::by_key;
@@ -40,8 +40,8 @@ use steps::Steps;
 use surroundings::told::Told;
 use target_index::index::Index;
 
-/// The keys of elements of which this is told, each once.
-fn told_keys(alloc: Global, told: &[(usize, Told)]) -> Result<IndexSet<usize>, Memory>
+/// The keys of elements of which this is told, each once. It takes memory for them, and linear time.
+pub fn told_keys(alloc: Global, told: &[(usize, Told)]) -> Result<IndexSet<usize>, Memory>
     ensures keys { IfOk result (λ keys. (key : ℕ) → is_among keys.keys key ≡ is_told told.now key) }
 {
     let mut keys = IndexSet::new(alloc);
@@ -214,6 +214,7 @@ fn entries_again<L: Ledger>(
     ensures renewal { IfOk result (λ changes. IsRenewal arena.now.tree table.now board.now.held (take flat_count listed.now) listed.now changes.items) }
     ensures steps { steps.new ≤ steps.old + 2 * element_count (without_keys arena.now.tree) }
     ensures fewer { IsWithinLists arena.now.tree listed.now steps.old steps.new }
+    ensures few { IfOk result (λ changes. ListsAll listed.now (length changes.items)) }
 {
     arena_holds_document(arena);
     let told = told_keys(alloc, listed)?;
@@ -251,6 +252,7 @@ pub fn renewed_entries<L: Ledger>(
     ensures renewal { IfOk result (λ changes. (edit : IsSomeEdit table.now arena.now.tree told board.now.held found.now.first found.now.second) → Renews board.now.held (all_kept_of table.now (known_targets table.now arena.now.tree (said_of edit.is)) edit.is) changes.items) }
     ensures steps { steps.new ≤ steps.old + 4 * element_count (without_keys arena.now.tree) }
     ensures fewer { (edit : IsSomeEdit table.now arena.now.tree told board.now.held found.now.first found.now.second) → steps.new ≤ steps.old + renewal_weight (evaluated_as edit.old edit.was) (evaluated_as arena.now.tree edit.is) edit.merge told }
+    ensures few { IfOk result (λ changes. (edit : IsSomeEdit table.now arena.now.tree told board.now.held found.now.first found.now.second) → length changes.items ≤ renewal_weight (evaluated_as edit.old edit.was) (evaluated_as arena.now.tree edit.is) edit.merge told) }
 {
     arena_holds_document(arena);
     let mut records = told;
@@ -289,6 +291,7 @@ pub fn walked_entries<L: Ledger>(
     ensures renewal { IfOk result (λ changes. (walk : IsSomeWalk table.now index.now former.now stops.now arena.now.tree told board.now.held) → Renews board.now.held (all_kept_of table.now (known_targets table.now arena.now.tree (said_of walk.is)) walk.is) changes.items) }
     ensures steps { steps.new ≤ steps.old + 4 * element_count (without_keys arena.now.tree) }
     ensures fewer { (walk : IsSomeWalk table.now index.now former.now stops.now arena.now.tree told board.now.held) → steps.new ≤ steps.old + renewal_weight (evaluated_as walk.old walk.was) (evaluated_as arena.now.tree walk.is) walk.merge told }
+    ensures few { IfOk result (λ changes. (walk : IsSomeWalk table.now index.now former.now stops.now arena.now.tree told board.now.held) → length changes.items ≤ renewal_weight (evaluated_as walk.old walk.was) (evaluated_as arena.now.tree walk.is) walk.merge told) }
 {
     let visited = told_keys(alloc, told.as_slice())?;
     let changed = changed_elements(alloc, arena, stops, visited.as_slice())?;

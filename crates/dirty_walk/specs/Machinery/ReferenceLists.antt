@@ -44,10 +44,6 @@ all_kept held keys = flat_map (kept_references held) keys
 abbrev pub all_told : List (ℕ × Told) → List Reference
 all_told told = flat_map (λ (element : ℕ × Told). element_references element.0 element.1.said) told
 
--- what was held of these
-abbrev pub all_before : FinMap nat_cmp Kept → List (ℕ × Told) → List Reference
-all_before held told = flat_map (λ (element : ℕ × Told). kept_references held element.0) told
-
 -- The changes of an index.
 
 abbrev pub unreferred : Reference → IndexChange

@@ -77,6 +77,10 @@ IsWithinLists document told old new =
     (keys targets : List ℕ) → ((key : ℕ) → is_told told key ≡ true → is_among keys key ≡ true) → ((key : ℕ) → some_names document told key ≡ true → is_among targets key ≡ true)
     → new ≤ old + (length keys + length targets)
 
+-- there are no more than a list has of all elements of which this is told
+abbrev pub ListsAll : List (ℕ × Told) → ℕ → Type 0
+ListsAll told count = (keys : List ℕ) → ((key : ℕ) → is_told told key ≡ true → is_among keys key ≡ true) → count ≤ length keys
+
 -- what is held of those of these elements
 abbrev pub held_of : List ℕ → FinMap nat_cmp Kept → ℕ → Option Kept
 held_of keys held key = if is_among keys key then get held key else None

@@ -1,4 +1,4 @@
-use Rattle.std.proofs.Common.{◌≡◌, ◌<◌, ◌∙◌, ℕ, List, None, ap, sym, subst, arith, Option, IfSome}
+use Rattle.std.proofs.Common.{◌≡◌, ◌<◌, ◌∙◌, ℕ, List, None, ap, sym, subst, arith}
 use Rattle.std.specs.FinMap.{FinMap, get, get-empty}
 use Rattle.std.specs.Ordering.{nat_cmp}
 use Rattle.generated_texts.specs.Documents.{counter_styles}
@@ -10,13 +10,11 @@ use Rattle.referring_elements.specs.Indexes.{TellsReferences}
 use Rattle.referring_elements.specs.References.{AreOnce}
 use Rattle.surroundings.specs.declared.told.Told.{Told}
 use Rattle.kept_elements.specs.Evaluations.{document_kept, document_told, kept_of, said_of}
-use Rattle.dirty_walk.specs.Plain.{are_plain}
+use Rattle.dirty_walk.specs.Unstarted.{are_unstarted}
 use Rattle.dirty_walk.proofs.BookLemmas.{kept_are}
 use Rattle.kept_elements.proofs.ChangeLemmas.{has_key, key_of, put_whole, some-kept}
 use Rattle.kept_elements.proofs.RecordLemmas.{has_key-mapped}
-use Rattle.dirty_walk.specs.Referring.{IsReferringIn}
 use Rattle.dirty_walk.proofs.ReferenceLemmas.{are_once}
-use Rattle.dirty_walk.proofs.ReferringLemmas.{referring_told}
 use Rattle.kept_elements.proofs.ToldLemmas.{kept_keys, kept_once, told_once}
 use Rattle.dirty_walk.proofs.fresh.fresh_board.Goals as goal
 
@@ -49,8 +47,8 @@ returns-clause-room g c = λ key named.
     let low : key < c.in_ok-room.room = key_of (λ k. k < c.in_ok-room.room) c.as_slice-records.result.now c.in_ok-room.ensures.room key there in
     omega (arith, low, c.in_ok-reserve.ensures.room, c.in_ok-put_document_entries.ensures.room)
 
-pub returns-clause-plain : goal.returns-clause-plain
-returns-clause-plain g c = c.are_plain.ensures ∙ ap are_plain (c.as_slice-records.ensures.items ∙ c.in_ok-told.ensures.told)
+pub returns-clause-unstarted : goal.returns-clause-unstarted
+returns-clause-unstarted g c = c.are_unstarted.ensures ∙ ap are_unstarted (c.as_slice-records.ensures.items ∙ c.in_ok-told.ensures.told)
 
 pub index_with-requires : goal.index_with-requires
 index_with-requires g c =
@@ -66,10 +64,3 @@ returns-clause-refers g c =
     subst (λ (told : List (ℕ × Told)). TellsReferences c.in_ok-index.index (record { tree = tree; said = said_of told }))
     (c.as_slice-records.ensures.items ∙ c.in_ok-told.ensures.told)
     (c.in_ok-index.ensures.references tree)
-
-pub returns-clause-referring : goal.returns-clause-referring
-returns-clause-referring g c =
-    let tree = c.args.arena.now.tree in
-    let author = author_sheet c.args.styles.now.sheet tree in
-    subst (λ (o : Option ℕ). IfSome o (IsReferringIn author tree)) (sym c.referring_of.ensures)
-    (referring_told author tree c.arena_holds_document.ensures.document.distinct c.as_slice-records.result.now (c.as_slice-records.ensures.items ∙ c.in_ok-told.ensures.told))

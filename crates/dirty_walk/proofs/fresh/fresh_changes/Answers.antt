@@ -1,4 +1,4 @@
-use Rattle.std.proofs.Common.{◌∙◌, ℕ, List, ap, subst, sym, Option, IfSome}
+use Rattle.std.proofs.Common.{◌∙◌, ℕ, List, ap, subst, sym}
 use Rattle.kept_elements.specs.declared.kept.Kept.{Kept}
 use Rattle.generated_texts.specs.StyleElements.{author_sheet}
 use Rattle.kept_elements.specs.Changes.{AreChanges}
@@ -6,11 +6,9 @@ use Rattle.referring_elements.specs.Indexes.{TellsReferences}
 use Rattle.referring_elements.specs.References.{AreOnce}
 use Rattle.surroundings.specs.declared.told.Told.{Told}
 use Rattle.kept_elements.specs.Evaluations.{document_kept, document_told, said_of}
-use Rattle.dirty_walk.specs.Plain.{are_plain}
+use Rattle.dirty_walk.specs.Unstarted.{are_unstarted}
 use Rattle.dirty_walk.proofs.BookLemmas.{kept_are}
-use Rattle.dirty_walk.specs.Referring.{IsReferringIn}
 use Rattle.dirty_walk.proofs.ReferenceLemmas.{are_once}
-use Rattle.dirty_walk.proofs.ReferringLemmas.{referring_told}
 use Rattle.kept_elements.proofs.RenewalLemmas.{renews}
 use Rattle.kept_elements.proofs.ToldLemmas.{told_once}
 use Rattle.dirty_walk.proofs.fresh.fresh_changes.Goals as goal
@@ -25,8 +23,8 @@ returns-clause-changes g c =
     (kept_are tree styles c.as_slice-records.result.now styles.sheet document.styles_are (c.as_slice-records.ensures.items ∙ c.in_ok-told.ensures.told))
     c.in_ok-changes.ensures.changes)
 
-pub returns-clause-plain : goal.returns-clause-plain
-returns-clause-plain g c = c.are_plain.ensures ∙ ap are_plain (c.as_slice-records.ensures.items ∙ c.in_ok-told.ensures.told)
+pub returns-clause-unstarted : goal.returns-clause-unstarted
+returns-clause-unstarted g c = c.are_unstarted.ensures ∙ ap are_unstarted (c.as_slice-records.ensures.items ∙ c.in_ok-told.ensures.told)
 
 pub index_with-requires : goal.index_with-requires
 index_with-requires g c =
@@ -42,10 +40,3 @@ returns-clause-refers g c =
     subst (λ (told : List (ℕ × Told)). TellsReferences c.in_ok-index.index (record { tree = tree; said = said_of told }))
     (c.as_slice-records.ensures.items ∙ c.in_ok-told.ensures.told)
     (c.in_ok-index.ensures.references tree)
-
-pub returns-clause-referring : goal.returns-clause-referring
-returns-clause-referring g c =
-    let tree = c.args.document.now.arena.now.tree in
-    let author = author_sheet c.args.document.now.styles.now.sheet tree in
-    subst (λ (o : Option ℕ). IfSome o (IsReferringIn author tree)) (sym c.referring_of.ensures)
-    (referring_told author tree c.arena_holds_document.ensures.document.distinct c.as_slice-records.result.now (c.as_slice-records.ensures.items ∙ c.in_ok-told.ensures.told))

@@ -14,3 +14,6 @@ pub returns-clause-room : goal.returns-clause-room
 returns-clause-room g c =
     below-more c.in_ok-room.room c.reserve.new.self.room c.in_ok-changes.changes.items c.in_ok-reserve.ensures.room
     (subst (λ (items : List (ℕ × Kept)). AreBelow c.in_ok-room.room items) c.as_slice.ensures.value c.in_ok-room.ensures.room)
+
+pub returns-clause-few : goal.returns-clause-few
+returns-clause-few g c = c.in_ok-changes.ensures.few

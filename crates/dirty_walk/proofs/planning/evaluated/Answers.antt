@@ -1,4 +1,4 @@
-use Rattle.std.proofs.Common.{◌≡◌, ◌∙◌, arith, ℕ, Bool, ap, sym, subst, unwrap_or, List, Option, Some, None, IfSome}
+use Rattle.std.proofs.Common.{◌≡◌, ◌∙◌, arith, ℕ, ap, sym, subst, unwrap_or, List, Option, Some, None, IfSome}
 use Rattle.std.specs.Prelude.{IfNone}
 use Rattle.std.specs.FinMap.{FinMap}
 use Rattle.std.specs.Ordering.{nat_cmp}
@@ -20,7 +20,7 @@ use Rattle.dirty_walk.specs.EditedArenas.{evaluated_after}
 use Rattle.dirty_walk.specs.ReadAhead.{StandsRead}
 use Rattle.dirty_walk.specs.Exchanges.{IsIndexBefore, coming, elements_in, exchanges}
 use Rattle.referring_elements.specs.Indexes.{IsIndexOf, TellsReferences}
-use Rattle.dirty_walk.specs.PlaceStyles.{IsWithinPlaceOf}
+use Rattle.dirty_walk.specs.PlaceNews.{IsWithinPlaceOf}
 use Rattle.dirty_walk.proofs.ExchangeLaws.{index_after, index_back}
 use Rattle.dirty_walk.proofs.ReferenceExchangeLemmas.{ids_add_no_references}
 use Rattle.dirty_walk.proofs.ReferenceLemmas.{exchanges_keep, of_index}
@@ -46,10 +46,10 @@ module _ (edit : Edit) (gone : List ElementId) (before after : Index) (new : For
       ∙ sym (was.indexed id key)
 
 -- before the walk no step is taken
-none_taken : (was : Bool) (edit : Edit) (styles : DocumentStyles) (held : FinMap nat_cmp Kept) (new : Forest (Keyed Node)) (now : ℕ) (stops : Option LocalStops)
-    → IfSome stops (λ local. IsWithinPlaceOf was edit styles held local new now now)
-none_taken was edit styles held new now None = tt
-none_taken was edit styles held new now (Some local) = λ plain_before plain there. omega arith
+none_taken : (edit : Edit) (styles : DocumentStyles) (held : FinMap nat_cmp Kept) (new : Forest (Keyed Node)) (ahead : ReadAhead) (now : ℕ) (stops : Option LocalStops)
+    → IfSome stops (λ local. IsWithinPlaceOf edit styles held local new ahead now now)
+none_taken edit styles held new ahead now None = tt
+none_taken edit styles held new ahead now (Some local) = λ unstarted there former. omega arith
 
 -- what holds of the index that was made anew
 new_index : (made : Option Index) (document : EditedArena) → IfSome made (λ index. IsIndexOf index document.arena.now.tree × TellsReferences index (evaluated_after document))
@@ -73,8 +73,6 @@ still_read edit styles held new ahead index after same (Some local) reads = reco
   read = record {
     takes = reads.read.takes;
     former = reads.read.former;
-    plain = reads.read.plain;
-    referring = reads.read.referring;
     tells = λ id key. same id key ∙ reads.read.tells id key;
   };
 }
@@ -124,4 +122,4 @@ returns-in-Err-clause-err g c =
 
 pub returns-in_err-back-clause-most : goal.returns-in_err-back-clause-most
 returns-in_err-back-clause-most g c =
-    none_taken c.args.ahead.now.is_plain c.args.document.now.edit.now c.args.document.now.styles.now c.args.board.now.held c.args.document.now.arena.now.tree c.args.steps.now c.args.stops
+    none_taken c.args.document.now.edit.now c.args.document.now.styles.now c.args.board.now.held c.args.document.now.arena.now.tree c.args.ahead.now c.args.steps.now c.args.stops

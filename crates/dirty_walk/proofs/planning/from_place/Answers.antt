@@ -1,4 +1,4 @@
-use Rattle.std.proofs.Common.{◌≡◌, ◌∙◌, IfNone, IfSome, List, Option, Some, None, true, false, ℕ, ap, refl, subst, sym}
+use Rattle.std.proofs.Common.{◌≡◌, ◌∙◌, IfNone, IfSome, List, Option, Some, None, true, false, ℕ, refl, subst, sym}
 use Rattle.std.specs.FinMap.{FinMap}
 use Rattle.std.specs.Ordering.{nat_cmp}
 use Rattle.forest.specs.Forest.{Forest}
@@ -17,15 +17,12 @@ use Rattle.kept_elements.specs.Evaluations.{document_kept, evaluated_document}
 use Rattle.dirty_walk.specs.declared.document_styles.DocumentStyles.{DocumentStyles}
 use Rattle.dirty_walk.specs.declared.edited_arena.EditedArena.{EditedArena}
 use Rattle.dirty_walk.specs.declared.local_stops.LocalStops.{LocalStops}
-use Rattle.dirty_walk.specs.declared.places.FromPlace.{FromPlace}
 use Rattle.dirty_walk.specs.declared.read_ahead.ReadAhead.{ReadAhead}
 use Rattle.dirty_walk.specs.DocumentStyles.{document_styles}
-use Rattle.dirty_walk.specs.EditedArenas.{is_plain_after}
-use Rattle.dirty_walk.specs.PlaceStyles.{IsWithinPlaceOf}
-use Rattle.dirty_walk.specs.Places.{IsWithinPlace}
-use Rattle.dirty_walk.specs.Plain.{is_plain}
+use Rattle.dirty_walk.specs.EditedArenas.{is_unstarted_after}
+use Rattle.dirty_walk.specs.PlaceNews.{IsWithinPlace, IsWithinPlaceOf}
+use Rattle.dirty_walk.specs.Unstarted.{is_unstarted}
 use Rattle.dirty_walk.specs.ReadAhead.{IsSomePlaceRead, StandsRead}
-use Rattle.dirty_walk.specs.Referring.{IsReferringIn}
 use Rattle.dirty_walk.proofs.PlaceLemmas.{AreNamed, sheet_now, some_place, styles_after, styles_now}
 use Rattle.dirty_walk.proofs.planning.from_place.Goals as goal
 
@@ -34,11 +31,11 @@ of_stops : (P : LocalStops → Type 0) (o : Option LocalStops) (local : LocalSto
 of_stops P o local is holds = subst (λ (o : Option LocalStops). IfSome o P) (sym is) holds
 
 -- what holds of what was found, or where nothing was
-of_found : (P : FromPlace → Type 0) (o : Option FromPlace) (made : FromPlace) → o ≡ Some made → IfSome o P → P made
-of_found P o made is holds = subst (λ (o : Option FromPlace). IfSome o P) is holds
+of_found : {A : Type 0} (P : A → Type 0) (o : Option A) (made : A) → o ≡ Some made → IfSome o P → P made
+of_found {A} P o made is holds = subst (λ (o : Option A). IfSome o P) is holds
 
-of_none : (P : Type 0) (o : Option FromPlace) → o ≡ None → IfNone o P → P
-of_none P o is holds = subst (λ (o : Option FromPlace). IfNone o P) is holds
+of_none : {A : Type 0} (P : Type 0) (o : Option A) → o ≡ None → IfNone o P → P
+of_none {A} P o is holds = subst (λ (o : Option A). IfNone o P) is holds
 
 module _ (document : EditedArena) (held : FinMap nat_cmp Kept) (ahead : ReadAhead) (index : Index) (o : Option LocalStops) (local : LocalStops) (is : o ≡ Some local)
     (place : IfSome o (λ local. StandsRead document.edit.now document.styles.now held local document.arena.now.tree ahead index)) (named : List Stop)
@@ -69,13 +66,10 @@ module _ (document : EditedArena) (held : FinMap nat_cmp Kept) (ahead : ReadAhea
   under_edited P holds = subst P (sym (sheet_now edit styles held local tree read.before named names)) holds
 
   -- the steps of a walk from the place
-  within : (before now : ℕ) → (is_plain (author_sheet styles.sheet tree) tree ≡ true → IsWithinPlace styles.sheet held named tree before now)
-      → IfSome o (λ local. IsWithinPlaceOf ahead.is_plain edit styles held local tree before now)
+  within : (before now : ℕ) → IsWithinPlace styles.sheet held named tree ahead before now → IfSome o (λ local. IsWithinPlaceOf edit styles held local tree ahead before now)
   within before now few =
-      of_stops (λ local. IsWithinPlaceOf ahead.is_plain edit styles held local tree before now) o local is
-      (λ was plain there.
-      few (ap (λ (text : List ℕ). is_plain (author_sheet text tree) tree) (sym (sheet_now edit styles held local tree there named names)) ∙ plain)
-      (some_place edit styles held local tree there named names))
+      of_stops (λ local. IsWithinPlaceOf edit styles held local tree ahead before now) o local is
+      (λ unstarted there former. few (some_place edit styles held local tree there named names) former)
 
 pub invariant_of-styled-clause-styles_are : goal.invariant_of-styled-clause-styles_are
 invariant_of-styled-clause-styles_are g c =
@@ -83,75 +77,67 @@ invariant_of-styled-clause-styles_are g c =
 
 pub changes_from_place-requires : goal.changes_from_place-requires
 changes_from_place-requires g c = record {
-  place = its_place c.args.document.now c.args.board.now.held c.args.ahead.now c.args.index.now c.args.stops c.in-Some.field-0 c.in-Some.is c.requires.place c.name_inserted_root.new.stops.items c.name_inserted_root.ensures.stops;
+  place = its_place c.args.document.now c.args.board.now.held c.args.ahead.now c.args.index.now c.args.stops c.in-Some.field-0 c.in-Some.is c.requires.place c.as_slice-stops.result.now (λ old told. c.as_slice-stops.ensures.value ∙ c.name_inserted_root.ensures.stops old told);
   indexed = c.requires.indexed;
 }
 
-pub returns-in_err-made-clause-most : goal.returns-in_err-made-clause-most
-returns-in_err-made-clause-most g c =
-    within c.args.document.now c.args.board.now.held c.args.ahead.now c.args.index.now c.args.stops c.in-Some.field-0 c.in-Some.is c.requires.place c.name_inserted_root.new.stops.items c.name_inserted_root.ensures.stops
+pub returns-in_err-changes-clause-most : goal.returns-in_err-changes-clause-most
+returns-in_err-changes-clause-most g c =
+    within c.args.document.now c.args.board.now.held c.args.ahead.now c.args.index.now c.args.stops c.in-Some.field-0 c.in-Some.is c.requires.place c.as_slice-stops.result.now (λ old told. c.as_slice-stops.ensures.value ∙ c.name_inserted_root.ensures.stops old told)
     c.args.steps.now c.changes_from_place.new.steps c.changes_from_place.ensures.most
 
 pub returns-in-Some-2-clause-styles : goal.returns-in-Some-2-clause-styles
 returns-in-Some-2-clause-styles g c =
-    styles_stay c.args.document.now c.args.board.now.held c.args.ahead.now c.args.index.now c.args.stops c.in-Some.field-0 c.in-Some.is c.requires.place c.name_inserted_root.new.stops.items c.name_inserted_root.ensures.stops
+    styles_stay c.args.document.now c.args.board.now.held c.args.ahead.now c.args.index.now c.args.stops c.in-Some.field-0 c.in-Some.is c.requires.place c.as_slice-stops.result.now (λ old told. c.as_slice-stops.ensures.value ∙ c.name_inserted_root.ensures.stops old told)
 
 pub returns-in-Some-2-clause-changes : goal.returns-in-Some-2-clause-changes
 returns-in-Some-2-clause-changes g c =
     let document = c.args.document.now in
     let tree = document.arena.now.tree in
-    under_edited document c.args.board.now.held c.args.ahead.now c.args.index.now c.args.stops c.in-Some.field-0 c.in-Some.is c.requires.place c.name_inserted_root.new.stops.items c.name_inserted_root.ensures.stops
-    (λ (text : List ℕ). Renews c.args.board.now.held (document_kept (author_sheet text tree) tree) c.in-Some-2.made.changes.items)
-    (of_found (λ made. Renews c.args.board.now.held (document_kept (author_sheet document.styles.now.sheet tree) tree) made.changes.items) c.in_ok-made.field-0 c.in-Some-2.made c.in-Some-2.is c.in_ok-made.ensures.changes)
+    under_edited document c.args.board.now.held c.args.ahead.now c.args.index.now c.args.stops c.in-Some.field-0 c.in-Some.is c.requires.place c.as_slice-stops.result.now (λ old told. c.as_slice-stops.ensures.value ∙ c.name_inserted_root.ensures.stops old told)
+    (λ (text : List ℕ). Renews c.args.board.now.held (document_kept (author_sheet text tree) tree) c.in-Some-2.changes.items)
+    (of_found (λ changes. Renews c.args.board.now.held (document_kept (author_sheet document.styles.now.sheet tree) tree) changes.items) c.in_ok-changes.field-0 c.in-Some-2.changes c.in-Some-2.is c.in_ok-changes.ensures.changes)
 
-pub returns-in-Some-2-clause-plain : goal.returns-in-Some-2-clause-plain
-returns-in-Some-2-clause-plain g c =
+pub returns-in-Some-2-clause-unstarted : goal.returns-in-Some-2-clause-unstarted
+returns-in-Some-2-clause-unstarted g c =
     let document = c.args.document.now in
     let tree = document.arena.now.tree in
-    under_edited document c.args.board.now.held c.args.ahead.now c.args.index.now c.args.stops c.in-Some.field-0 c.in-Some.is c.requires.place c.name_inserted_root.new.stops.items c.name_inserted_root.ensures.stops
-    (λ (text : List ℕ). c.in-Some-2.made.is_plain ≡ is_plain (author_sheet text tree) tree)
-    (of_found (λ made. made.is_plain ≡ is_plain (author_sheet document.styles.now.sheet tree) tree) c.in_ok-made.field-0 c.in-Some-2.made c.in-Some-2.is c.in_ok-made.ensures.plain)
-
-pub returns-in-Some-2-clause-referring : goal.returns-in-Some-2-clause-referring
-returns-in-Some-2-clause-referring g c =
-    let document = c.args.document.now in
-    let tree = document.arena.now.tree in
-    under_edited document c.args.board.now.held c.args.ahead.now c.args.index.now c.args.stops c.in-Some.field-0 c.in-Some.is c.requires.place c.name_inserted_root.new.stops.items c.name_inserted_root.ensures.stops
-    (λ (text : List ℕ). IfSome c.in-Some-2.made.referring (IsReferringIn (author_sheet text tree) tree))
-    (of_found (λ made. IfSome made.referring (IsReferringIn (author_sheet document.styles.now.sheet tree) tree)) c.in_ok-made.field-0 c.in-Some-2.made c.in-Some-2.is c.in_ok-made.ensures.referring)
+    under_edited document c.args.board.now.held c.args.ahead.now c.args.index.now c.args.stops c.in-Some.field-0 c.in-Some.is c.requires.place c.as_slice-stops.result.now (λ old told. c.as_slice-stops.ensures.value ∙ c.name_inserted_root.ensures.stops old told)
+    (λ (text : List ℕ). true ≡ is_unstarted (author_sheet text tree) tree)
+    (sym (of_found (λ _. is_unstarted (author_sheet document.styles.now.sheet tree) tree ≡ true) c.in_ok-changes.field-0 c.in-Some-2.changes c.in-Some-2.is c.in_ok-changes.ensures.unstarted))
 
 pub returns-in-Some-2-clause-refers : goal.returns-in-Some-2-clause-refers
 returns-in-Some-2-clause-refers g c =
     let document = c.args.document.now in
     let tree = document.arena.now.tree in
-    under_edited document c.args.board.now.held c.args.ahead.now c.args.index.now c.args.stops c.in-Some.field-0 c.in-Some.is c.requires.place c.name_inserted_root.new.stops.items c.name_inserted_root.ensures.stops
+    under_edited document c.args.board.now.held c.args.ahead.now c.args.index.now c.args.stops c.in-Some.field-0 c.in-Some.is c.requires.place c.as_slice-stops.result.now (λ old told. c.as_slice-stops.ensures.value ∙ c.name_inserted_root.ensures.stops old told)
     (λ (text : List ℕ). TellsReferences c.changes_from_place.new.index (evaluated_document (author_sheet text tree) tree))
-    (of_found (λ _. TellsReferences c.changes_from_place.new.index (evaluated_document (author_sheet document.styles.now.sheet tree) tree)) c.in_ok-made.field-0 c.in-Some-2.made c.in-Some-2.is c.in_ok-made.ensures.refers)
+    (of_found (λ _. TellsReferences c.changes_from_place.new.index (evaluated_document (author_sheet document.styles.now.sheet tree) tree)) c.in_ok-changes.field-0 c.in-Some-2.changes c.in-Some-2.is c.in_ok-changes.ensures.refers)
 
 pub returns-in-Some-2-clause-few : goal.returns-in-Some-2-clause-few
 returns-in-Some-2-clause-few g c =
-    within c.args.document.now c.args.board.now.held c.args.ahead.now c.args.index.now c.args.stops c.in-Some.field-0 c.in-Some.is c.requires.place c.name_inserted_root.new.stops.items c.name_inserted_root.ensures.stops
-    c.args.steps.now _ (of_found _ c.in_ok-made.field-0 c.in-Some-2.made c.in-Some-2.is c.in_ok-made.ensures.few)
+    within c.args.document.now c.args.board.now.held c.args.ahead.now c.args.index.now c.args.stops c.in-Some.field-0 c.in-Some.is c.requires.place c.as_slice-stops.result.now (λ old told. c.as_slice-stops.ensures.value ∙ c.name_inserted_root.ensures.stops old told)
+    c.args.steps.now _ (of_found _ c.in_ok-changes.field-0 c.in-Some-2.changes c.in-Some-2.is c.in_ok-changes.ensures.few)
 
 pub returns-in-Some-2-clause-most : goal.returns-in-Some-2-clause-most
 returns-in-Some-2-clause-most g c =
-    within c.args.document.now c.args.board.now.held c.args.ahead.now c.args.index.now c.args.stops c.in-Some.field-0 c.in-Some.is c.requires.place c.name_inserted_root.new.stops.items c.name_inserted_root.ensures.stops
+    within c.args.document.now c.args.board.now.held c.args.ahead.now c.args.index.now c.args.stops c.in-Some.field-0 c.in-Some.is c.requires.place c.as_slice-stops.result.now (λ old told. c.as_slice-stops.ensures.value ∙ c.name_inserted_root.ensures.stops old told)
     c.args.steps.now c.changes_from_place.new.steps c.changes_from_place.ensures.most
 
-pub returns-in-None-clause-none : goal.returns-in-None-clause-none
-returns-in-None-clause-none g c =
+pub returns-clause-none : goal.returns-clause-none
+returns-clause-none g c =
     let document = c.args.document.now in
     let tree = document.arena.now.tree in
-    of_stops (λ _. c.args.ahead.now.is_plain ≡ true → is_plain_after document ≡ false) c.args.stops c.in-Some.field-0 c.in-Some.is
-    (under_edited document c.args.board.now.held c.args.ahead.now c.args.index.now c.args.stops c.in-Some.field-0 c.in-Some.is c.requires.place c.name_inserted_root.new.stops.items c.name_inserted_root.ensures.stops
-    (λ (text : List ℕ). c.args.ahead.now.is_plain ≡ true → is_plain (author_sheet text tree) tree ≡ false)
-    (of_none (c.args.ahead.now.is_plain ≡ true → is_plain (author_sheet document.styles.now.sheet tree) tree ≡ false) c.in_ok-made.field-0 c.in-None.is c.in_ok-made.ensures.none))
+    of_stops (λ _. is_unstarted_after document ≡ false) c.args.stops c.in-Some.field-0 c.in-Some.is
+    (under_edited document c.args.board.now.held c.args.ahead.now c.args.index.now c.args.stops c.in-Some.field-0 c.in-Some.is c.requires.place c.as_slice-stops.result.now (λ old told. c.as_slice-stops.ensures.value ∙ c.name_inserted_root.ensures.stops old told)
+    (λ (text : List ℕ). is_unstarted (author_sheet text tree) tree ≡ false)
+    (of_none (is_unstarted (author_sheet document.styles.now.sheet tree) tree ≡ false) c.in_ok-changes.field-0 c.in-None.is c.in_ok-changes.ensures.none))
 
-pub returns-in-None-clause-unmoved : goal.returns-in-None-clause-unmoved
-returns-in-None-clause-unmoved g c =
-    of_none ((id : List ℕ) (key : ℕ) → is_reference c.changes_from_place.new.index id key ≡ is_reference c.args.index.now id key) c.in_ok-made.field-0 c.in-None.is c.in_ok-made.ensures.unmoved
+pub returns-clause-unmoved : goal.returns-clause-unmoved
+returns-clause-unmoved g c =
+    of_none ((id : List ℕ) (key : ℕ) → is_reference c.changes_from_place.new.index id key ≡ is_reference c.args.index.now id key) c.in_ok-changes.field-0 c.in-None.is c.in_ok-changes.ensures.unmoved
 
-pub returns-in-None-clause-most : goal.returns-in-None-clause-most
-returns-in-None-clause-most g c =
-    within c.args.document.now c.args.board.now.held c.args.ahead.now c.args.index.now c.args.stops c.in-Some.field-0 c.in-Some.is c.requires.place c.name_inserted_root.new.stops.items c.name_inserted_root.ensures.stops
+pub returns-clause-most : goal.returns-clause-most
+returns-clause-most g c =
+    within c.args.document.now c.args.board.now.held c.args.ahead.now c.args.index.now c.args.stops c.in-Some.field-0 c.in-Some.is c.requires.place c.as_slice-stops.result.now (λ old told. c.as_slice-stops.ensures.value ∙ c.name_inserted_root.ensures.stops old told)
     c.args.steps.now c.changes_from_place.new.steps c.changes_from_place.ensures.most

@@ -1,4 +1,4 @@
-use Rattle.std.proofs.Common.{◌≡◌, ◌∙◌, IfSome, List, Option, ℕ, ap, subst, option_copied, unwrap_or}
+use Rattle.std.proofs.Common.{◌≡◌, ◌∙◌, List, Option, ℕ, ap, subst, option_copied, unwrap_or}
 use Rattle.std.specs.Borrow.{Bor}
 use Rattle.forest.specs.Forest.{Forest}
 use Rattle.forest.specs.Keys.{Keyed}
@@ -10,8 +10,7 @@ use Rattle.kept_elements.specs.Changes.{Renews}
 use Rattle.dirty_walk.specs.DocumentStyles.{document_styles}
 use Rattle.referring_elements.specs.Indexes.{TellsReferences}
 use Rattle.kept_elements.specs.Evaluations.{document_kept, evaluated_document}
-use Rattle.dirty_walk.specs.Plain.{is_plain}
-use Rattle.dirty_walk.specs.Referring.{IsReferringIn}
+use Rattle.dirty_walk.specs.Unstarted.{is_unstarted}
 use Rattle.dirty_walk.proofs.PlanLemmas.{its_text, now-unwrap_or, under_its_text}
 use Rattle.dirty_walk.proofs.planning.from_whole.Goals as goal
 
@@ -38,12 +37,12 @@ returns-clause-changes g c =
     (its_text c.unwrap_or.result.now text (style_texts tree) are)
     c.in_ok-kept.ensures.changes
 
-pub returns-clause-plain : goal.returns-clause-plain
-returns-clause-plain g c =
+pub returns-clause-unstarted : goal.returns-clause-unstarted
+returns-clause-unstarted g c =
     let text = edited_sheet c.args.document.now.edit.now c.args.document.now.styles.now.sheet in
     let tree = c.args.document.now.arena.now.tree in
     let are = chosen c.in_ok-new.new c.as_ref.result c.args.document.now.styles c.unwrap_or.result text tree c.unwrap_or.ensures c.as_ref.ensures.value c.in_ok-new.ensures.styles in
-    c.in_ok-kept.ensures.plain ∙ ap (λ (text : List ℕ). is_plain (author_sheet text tree) tree) (its_text c.unwrap_or.result.now text (style_texts tree) are)
+    c.in_ok-kept.ensures.unstarted ∙ ap (λ (text : List ℕ). is_unstarted (author_sheet text tree) tree) (its_text c.unwrap_or.result.now text (style_texts tree) are)
 
 pub returns-clause-index : goal.returns-clause-index
 returns-clause-index g c =
@@ -55,12 +54,3 @@ returns-clause-index g c =
           (its_text c.unwrap_or.result.now text (style_texts tree) are)
           c.in_ok-kept.ensures.refers,
     )
-
-pub returns-clause-referring : goal.returns-clause-referring
-returns-clause-referring g c =
-    let text = edited_sheet c.args.document.now.edit.now c.args.document.now.styles.now.sheet in
-    let tree = c.args.document.now.arena.now.tree in
-    let are = chosen c.in_ok-new.new c.as_ref.result c.args.document.now.styles c.unwrap_or.result text tree c.unwrap_or.ensures c.as_ref.ensures.value c.in_ok-new.ensures.styles in
-    subst (λ (text : List ℕ). IfSome c.in_ok-kept.field-0.referring (IsReferringIn (author_sheet text tree) tree))
-    (its_text c.unwrap_or.result.now text (style_texts tree) are)
-    c.in_ok-kept.ensures.referring

@@ -1,4 +1,4 @@
-use Rattle.std.proofs.Common.{◌≡◌, ◌∙◌, ◌≤◌, ◌+◌, ◌*◌, IfNone, IfSome, List, Option, Some, None, false, true, ℕ, Bool, arith, sym, subst}
+use Rattle.std.proofs.Common.{◌≡◌, ◌∙◌, ◌≤◌, ◌+◌, ◌*◌, IfNone, IfSome, List, Option, Some, None, false, true, ℕ, arith, sym, subst}
 use Rattle.std.specs.Prelude.{is_some}
 use Rattle.std.specs.FinMap.{FinMap}
 use Rattle.std.specs.Ordering.{nat_cmp}
@@ -12,17 +12,18 @@ use Rattle.dirty_walk.specs.declared.edited_arena.EditedArena.{EditedArena}
 use Rattle.kept_elements.specs.declared.kept.Kept.{Kept}
 use Rattle.dirty_walk.specs.declared.local_stops.LocalStops.{LocalStops}
 use Rattle.dirty_walk.specs.declared.planning.Renewal.{Renewal}
+use Rattle.dirty_walk.specs.declared.read_ahead.ReadAhead.{ReadAhead}
 use Rattle.referring_elements.specs.Indexes.{IsIndexOf, TellsReferences}
-use Rattle.dirty_walk.specs.EditedArenas.{evaluated_after, is_plain_after}
-use Rattle.dirty_walk.specs.PlaceStyles.{IsWithinPlaceOf}
+use Rattle.dirty_walk.specs.EditedArenas.{evaluated_after, is_unstarted_after}
+use Rattle.dirty_walk.specs.PlaceNews.{IsWithinPlaceOf}
 use Rattle.node_arena.proofs.GoneLaws.{on-error}
 use Rattle.dirty_walk.proofs.planning.renewed.Goals as goal
 
--- where the walk tells nothing, and the document was plain, it is plain no longer
-not_at_place : (was : Bool) (document : EditedArena) (held : FinMap nat_cmp Kept) (before now : ℕ) (stops : Option LocalStops) → IfSome stops (λ _. was ≡ true → is_plain_after document ≡ false)
-    → IfSome stops (λ local. IsWithinPlaceOf was document.edit.now document.styles.now held local document.arena.now.tree before now)
-not_at_place was document held before now None rests = tt
-not_at_place was document held before now (Some local) rests = λ plain_before plain there. absurd (true≢false (sym plain ∙ rests plain_before))
+-- where the walk tells nothing, some element of the edited document asks for the start of a reversed counter
+not_at_place : (document : EditedArena) (held : FinMap nat_cmp Kept) (ahead : ReadAhead) (before now : ℕ) (stops : Option LocalStops) → IfSome stops (λ _. is_unstarted_after document ≡ false)
+    → IfSome stops (λ local. IsWithinPlaceOf document.edit.now document.styles.now held local document.arena.now.tree ahead before now)
+not_at_place document held ahead before now None starts = tt
+not_at_place document held ahead before now (Some local) starts = λ unstarted there former. absurd (true≢false (sym unstarted ∙ starts))
 
 -- what holds where no renewal was found, and of the one that was
 of_none : (P : Type 0) (found : Option Renewal) → found ≡ None → IfNone found P → P
@@ -35,19 +36,19 @@ pub returns-in-None-clause-few : goal.returns-in-None-clause-few
 returns-in-None-clause-few g c =
     IfOk-weaker c.from_whole.result _ _
     (λ made below.
-    not_at_place c.args.ahead.now.is_plain c.args.document.now c.args.board.now.held c.args.steps.now _ c.args.stops
-    (of_none (IfSome c.args.stops (λ _. c.args.ahead.now.is_plain ≡ true → is_plain_after c.args.document.now ≡ false)) c.in_ok-made.field-0 c.in-None.is c.in_ok-made.ensures.none))
+    not_at_place c.args.document.now c.args.board.now.held c.args.ahead.now c.args.steps.now _ c.args.stops
+    (of_none (IfSome c.args.stops (λ _. is_unstarted_after c.args.document.now ≡ false)) c.in_ok-made.field-0 c.in-None.is c.in_ok-made.ensures.none))
     c.from_whole.ensures.room
 
 pub returns-in-None-clause-most : goal.returns-in-None-clause-most
 returns-in-None-clause-most g c =
-    not_at_place c.args.ahead.now.is_plain c.args.document.now c.args.board.now.held c.args.steps.now c.from_whole.new.steps c.args.stops
-    (of_none (IfSome c.args.stops (λ _. c.args.ahead.now.is_plain ≡ true → is_plain_after c.args.document.now ≡ false)) c.in_ok-made.field-0 c.in-None.is c.in_ok-made.ensures.none)
+    not_at_place c.args.document.now c.args.board.now.held c.args.ahead.now c.args.steps.now c.from_whole.new.steps c.args.stops
+    (of_none (IfSome c.args.stops (λ _. is_unstarted_after c.args.document.now ≡ false)) c.in_ok-made.field-0 c.in-None.is c.in_ok-made.ensures.none)
 
 pub returns-in-None-clause-steps : goal.returns-in-None-clause-steps
 returns-in-None-clause-steps g c =
-    let walked : c.from_place.new.steps ≤ c.args.steps.now + 5 * element_count (without_keys c.args.document.now.arena.now.tree) =
-    of_none (c.from_place.new.steps ≤ c.args.steps.now + 5 * element_count (without_keys c.args.document.now.arena.now.tree)) c.in_ok-made.field-0 c.in-None.is c.in_ok-made.ensures.walk in
+    let walked : c.from_place.new.steps ≤ c.args.steps.now + 4 * element_count (without_keys c.args.document.now.arena.now.tree) =
+    of_none (c.from_place.new.steps ≤ c.args.steps.now + 4 * element_count (without_keys c.args.document.now.arena.now.tree)) c.in_ok-made.field-0 c.in-None.is c.in_ok-made.ensures.walk in
     omega (arith, walked, c.from_whole.ensures.steps)
 
 -- from a whole evaluation comes a new index

@@ -1,10 +1,29 @@
-use Rattle.std.proofs.Common.{◌∙◌, ℕ, List, ap, arith, nat_eq, subst, sym}
+use Rattle.std.proofs.Common.{◌≤◌, ◌++◌, ◌∙◌, ℕ, List, [], ◌∷◌, Option, Some, None, ap, arith, length, nat_eq, subst, sym, take}
 use Rattle.std.specs.List.{IsDistinct}
+use Rattle.std.specs.Option.{option_map_or}
 use Rattle.std.proofs.lemmas.Result.{IfOk-weaker}
+use Rattle.plain_types.specs.declared.counter_style.CounterStyle.{CounterStyle}
+use Rattle.content_eval.specs.Targets.{Known}
 use Rattle.edit_work.specs.KeyedSources.{is_among}
+use Rattle.generated_texts.specs.References.{kept_at}
+use Rattle.surroundings.specs.declared.told.Told.{Told}
+use Rattle.kept_elements.specs.Evaluations.{kept_of}
+use Rattle.kept_elements.specs.Machinery.Renewals.{known_again, renewed_kept}
 use Rattle.kept_elements.proofs.KeyWeights.{no_more}
 use Rattle.kept_elements.proofs.NamedKeys.{few_named, named_targets}
+use Rattle.kept_elements.proofs.RenewalLemmas.{renews}
 use Rattle.kept_elements.proofs.renewed_texts.entries_again.Goals as goal
+
+-- one at most is kept for each key
+module _ (table : List CounterStyle) (known : Known) (told : ℕ → Option Told) where
+  few_kept : (keys : List ℕ) → length (renewed_kept table known told keys) ≤ length keys
+  few_kept [] = omega arith
+  few_kept (key ∷ keys) = by (told key) (few_kept keys)
+    where
+      by : (o : Option Told) → length (renewed_kept table known told keys) ≤ length keys
+          → length (option_map_or (λ (one : Told). (key, kept_of table known one) ∷ []) o [] ++ renewed_kept table known told keys) ≤ length (key ∷ keys)
+      by None rest = omega (arith, rest)
+      by (Some one) rest = omega (arith, rest)
 
 pub returns-clause-renewal : goal.returns-clause-renewal
 returns-clause-renewal g c =
@@ -36,3 +55,20 @@ returns-clause-fewer g c = λ keys others told_among targets_among.
     let targets = no_more c.as_slice-2.result.now others (subst (λ (ks : List ℕ). IsDistinct nat_eq ks) (sym c.as_slice-2.ensures.keys) c.as_slice-2.ensures.unique)
     (λ key among. targets_among key (sym (c.in_ok-targets.ensures.keys key) ∙ sym (ap (λ (ks : List ℕ). is_among ks key) c.as_slice-2.ensures.keys) ∙ among)) in
     omega (arith, told, targets, c.changes_to.ensures.steps)
+
+pub returns-clause-few : goal.returns-clause-few
+returns-clause-few g c =
+    let tree = c.args.arena.now.tree in
+    let table = c.args.table.now in
+    let held = c.args.board.now.held in
+    let listed = c.args.listed.now in
+    let targets = c.as_slice-2.result.now in
+    let keys = c.as_slice.result.now in
+    let known = known_again tree table held (take c.args.flat_count listed) listed targets in
+    IfOk-weaker c.changes_to.result _ _
+    (λ changes are others told_among.
+    let told = no_more keys others (subst (λ (ks : List ℕ). IsDistinct nat_eq ks) (sym c.as_slice.ensures.keys) c.as_slice.ensures.unique)
+    (λ key among. told_among key (sym (c.in_ok-told.ensures.keys key) ∙ sym (ap (λ (ks : List ℕ). is_among ks key) c.as_slice.ensures.keys) ∙ among)) in
+    let fewer : length changes.items ≤ length (renewed_kept table known (kept_at listed) keys) = (renews held (renewed_kept table known (kept_at listed) keys) changes.items are).few in
+    omega (arith, told, fewer, few_kept table known (kept_at listed) keys))
+    c.changes_to.ensures.changes

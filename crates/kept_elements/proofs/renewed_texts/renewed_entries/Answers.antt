@@ -16,7 +16,7 @@ use Rattle.surroundings.specs.declared.told.Told.{Told}
 use Rattle.kept_elements.specs.declared.kept.Kept.{Kept}
 use Rattle.kept_elements.specs.RenewalSteps.{renewal_weight}
 use Rattle.kept_elements.specs.Renewals.{IsSomeEdit, evaluated_as, is_told}
-use Rattle.kept_elements.specs.Machinery.Renewals.{IsRenewal, IsWithinLists, again, with_again}
+use Rattle.kept_elements.specs.Machinery.Renewals.{IsRenewal, IsWithinLists, ListsAll, again, with_again}
 use Rattle.kept_elements.proofs.NamedKeys.{few_named}
 use Rattle.kept_elements.proofs.RenewedLemmas.{are_elements, named_first, named_second, renewed}
 use Rattle.kept_elements.proofs.StepLemmas.{few_steps, first_is_few, target_elements, targets_are, told_are, told_elements}
@@ -73,6 +73,11 @@ module _ (table : List CounterStyle) (tree : Forest (Keyed Node)) (told : List (
         subst (λ (rs : List (ℕ × Told)). IsWithinLists tree rs old new) are within elements named_elements
         (told_are table edit.merge edit.old tree edit.was edit.is told held edit.visited first second edit.tells)
         (targets_are table edit.merge edit.old tree edit.was edit.is told held edit.visited first second edit.tells)
+
+    few_come : (records : List (ℕ × Told)) → records ≡ with_again held (with_again held told first) second → (count : ℕ) → ListsAll records count → count ≤ length elements
+    few_come records are count lists =
+        subst (λ (rs : List (ℕ × Told)). ListsAll rs count) are lists elements
+        (told_are table edit.merge edit.old tree edit.was edit.is told held edit.visited first second edit.tells)
 
 -- what is told again comes behind what is told
 put : (held : FinMap nat_cmp Kept) (told some : List (ℕ × Told)) (keys others : List ℕ) (new : List (ℕ × Told)) → some ≡ told → keys ≡ others → new ≡ some ++ flat_map (again held) keys → new ≡ with_again held told others
@@ -156,6 +161,25 @@ returns-clause-fewer g c = λ edit.
     few_again c.args.table.now c.args.arena.now.tree told held first second edit ones c.as_slice.ensures.keys c.as_slice.ensures.once others c.as_slice-2.ensures.keys c.as_slice-2.ensures.once
     c.as_slice-3.result.now (c.as_slice-3.ensures.items ∙ all) c.put_all_again-2.new.steps c.entries_again.new.steps c.entries_again.ensures.fewer in
     omega (arith, few, again, c.put_all_again.ensures.steps, c.put_all_again-2.ensures.steps)
+
+pub returns-clause-few : goal.returns-clause-few
+returns-clause-few g c =
+    IfOk-weaker c.entries_again.result _ _
+    (λ changes lists edit.
+    let held = c.args.board.now.held in
+    let told = c.args.told in
+    let first = c.args.found.now.first in
+    let second = c.args.found.now.second in
+    let ones = c.as_slice.result.now in
+    let others = c.as_slice-2.result.now in
+    let some = put held told told ones first c.put_all_again.new.records (λ i. told) c.as_slice.ensures.keys c.in_ok-put_all_again.ensures.ok in
+    let all = put held (with_again held told first) c.put_all_again.new.records others second c.put_all_again-2.new.records some c.as_slice-2.ensures.keys c.in_ok-put_all_again-2.ensures.ok in
+    let few = few_all c.args.table.now c.args.arena.now.tree told held first second edit ones c.as_slice.ensures.keys c.as_slice.ensures.once others c.as_slice-2.ensures.keys c.as_slice-2.ensures.once in
+    let come =
+    few_come c.args.table.now c.args.arena.now.tree told held first second edit ones c.as_slice.ensures.keys c.as_slice.ensures.once others c.as_slice-2.ensures.keys c.as_slice-2.ensures.once
+    c.as_slice-3.result.now (c.as_slice-3.ensures.items ∙ all) (length changes.items) lists in
+    omega (arith, few, come))
+    c.entries_again.ensures.few
 
 pub returns-clause-steps : goal.returns-clause-steps
 returns-clause-steps g c =

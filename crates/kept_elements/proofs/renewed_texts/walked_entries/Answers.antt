@@ -42,6 +42,17 @@ returns-clause-renewal g c =
     c.in_ok-found.found.first c.in_ok-found.found.second c.in_ok-found.ensures.first c.in_ok-found.ensures.second))
     c.renewed_entries.ensures.renewal
 
+pub returns-clause-few : goal.returns-clause-few
+returns-clause-few g c =
+    IfOk-weaker c.renewed_entries.result _ _
+    (λ changes all walk.
+    all (some_edit c.args.table.now c.args.index.now c.args.former.now c.args.stops.now c.args.arena.now.tree c.args.told c.args.board.now.held walk
+    c.as_slice-2.result.now c.as_slice-3.result.now
+    (λ key. ap (λ (ks : List ℕ). is_among ks key) c.as_slice-2.ensures.keys ∙ c.in_ok-visited.ensures.keys key ∙ ap (λ (told : List (ℕ × Told)). is_told told key) c.as_slice.ensures.items)
+    (λ key. ap (λ (ks : List ℕ). is_among ks key) c.as_slice-3.ensures.keys ∙ c.in_ok-changed.ensures.found key)
+    c.in_ok-found.found.first c.in_ok-found.found.second c.in_ok-found.ensures.first c.in_ok-found.ensures.second))
+    c.renewed_entries.ensures.few
+
 pub returns-clause-fewer : goal.returns-clause-fewer
 returns-clause-fewer g c = λ walk.
     c.renewed_entries.ensures.fewer

@@ -1,5 +1,5 @@
-use Rattle.std.proofs.Common.{◌≡◌, ◌∙◌, ◌||◌, ap, subst, sym, inl, inr, true, Bool, IfSome}
-use Rattle.std.specs.Prelude.{is_some}
+use Rattle.std.proofs.Common.{◌≡◌, ◌∙◌, ap, subst, sym, inl, inr, true, Bool, IfSome, Option, Some, None}
+use Rattle.std.specs.Prelude.{IfNone}
 use Rattle.forest.specs.Forest.{Forest}
 use Rattle.forest.specs.Keys.{Keyed, without_keys}
 use Rattle.plain_types.specs.declared.edit.Edit.{Edit}
@@ -13,14 +13,22 @@ use Rattle.styled_merge.specs.ReachStops.{reach_stops}
 use Rattle.dirty_walk.specs.Books.{StyledDocument}
 use Rattle.dirty_walk.specs.Exchanges.{elements_in, leaving, taken_keys}
 use Rattle.dirty_walk.specs.FormerTargets.{AreFormerTargetsOf}
-use Rattle.dirty_walk.specs.Plain.{is_plain, is_unstarted}
+use Rattle.dirty_walk.specs.Unstarted.{is_unstarted}
 use Rattle.dirty_walk.proofs.PlaceLemmas.{its_reach}
-use Rattle.dirty_walk.proofs.ReferringLemmas.{not_plain_where, of_no_value, of_value, unstarted_where}
 use Rattle.dirty_walk.proofs.book.Book.ahead.Goals as goal
 
--- what is plain in a document, and how far its edit reaches
-abbrev plain_in : StyledDocument → Bool
-plain_in styled = is_plain (author_sheet styled.sheet styled.tree) styled.tree
+-- what holds of a value that may be there, and where there is none
+of_value : {A : Type 0} (P Q : A → Type 0) → ((value : A) → P value → Q value) → (o : Option A) → IfSome o P → IfSome o Q
+of_value P Q so None holds = tt
+of_value P Q so (Some value) holds = so value holds
+
+of_no_value : {A : Type 0} (P Q : Type 0) → (P → Q) → (o : Option A) → IfNone o P → IfNone o Q
+of_no_value P Q so None holds = so holds
+of_no_value P Q so (Some value) holds = tt
+
+-- whether no element of a document asks for the start of a reversed counter, and how far its edit reaches
+abbrev unstarted_in : StyledDocument → Bool
+unstarted_in styled = is_unstarted (author_sheet styled.sheet styled.tree) styled.tree
 
 abbrev reach_in : Edit → StyledDocument → Reach
 reach_in edit styled = reach (looks_beside styled.sheet styled.tree) styled.tree edit
@@ -41,9 +49,7 @@ pub returns-clause-unstarted : goal.returns-clause-unstarted
 returns-clause-unstarted c =
     let author = author_sheet c.self.inside.styles.sheet c.self.inside.arena.tree in
     subst (λ (styled : StyledDocument). IfSome c.in_ok-stops.stops (λ _. is_unstarted (author_sheet styled.sheet styled.tree) styled.tree ≡ true)) c.self.view_is
-    (of_value _ _
-    (λ local known.
-    unstarted_where c.self.inside.is_plain c.self.inside.referring author c.self.inside.arena.tree c.self.invariant.plain_is c.self.invariant.referring_is (sym c.is_unstarted.ensures ∙ known))
+    (of_value (λ _. c.self.inside.is_unstarted ≡ true) (λ _. is_unstarted author c.self.inside.arena.tree ≡ true) (λ local known. sym c.self.invariant.unstarted_is ∙ known)
     c.in_ok-stops.stops c.in_ok-stops.ensures.unstarted)
 
 pub former_targets-requires : goal.former_targets-requires
@@ -68,10 +74,9 @@ pub returns-clause-none : goal.returns-clause-none
 returns-clause-none c =
     let reaches : reach_in c.args.edit.now (record { tree = c.self.inside.arena.tree; sheet = c.self.inside.styles.sheet; settled = true; kept = c.self.inside.board.held }) ≡ reach_in c.args.edit.now c.args.self.now =
     ap (λ (styled : StyledDocument). reach_in c.args.edit.now styled) c.self.view_is in
-    let flag : c.is_unstarted.result ≡ (c.self.inside.is_plain || is_some c.self.inside.referring) = c.is_unstarted.ensures in
     of_no_value _ _
     (λ either. elim either [
-      | inl known ↦ inl (sym (c.self.invariant.plain_is ∙ ap plain_in c.self.view_is) ∙ not_plain_where c.self.inside.is_plain c.self.inside.referring (sym flag ∙ known))
+      | inl known ↦ inl (sym (c.self.invariant.unstarted_is ∙ ap unstarted_in c.self.view_is) ∙ known)
       | inr all ↦ inr (sym (its_reach c.args.edit.now c.self.inside.agent c.self.inside.styles c.self.inside.arena.tree c.self.invariant.agent_is c.self.invariant.styles_are ∙ reaches) ∙ all)
     ])
     c.in_ok-stops.stops c.in_ok-stops.ensures.none

@@ -27,9 +27,8 @@ use Rattle.styled_merge.specs.Laws.{looks_beside}
 use Rattle.styled_merge.specs.ReachStops.{reach_stops}
 use Rattle.dirty_walk.specs.Exchanges.{elements_in, leaving, taken_keys}
 use Rattle.dirty_walk.specs.FormerTargets.{AreFormerTargetsOf}
-use Rattle.dirty_walk.specs.Plain.{is_plain, is_unstarted}
+use Rattle.dirty_walk.specs.Unstarted.{is_unstarted}
 use Rattle.dirty_walk.specs.ReadAhead.{WasReadOf}
-use Rattle.dirty_walk.specs.Referring.{IsReferringIn}
 use Rattle.dirty_walk.specs.declared.read_ahead.ReadAhead.{ReadAhead}
 use Rattle.referring_elements.specs.declared.former.FormerTarget.{FormerTarget}
 use Rattle.dirty_walk.specs.Plans.{settled_after, IsPlannedBy}
@@ -73,13 +72,11 @@ pub evaluated-requires-clause-place : goal.evaluated-requires-clause-place
 evaluated-requires-clause-place g c =
     let none : is_none c.self.inside.planned ≡ true = ap (λ (styled : StyledDocument). styled.settled) c.self.view_is ∙ c.requires.settled in
     let author = author_sheet c.self.inside.styles.sheet c.self.inside.arena.tree in
-    let ahead : ReadAhead = record { takes = c.as_slice.result; former = c.as_slice-2.result; is_plain = c.self.inside.is_plain; referring = c.self.inside.referring } in
+    let ahead : ReadAhead = record { takes = c.as_slice.result; former = c.as_slice-2.result } in
     let read : WasReadOf c.args.edit.now author c.self.inside.arena.tree ahead c.self.inside.index = record {
       takes = c.as_slice.ensures.items ∙ c.in_ok-gone.ensures.takes ∙ ap (λ (styled : StyledDocument). taken_keys c.args.edit.now (elements_in (leaving c.args.edit.now styled.tree))) (sym c.self.view_is);
       former = subst (λ (former : List FormerTarget). AreFormerTargetsOf c.args.edit.now c.self.inside.arena.tree former) (sym c.as_slice-2.ensures.items)
           (ahead_of (λ styled. AreFormerTargetsOf c.args.edit.now styled.tree c.in_ok-gone.field-0.former) _ _ c.self.view_is c.in_ok-gone.ensures.former);
-      plain = c.self.invariant.plain_is;
-      referring = c.self.invariant.referring_is;
       tells = c.self.invariant.refers;
     } in
     stands_read c.args.edit.now c.self.inside.styles c.self.inside.board.held c.self.inside.arena.tree c.commit-reversal.new.self.tree c.self.invariant.styles_are
@@ -90,7 +87,7 @@ evaluated-requires-clause-place g c =
 pub invariant_of-self : goal.invariant_of-self
 invariant_of-self g c =
     let none : is_none c.self.inside.planned ≡ true = ap (λ (styled : StyledDocument). styled.settled) c.self.view_is ∙ c.requires.settled in
-    same_document _ _ _ _ _ _ _ _ _ _ _ none c.prepare.ensures.tree (λ were. still_settled _ _ were c.prepare.ensures.tree c.in_err-prepared.ensures.err) refl (omega arith) (λ id key. refl) (λ id key. refl) c.self.invariant
+    same_document _ _ _ _ _ _ _ _ _ _ none c.prepare.ensures.tree (λ were. still_settled _ _ were c.prepare.ensures.tree c.in_err-prepared.ensures.err) refl (omega arith) (λ id key. refl) (λ id key. refl) c.self.invariant
 
 pub invariant_of-self-in-Ok : goal.invariant_of-self-in-Ok
 invariant_of-self-in-Ok g c =
@@ -114,11 +111,7 @@ invariant_of-self-in-Ok g c =
           (subst (λ (t : List ℕ). TellsReferences (unwrap_or c.in-Ok.made.index c.evaluated.new.index) (evaluated_document (author_sheet t tree) tree))
           (sym (its_text c.replace_styles.new.styles text (style_texts tree) (c.replace_styles.ensures ∙ c.in-Ok.ensures.styles)))
           c.in-Ok.ensures.refers);
-      referring_is =
-          subst (λ (t : List ℕ). IfSome c.in-Ok.made.referring (IsReferringIn (author_sheet t tree) tree))
-          (sym (its_text c.replace_styles.new.styles text (style_texts tree) (c.replace_styles.ensures ∙ c.in-Ok.ensures.styles)))
-          c.in-Ok.ensures.referring;
-      plain_is = c.in-Ok.ensures.plain ∙ ap (λ (t : List ℕ). is_plain (author_sheet t tree) tree) (sym (its_text c.replace_styles.new.styles text (style_texts tree) (c.replace_styles.ensures ∙ c.in-Ok.ensures.styles)));
+      unstarted_is = c.in-Ok.ensures.unstarted ∙ ap (λ (t : List ℕ). is_unstarted (author_sheet t tree) tree) (sym (its_text c.replace_styles.new.styles text (style_texts tree) (c.replace_styles.ensures ∙ c.in-Ok.ensures.styles)));
       back = c.commit-reversal.ensures.reversal;
       keys =
           committed _ _ _ _ _ (its_keys c.self.inside.arena c.self.inside.planned none c.self.invariant.keys) c.prepare.ensures.tree c.in_ok-prepared.ensures.reserves
@@ -128,7 +121,7 @@ invariant_of-self-in-Ok g c =
 pub invariant_of-self-in-Err : goal.invariant_of-self-in-Err
 invariant_of-self-in-Err g c =
     let none : is_none c.self.inside.planned ≡ true = ap (λ (styled : StyledDocument). styled.settled) c.self.view_is ∙ c.requires.settled in
-    same_document _ _ _ _ _ _ _ _ _ _ _ none (c.revert.ensures.tree ∙ c.commit-reversal.ensures.before ∙ c.prepare.ensures.tree)
+    same_document _ _ _ _ _ _ _ _ _ _ none (c.revert.ensures.tree ∙ c.commit-reversal.ensures.before ∙ c.prepare.ensures.tree)
     (λ were.
     reverted _ _ _
     (committed _ _ _ _ _ were c.prepare.ensures.tree c.in_ok-prepared.ensures.reserves c.commit-reversal.ensures.tree c.commit-reversal.ensures.before c.commit-reversal.ensures.used)
@@ -244,8 +237,11 @@ returns-in-Ok-clause-within_work g c =
     (within_work c.args.edit.now c.self.inside.styles c.self.inside.board.held old tree c.in_ok-gone.field-0.stops
     c.self.invariant.styles_are done (c.self.invariant.kept none)
     c.replace_styles.new.styles.sheet (its_text c.replace_styles.new.styles text (style_texts tree) (c.replace_styles.ensures ∙ c.in-Ok.ensures.styles))
-    c.self.inside.is_plain c.self.invariant.plain_is c.args.steps.now (c.evaluated.new.steps + length puts) (length takes) (c.evaluated.new.steps + (length puts + length takes))
-    (ahead_of (λ styled. IfSome c.in_ok-gone.field-0.stops (λ _. is_unstarted (author_sheet styled.sheet styled.tree) styled.tree ≡ true)) _ _ c.self.view_is c.in_ok-gone.ensures.unstarted) (ahead_of (λ styled. IfSome c.in_ok-gone.field-0.stops (λ local. local.extent ≡ reach (looks_beside styled.sheet styled.tree) styled.tree c.args.edit.now)) _ _ c.self.view_is c.in_ok-gone.ensures.extent) c.in_ok-gone.ensures.local (ahead_of (λ styled. IfSome c.in_ok-gone.field-0.stops (λ local. local.stops.items ≡ reach_stops local.extent c.args.edit.now 0 styled.tree)) _ _ c.self.view_is c.in_ok-gone.ensures.stops) (ahead_of (λ styled. IfNone c.in_ok-gone.field-0.stops ((is_plain (author_sheet styled.sheet styled.tree) styled.tree ≡ false) ⊎ (reach (looks_beside styled.sheet styled.tree) styled.tree c.args.edit.now ≡ All))) _ _ c.self.view_is c.in_ok-gone.ensures.none)
+    (record { takes = c.as_slice.result; former = c.as_slice-2.result })
+    (subst (λ (former : List FormerTarget). AreFormerTargetsOf c.args.edit.now old former) (sym c.as_slice-2.ensures.items) (ahead_of (λ styled. AreFormerTargetsOf c.args.edit.now styled.tree c.in_ok-gone.field-0.former) _ _ c.self.view_is c.in_ok-gone.ensures.former))
+    (omega (arith, ap length (c.as_slice.ensures.items ∙ taken), taken_gone c.args.edit.now old tree))
+    c.args.steps.now (c.evaluated.new.steps + length puts) (length takes) (c.evaluated.new.steps + (length puts + length takes))
+    (ahead_of (λ styled. IfSome c.in_ok-gone.field-0.stops (λ _. is_unstarted (author_sheet styled.sheet styled.tree) styled.tree ≡ true)) _ _ c.self.view_is c.in_ok-gone.ensures.unstarted) (ahead_of (λ styled. IfSome c.in_ok-gone.field-0.stops (λ local. local.extent ≡ reach (looks_beside styled.sheet styled.tree) styled.tree c.args.edit.now)) _ _ c.self.view_is c.in_ok-gone.ensures.extent) c.in_ok-gone.ensures.local (ahead_of (λ styled. IfSome c.in_ok-gone.field-0.stops (λ local. local.stops.items ≡ reach_stops local.extent c.args.edit.now 0 styled.tree)) _ _ c.self.view_is c.in_ok-gone.ensures.stops) (ahead_of (λ styled. IfNone c.in_ok-gone.field-0.stops ((is_unstarted (author_sheet styled.sheet styled.tree) styled.tree ≡ false) ⊎ (reach (looks_beside styled.sheet styled.tree) styled.tree c.args.edit.now ≡ All))) _ _ c.self.view_is c.in_ok-gone.ensures.none)
     c.in-Ok.ensures.few
     (omega (arith, ap length taken, taken_gone c.args.edit.now old tree))
     (omega arith)
@@ -270,8 +266,11 @@ returns-clause-stops_within_work g c =
       leads c.args.edit.now before text old tree done refl,
       within_work c.args.edit.now c.self.inside.styles c.self.inside.board.held old tree c.in_ok-gone.field-0.stops
           c.self.invariant.styles_are done (c.self.invariant.kept none) text refl
-          c.self.inside.is_plain c.self.invariant.plain_is c.args.steps.now c.evaluated.new.steps 0 c.evaluated.new.steps
-          (ahead_of (λ styled. IfSome c.in_ok-gone.field-0.stops (λ _. is_unstarted (author_sheet styled.sheet styled.tree) styled.tree ≡ true)) _ _ c.self.view_is c.in_ok-gone.ensures.unstarted) (ahead_of (λ styled. IfSome c.in_ok-gone.field-0.stops (λ local. local.extent ≡ reach (looks_beside styled.sheet styled.tree) styled.tree c.args.edit.now)) _ _ c.self.view_is c.in_ok-gone.ensures.extent) c.in_ok-gone.ensures.local (ahead_of (λ styled. IfSome c.in_ok-gone.field-0.stops (λ local. local.stops.items ≡ reach_stops local.extent c.args.edit.now 0 styled.tree)) _ _ c.self.view_is c.in_ok-gone.ensures.stops) (ahead_of (λ styled. IfNone c.in_ok-gone.field-0.stops ((is_plain (author_sheet styled.sheet styled.tree) styled.tree ≡ false) ⊎ (reach (looks_beside styled.sheet styled.tree) styled.tree c.args.edit.now ≡ All))) _ _ c.self.view_is c.in_ok-gone.ensures.none)
+          (record { takes = c.as_slice.result; former = c.as_slice-2.result })
+          (subst (λ (former : List FormerTarget). AreFormerTargetsOf c.args.edit.now old former) (sym c.as_slice-2.ensures.items) (ahead_of (λ styled. AreFormerTargetsOf c.args.edit.now styled.tree c.in_ok-gone.field-0.former) _ _ c.self.view_is c.in_ok-gone.ensures.former))
+          (omega (arith, ap length (c.as_slice.ensures.items ∙ taken), taken_gone c.args.edit.now old tree))
+          c.args.steps.now c.evaluated.new.steps 0 c.evaluated.new.steps
+          (ahead_of (λ styled. IfSome c.in_ok-gone.field-0.stops (λ _. is_unstarted (author_sheet styled.sheet styled.tree) styled.tree ≡ true)) _ _ c.self.view_is c.in_ok-gone.ensures.unstarted) (ahead_of (λ styled. IfSome c.in_ok-gone.field-0.stops (λ local. local.extent ≡ reach (looks_beside styled.sheet styled.tree) styled.tree c.args.edit.now)) _ _ c.self.view_is c.in_ok-gone.ensures.extent) c.in_ok-gone.ensures.local (ahead_of (λ styled. IfSome c.in_ok-gone.field-0.stops (λ local. local.stops.items ≡ reach_stops local.extent c.args.edit.now 0 styled.tree)) _ _ c.self.view_is c.in_ok-gone.ensures.stops) (ahead_of (λ styled. IfNone c.in_ok-gone.field-0.stops ((is_unstarted (author_sheet styled.sheet styled.tree) styled.tree ≡ false) ⊎ (reach (looks_beside styled.sheet styled.tree) styled.tree c.args.edit.now ≡ All))) _ _ c.self.view_is c.in_ok-gone.ensures.none)
           c.evaluated.ensures.most
           (omega arith) (omega arith) (omega (arith, gone, c.evaluated.ensures.steps)),
     ))
