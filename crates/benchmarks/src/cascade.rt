@@ -2,6 +2,7 @@
 
 ghost use Rattle.std.specs.Prelude.{◌≡◌, ◌<◌};
 
+use mini_cascade::rule_table::RuleTable;
 use mini_cascade::style_attributes::inline_declarations;
 use mini_cascade::style_of::style_of;
 use node_arena::arena::{Arena, has_element_root};
@@ -95,12 +96,18 @@ fn sheet_of(alloc: Global, rules: usize) -> Result<Sheet, Memory> {
     Ok(sheet)
 }
 
+/// The same sheet, with its rules filed.
+fn table_of(alloc: Global, rules: usize) -> Result<RuleTable, Memory> {
+    RuleTable::new(alloc, sheet_of(alloc, rules)?)
+}
+
 /// The styles of the root and of its children; how many children there are.
 fn style_all<L: Ledger>(
     rt: &HostRuntime,
     blank: Blank,
     arena: &Arena,
-    author: &Sheet,
+    agent: &RuleTable,
+    author: &RuleTable,
 ) -> Result<usize, Memory>
     requires name { blank.name ≡ L.name }
     requires parts { blank.parts ≡ L.parts }
@@ -108,7 +115,6 @@ fn style_all<L: Ledger>(
 {
     let alloc = rt.alloc();
     let mut steps = Steps::<L>::open(rt, blank);
-    let agent = sheet_of(alloc, 0)?;
     let root = arena.root();
     let inline = inline_declarations(alloc, arena, root)?;
     let inline = inline.as_slice();
@@ -116,7 +122,7 @@ fn style_all<L: Ledger>(
     let above = style_of(
         alloc,
         &mut siblings,
-        &agent,
+        agent,
         author,
         inline,
         None,
@@ -132,7 +138,7 @@ fn style_all<L: Ledger>(
             let _style = style_of(
                 alloc,
                 &mut siblings,
-                &agent,
+                agent,
                 author,
                 inline,
                 parent,
@@ -152,6 +158,7 @@ pub(crate) fn perform(rt: &HostRuntime, elements: usize, rules: usize) -> Option
         return None;
     }
     let arena = Arena::from_tree(alloc, &tree).ok()?;
-    let author = sheet_of(alloc, rules).ok()?;
-    style_all::<Brand>(rt, Blank::new(1), &arena, &author).ok()
+    let agent = table_of(alloc, 0).ok()?;
+    let author = table_of(alloc, rules).ok()?;
+    style_all::<Brand>(rt, Blank::new(1), &arena, &agent, &author).ok()
 }

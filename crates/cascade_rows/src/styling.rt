@@ -8,6 +8,7 @@ use crate::style_notes::push_styles;
 use css_tokens::lexer::tokens;
 use css_tokens::sheet_text::prepare_text;
 use css_values::declarations::read_declaration;
+use mini_cascade::rule_table::RuleTable;
 use mini_cascade::style_attributes::inline_declarations;
 use mini_cascade::style_of::style_of;
 use node_arena::arena::Arena;
@@ -70,7 +71,7 @@ fn origin_of(whose: Whose) -> Origin {
 }
 
 /// The sheet of the rules of this origin.
-fn sheet_of(alloc: Global, rules: &[Rule], of: Origin) -> Result<Sheet, Memory> {
+fn table_of(alloc: Global, rules: &[Rule], of: Origin) -> Result<RuleTable, Memory> {
     let mut sheet = Sheet {
         rules: List::new(alloc),
         styles: List::new(alloc),
@@ -82,15 +83,15 @@ fn sheet_of(alloc: Global, rules: &[Rule], of: Origin) -> Result<Sheet, Memory> 
             }
         }
     }
-    Ok(sheet)
+    RuleTable::new(alloc, sheet)
 }
 
 /// The styles of an element under its parent's.
 fn styles<L: Ledger>(
     alloc: Global,
     arena: &Arena,
-    agent: &Sheet,
-    author: &Sheet,
+    agent: &RuleTable,
+    author: &RuleTable,
     parent: Option<&Style>,
     key: usize,
     steps: &mut Steps<L>,
@@ -114,8 +115,8 @@ fn styles<L: Ledger>(
 fn styles_between<L: Ledger>(
     alloc: Global,
     arena: &Arena,
-    agent: &Sheet,
-    author: &Sheet,
+    agent: &RuleTable,
+    author: &RuleTable,
     steps: &mut Steps<L>,
 ) -> Result<Option<ElementStyle>, Memory> {
     let root = arena.root();
@@ -140,8 +141,8 @@ fn told_styles<L: Ledger>(
 {
     let alloc = rt.alloc();
     let mut steps = Steps::<L>::open(rt, blank);
-    let agent = sheet_of(alloc, rules, Origin::UserAgent)?;
-    let author = sheet_of(alloc, rules, Origin::Author)?;
+    let agent = table_of(alloc, rules, Origin::UserAgent)?;
+    let author = table_of(alloc, rules, Origin::Author)?;
     let Some(styles) = styles_between(alloc, arena, &agent, &author, &mut steps)? else {
         return Ok(None);
     };

@@ -150,21 +150,21 @@ module _ (document : StyledArena) (is_agent : document.agent.now ≡ agent_sheet
         few_listed place.edit sheet held place.old tree place.at stays its_unstarted news tells_its,
       )
 
-  sum : (takes from between now come weight work : ℕ) → between ≤ from + (takes + weight) → now ≤ between + weight → come ≤ weight → weight ≤ work → (now + come) ≤ from + (takes + 3 * work)
+  sum : (takes from between now come weight work : ℕ) → between ≤ from + (takes + weight) → now ≤ between + weight → come ≤ weight → weight ≤ work → (now + 2 * come) ≤ from + (takes + 4 * work)
   sum takes from between now come weight work first second third fourth = omega arith
 
-  pub exchange_within : (takes from now : ℕ) → IsWithinKeys news takes from now → now ≤ from + (takes + 3 * its_work)
+  pub exchange_within : (takes from now : ℕ) → IsWithinKeys news takes from now → now ≤ from + (takes + 4 * its_work)
   exchange_within takes from now within = omega (arith, sum takes from now now 0 its_weight its_work (exchanges_few takes from now within) (omega arith) (omega arith) is_paid)
 
   module _ (index : Index) (former : List FormerTarget) (former_are : AreFormerTargetsOf place.edit place.old former) (refers : TellsReferences index (evaluated_document (author_sheet sheet tree) tree)) where
     abbrev walk : IsSomeWalk document.styles.now.table index former stops tree news held
     walk = some_walk document is_agent styles_are held stops place news news_are index former former_are refers
 
-    -- the steps to exchange references and to make texts again, and then one for each change
+    -- the steps to exchange references and to make texts again, and then two for each change
     pub within_news : (takes from between now come : ℕ) → IsWithinKeys news takes from between
         → ((walk : IsSomeWalk document.styles.now.table index former stops tree news held) → now ≤ between + renewal_weight (evaluated_as walk.old walk.was) (evaluated_as tree walk.is) walk.merge news)
         → ((walk : IsSomeWalk document.styles.now.table index former stops tree news held) → come ≤ renewal_weight (evaluated_as walk.old walk.was) (evaluated_as tree walk.is) walk.merge news)
-        → (now + come) ≤ from + (takes + 3 * its_work)
+        → (now + 2 * come) ≤ from + (takes + 4 * its_work)
     within_news takes from between now come within spent comes =
         sum takes from between now come its_weight its_work (exchanges_few takes from between within) (spent walk) (comes walk) is_paid
 

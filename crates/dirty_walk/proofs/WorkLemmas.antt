@@ -55,11 +55,11 @@ use Rattle.dirty_walk.proofs.PlaceLemmas.{stands_there}
 
 -- Sums.
 
-whole : (was is was_count is_count work before now : ℕ) → was_count ≡ was → is_count ≡ is → (was_count + is_count) ≤ work → now ≤ before + (13 * is + 2 * was) → now ≤ before + 24 * (work + 1)
+whole : (was is was_count is_count work before now : ℕ) → was_count ≡ was → is_count ≡ is → (was_count + is_count) ≤ work → now ≤ before + (14 * is + 3 * was) → now ≤ before + 24 * (work + 1)
 whole was is was_count is_count work before now same_was same touched few = omega arith
 
 place : (budget other gone going takes taken walk its_work work before now total : ℕ) → budget ≡ other → gone ≡ going → its_work ≡ work → (2 * budget + gone) ≤ 24 * (walk + 1) → going ≤ walk → walk ≤ work
-    → now ≤ before + (other + (takes + 3 * its_work)) → takes ≤ going → taken ≤ going → total ≤ now + taken → total ≤ before + 24 * (work + 1)
+    → now ≤ before + (other + (takes + 4 * its_work)) → takes ≤ going → taken ≤ going → total ≤ now + taken → total ≤ before + 24 * (work + 1)
 place budget other gone going takes taken walk its_work work before now total same same_gone same_work paid gone_paid within few goes took sum = omega arith
 
 -- An edit makes one document of another, and the text of its sheet.
@@ -77,7 +77,7 @@ module _ (edit : Edit) (text next : List ℕ) (old new : Forest (Keyed Node)) (d
   counted tree = sym (weigh-without_keys (λ (node : Node). one_where (is_some (node_name node))) tree)
 
   -- where it can change styles everywhere
-  pub everywhere : (from now : ℕ) → edit_reach edit before after ≡ All → now ≤ from + (13 * element_count (without_keys new) + 2 * element_count (without_keys old)) → now ≤ from + 24 * (work edit before after + 1)
+  pub everywhere : (from now : ℕ) → edit_reach edit before after ≡ All → now ≤ from + (14 * element_count (without_keys new) + 3 * element_count (without_keys old)) → now ≤ from + 24 * (work edit before after + 1)
   everywhere from now all few =
       whole (element_count (without_keys old)) (element_count (without_keys new)) (count_of_elements is_element old) (count_of_elements is_element new) (work edit before after) from now
       (counted old) (counted new) (whole_reach_is_paid edit before after leads all).touched few
@@ -109,7 +109,7 @@ module _ (edit : Edit) (text next : List ℕ) (old new : Forest (Keyed Node)) (d
   goes_where_reached : (taken : ℕ) → taken ≤ gone_count is_element (edit_merge edit old new) → taken ≤ gone_count is_element whole_merge
   goes_where_reached taken goes = omega (arith, goes, gone-reached (begins_at (reach (looks_beside text old) old edit)) (edit_merge edit old new))
 
-  pub at_place : (from now takes taken total : ℕ) → edit_reach edit before after ≢ All → now ≤ from + (place_budget edit text old new + (takes + 3 * place_work edit text old new))
+  pub at_place : (from now takes taken total : ℕ) → edit_reach edit before after ≢ All → now ≤ from + (place_budget edit text old new + (takes + 4 * place_work edit text old new))
       → takes ≤ gone_count is_element (edit_merge edit old new) → taken ≤ gone_count is_element (edit_merge edit old new) → total ≤ now + taken
       → total ≤ from + 24 * (work edit before after + 1)
   at_place from now takes taken total other few goes took sum =
@@ -136,7 +136,7 @@ module _ (edit : Edit) (styles : DocumentStyles) (held : FinMap nat_cmp Kept) (o
       → IfSome stops (λ local. local.stops.items ≡ reach_stops local.extent edit 0 old)
       → IfNone stops ((is_unstarted (author_sheet styles.sheet old) old ≡ false) ⊎ (reach (looks_beside styles.sheet old) old edit ≡ All))
       → IfSome stops (λ local. IsWithinPlaceOf edit styles held local new ahead from now)
-      → taken ≤ gone_count is_element (edit_merge edit old new) → total ≤ now + taken → total ≤ from + (13 * element_count (without_keys new) + 2 * element_count (without_keys old))
+      → taken ≤ gone_count is_element (edit_merge edit old new) → total ≤ now + taken → total ≤ from + (14 * element_count (without_keys new) + 3 * element_count (without_keys old))
       → IsWithinWork edit was is from total
   within_work ahead former takes from now taken total unstarted extent other stops_are none within goes sum few measured = elim measured [
     | inl stays ↦ by stops stays unstarted extent other stops_are none within

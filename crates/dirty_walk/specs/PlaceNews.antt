@@ -36,21 +36,21 @@ pub record AreNewsFrom (document : StyledArena) (held : FinMap nat_cmp Kept) (st
 -- ids named.
 
 module _ (text : List ℕ) (held : FinMap nat_cmp Kept) (stops : List Stop) (new : Forest (Keyed Node)) (ahead : ReadAhead) where
-  -- Between one number of steps and another is no more than one for each element that goes, and 3 for each unit of the edit's work.
+  -- Between one number of steps and another is no more than one for each element that goes, and 4 for each unit of the edit's work.
   abbrev pub IsWithinNews : (before now : ℕ) → Type 0
   IsWithinNews before now =
       (place : IsSomePlace text held stops new) → AreFormerTargetsOf place.edit place.old ahead.former.now
-      → now ≤ before + (length ahead.takes.now + 3 * place_work place.edit text place.old new)
+      → now ≤ before + (length ahead.takes.now + 4 * place_work place.edit text place.old new)
 
   -- and no more than a walk from the edit's place takes, beside these
   abbrev pub IsWithinPlace : (before now : ℕ) → Type 0
   IsWithinPlace before now =
       (place : IsSomePlace text held stops new) → AreFormerTargetsOf place.edit place.old ahead.former.now
-      → now ≤ before + (place_budget place.edit text place.old new + (length ahead.takes.now + 3 * place_work place.edit text place.old new))
+      → now ≤ before + (place_budget place.edit text place.old new + (length ahead.takes.now + 4 * place_work place.edit text place.old new))
 
 -- The same of this edit, where no element of the edited document asks for the start of a reversed counter.
 abbrev pub IsWithinPlaceOf : Edit → DocumentStyles → FinMap nat_cmp Kept → LocalStops → Forest (Keyed Node) → ReadAhead → (before now : ℕ) → Type 0
 IsWithinPlaceOf edit styles held local new ahead before now =
     is_unstarted (author_sheet (edited_sheet edit styles.sheet) new) new ≡ true
     → (there : StandsBefore edit styles held local new) → AreFormerTargetsOf edit there.old ahead.former.now
-    → now ≤ before + (place_budget edit styles.sheet there.old new + (length ahead.takes.now + 3 * place_work edit styles.sheet there.old new))
+    → now ≤ before + (place_budget edit styles.sheet there.old new + (length ahead.takes.now + 4 * place_work edit styles.sheet there.old new))

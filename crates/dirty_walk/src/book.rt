@@ -1,6 +1,6 @@
 //! A document and its sheet, evaluated.
 
-ghost use Rattle.std.specs.Prelude.{◌≡◌, ◌≢◌, ◌≤◌, ◌+◌, ◌*◌, ◌⊎◌, true, false, Some, None, IfNone, IfSome, IsSome, unwrap_or, IfOk, OnErr, option_copied};
+ghost use Rattle.std.specs.Prelude.{◌≡◌, ◌≢◌, ◌≤◌, ◌+◌, ◌*◌, ◌⊎◌, true, false, Some, None, IfNone, IfSome, IsSome, length, unwrap_or, IfOk, OnErr, option_copied};
 ghost use Rattle.std.specs.Str.{chars};
 ghost use Rattle.forest.specs.Keys.{without_keys};
 ghost use Rattle.node_arena.specs.Document.{HasElementRoot};
@@ -41,6 +41,7 @@ use crate::style_elements::style_texts;
 use content_eval::generated::Piece;
 use generated_texts::entry::NodeEntry;
 use kept_elements::kept::Kept;
+use mini_cascade::rule_table::RuleTable;
 use node_arena::arena::Arena;
 use node_arena::laws::arena_holds_document;
 use node_arena::reversal::Reversal;
@@ -69,7 +70,7 @@ use target_index::index::Index;
 pub struct Book {
     arena: Arena,
     /// The user agent's sheet.
-    agent: Sheet,
+    agent: RuleTable,
     styles: DocumentStyles,
     /// What is kept of the elements. While an edit is planned it is what was kept before.
     board: Board<Kept>,
@@ -214,9 +215,9 @@ impl Book {
     /// it can change all styles, the edited document is evaluated whole, which costs what `begin` costs, and may come on top of a
     /// walk that found such a box; where the texts of the sheet and of the style elements are as before, none is read. Beside
     /// that come the arena's `prepare` and `commit`.
-    /// What is as before stays where it is, and with it what it has in memory. With those of `commit` its steps are bounded
-    /// by the work of the edit, where no box of the document asks for such a start before the edit and after it, and where the
-    /// edit can change all styles; so are its own where it answers `Memory`.
+    /// What is as before stays where it is, and with it what it has in memory. With those of `commit`, and with one more for each
+    /// entry that comes, its steps are bounded by the work of the edit, where no box of the document asks for such a start before
+    /// the edit and after it, and where the edit can change all styles; so are its own where it answers `Memory`.
     pub fn plan<L: Ledger>(
         &mut self,
         alloc: Global,
@@ -230,7 +231,7 @@ impl Book {
         ensures document { IfOk result (λ plan. IsEdited edit.now self.old.tree (settled_after self.new plan).tree) }
         ensures sheet { IfOk result (λ plan. (settled_after self.new plan).sheet ≡ edited_sheet edit.now self.old.sheet) }
         ensures err { OnErr result (self.new ≡ self.old) }
-        ensures within_work { IfOk result (λ plan. IsWithinWork edit.now (keyed_source self.old) (keyed_source (settled_after self.new plan)) steps.old (steps.new + plan_size plan)) }
+        ensures within_work { IfOk result (λ plan. IsWithinWork edit.now (keyed_source self.old) (keyed_source (settled_after self.new plan)) steps.old (steps.new + (plan_size plan + length plan.puts.items))) }
         ensures stops_within_work { OnErr result (StopsWithinWork edit.now (keyed_source self.old) steps.old steps.new) }
         ensures steps { steps.new ≤ steps.old + (12 * element_count (edited edit.now (without_keys self.old.tree)) + element_count (without_keys self.old.tree)) }
         ensures size { IfOk result (λ plan. plan_size plan ≤ element_count (edited edit.now (without_keys self.old.tree)) + element_count (without_keys self.old.tree)) }
@@ -323,7 +324,7 @@ impl Book {
         requires settled { self.now.settled ≡ true }
         ensures sheet { result.now ≡ author_sheet self.now.sheet self.now.tree }
     {
-        &self.styles.author
+        self.styles.author.sheet()
     }
 
     /// What the selectors of this sheet look at. It takes no memory and constant time.

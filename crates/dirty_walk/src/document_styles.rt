@@ -7,6 +7,7 @@ ghost use Rattle.dirty_walk.specs.DocumentStyles.{read_styles};
 use counter_style_table::build::build;
 use css_reader::features::features;
 use css_reader::sheet::read_sheets;
+use mini_cascade::rule_table::RuleTable;
 use plain_types::duplicate::Duplicate;
 use plain_types::list::List;
 use plain_types::memory::Memory;
@@ -23,7 +24,7 @@ pub(crate) struct DocumentStyles {
     /// The texts of its style elements, in tree order.
     pub(crate) texts: List<Text>,
     /// The author's sheet: that of the first text, and behind it those of the others.
-    pub(crate) author: Sheet,
+    pub(crate) author: RuleTable,
     /// What its selectors look at.
     pub(crate) features: Features,
     /// The counter styles under it.
@@ -70,10 +71,11 @@ impl DocumentStyles {
         let author = author_sheet(alloc, &sheet, texts.as_slice())?;
         let table = build(alloc, &author.styles)?;
         let features = features(&author);
+        let rules = RuleTable::new(alloc, author)?;
         Ok(DocumentStyles {
             sheet,
             texts,
-            author,
+            author: rules,
             features,
             table,
         })

@@ -5,16 +5,16 @@ ghost use Rattle.generated_texts.specs.Documents.{agent_sheet};
 ghost use Rattle.dirty_walk.specs.DocumentStyles.{read_styles};
 
 use crate::document_styles::DocumentStyles;
+use mini_cascade::rule_table::RuleTable;
 use node_arena::arena::Arena;
 use plain_types::edit::Edit;
-use plain_types::sheet::Sheet;
 
 /// A document that is edited already, with its edit, the user agent's sheet, and the styles that the document had before
 /// the edit.
 #[derive(Drop)]
 pub(crate) struct EditedArena<'a> {
     pub(crate) arena: &'a Arena,
-    pub(crate) agent: &'a Sheet,
+    pub(crate) agent: &'a RuleTable,
     pub(crate) styles: &'a DocumentStyles,
     pub(crate) edit: &'a Edit,
     ghost agent_is: { agent.now ≡ agent_sheet },

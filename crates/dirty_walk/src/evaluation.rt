@@ -25,10 +25,10 @@ use kept_elements::by_key::by_key;
 use kept_elements::flat_texts::{FlatTexts, all_flat_texts};
 use kept_elements::kept::Kept;
 use kept_elements::node_texts::{changed_entries, put_entries};
+use mini_cascade::rule_table::RuleTable;
 use node_arena::arena::Arena;
 use plain_types::list::List;
 use plain_types::memory::Memory;
-use plain_types::sheet::Sheet;
 use plain_types::table::Table;
 use snapshot_board::board::Board;
 use std::alloc::Global;
@@ -43,8 +43,8 @@ use target_index::index::Index;
 pub(crate) fn document_told<L: Ledger>(
     alloc: Global,
     arena: &Arena,
-    agent: &Sheet,
-    author: &Sheet,
+    agent: &RuleTable,
+    author: &RuleTable,
     table: &Table,
     steps: &mut Steps<L>,
 ) -> Result<List<(usize, Told)>, Memory>
@@ -86,8 +86,8 @@ fn changes_alone(evaluated: Evaluated) -> List<Change>
 fn told_by<L: Ledger>(
     alloc: Global,
     arena: &Arena,
-    agent: &Sheet,
-    author: &Sheet,
+    agent: &RuleTable,
+    author: &RuleTable,
     table: &Table,
     changes: &[Change],
     steps: &mut Steps<L>,

@@ -21,11 +21,11 @@ use crate::unstarted::are_unstarted;
 use css_reader::sheet::read_sheet;
 use kept_elements::kept::Kept;
 use mini_cascade::agent_sheet::AGENT_SHEET;
+use mini_cascade::rule_table::RuleTable;
 use node_arena::arena::Arena;
 use node_arena::laws::arena_holds_document;
 use plain_types::list::List;
 use plain_types::memory::Memory;
-use plain_types::sheet::Sheet;
 use snapshot_board::board::Board;
 use std::alloc::Global;
 use std::sync::ledger::Ledger;
@@ -34,10 +34,10 @@ use surroundings::told::Told;
 use target_index::index::Index;
 
 /// The user agent's style sheet.
-pub(crate) fn agent_sheet(alloc: Global) -> Result<Sheet, Memory>
+pub(crate) fn agent_sheet(alloc: Global) -> Result<RuleTable, Memory>
     ensures sheet { IfOk result (λ sheet. sheet ≡ agent_sheet) }
 {
-    read_sheet(alloc, AGENT_SHEET)
+    RuleTable::new(alloc, read_sheet(alloc, AGENT_SHEET)?)
 }
 
 /// What the evaluation tells of a document's elements.
@@ -79,7 +79,7 @@ pub(crate) struct Fresh<K> {
 pub(crate) fn fresh_board<L: Ledger>(
     alloc: Global,
     arena: &Arena,
-    agent: &Sheet,
+    agent: &RuleTable,
     styles: &DocumentStyles,
     steps: &mut Steps<L>,
 ) -> Result<Fresh<Board<Kept>>, Memory>

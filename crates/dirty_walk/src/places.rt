@@ -39,11 +39,11 @@ use kept_elements::kept::Kept;
 use kept_elements::news::news_of;
 use kept_elements::renewed_texts::walked_entries;
 use merged_walk::stop::Stop;
+use mini_cascade::rule_table::RuleTable;
 use node_arena::arena::Arena;
 use plain_types::edit::Edit;
 use plain_types::list::List;
 use plain_types::memory::Memory;
-use plain_types::sheet::Sheet;
 use referring_elements::former::FormerTarget;
 use snapshot_board::board::Board;
 use std::alloc::Global;
@@ -60,8 +60,8 @@ use target_index::index::Index;
 pub(crate) fn stops_at_place(
     alloc: Global,
     arena: &Arena,
-    agent: &Sheet,
-    author: &Sheet,
+    agent: &RuleTable,
+    author: &RuleTable,
     is_unstarted: bool,
     edit: &Edit,
 ) -> Result<Option<LocalStops>, Memory>
@@ -75,7 +75,7 @@ pub(crate) fn stops_at_place(
     if !is_unstarted {
         return Ok(None);
     }
-    let extent = reach(arena, all_features(agent, author), edit);
+    let extent = reach(arena, all_features(agent.sheet(), author.sheet()), edit);
     match extent {
         Reach::All => Ok(None),
         Reach::Own | Reach::Under(_) | Reach::Both(_, _) => {
@@ -175,7 +175,7 @@ fn changes_by_news<L: Ledger>(
     ensures room { IfOk result (λ changes. AreBelow board.new.room changes.items) }
     ensures held { board.new.held ≡ board.old.held }
     ensures grown { board.old.room ≤ board.new.room }
-    ensures few { IfOk result (λ changes. IsWithinNews document.now.styles.now.sheet board.old.held stops.now document.now.arena.now.tree ahead.now steps.old (steps.new + length changes.items)) }
+    ensures few { IfOk result (λ changes. IsWithinNews document.now.styles.now.sheet board.old.held stops.now document.now.arena.now.tree ahead.now steps.old (steps.new + 2 * length changes.items)) }
     ensures most { IsWithinNews document.now.styles.now.sheet board.old.held stops.now document.now.arena.now.tree ahead.now steps.old steps.new }
     ensures steps { steps.new ≤ steps.old + (length ahead.now.takes.now + length news + 4 * element_count (without_keys document.now.arena.now.tree)) }
 {
@@ -264,7 +264,7 @@ pub(crate) fn changes_from_place<L: Ledger>(
     ensures room { IfOk result (λ found. IfSome found (λ changes. AreBelow board.new.room changes.items)) }
     ensures held { board.new.held ≡ board.old.held }
     ensures grown { board.old.room ≤ board.new.room }
-    ensures few { IfOk result (λ found. IfSome found (λ changes. IsWithinPlace document.now.styles.now.sheet board.old.held stops.now document.now.arena.now.tree ahead.now steps.old (steps.new + length changes.items))) }
+    ensures few { IfOk result (λ found. IfSome found (λ changes. IsWithinPlace document.now.styles.now.sheet board.old.held stops.now document.now.arena.now.tree ahead.now steps.old (steps.new + 2 * length changes.items))) }
     ensures most { IsWithinPlace document.now.styles.now.sheet board.old.held stops.now document.now.arena.now.tree ahead.now steps.old steps.new }
     ensures walk { IfOk result (λ found. IfNone found (steps.new ≤ steps.old + 4 * element_count (without_keys document.now.arena.now.tree))) }
     ensures steps { steps.new ≤ steps.old + (length ahead.now.takes.now + 10 * element_count (without_keys document.now.arena.now.tree)) }

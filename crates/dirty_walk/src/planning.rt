@@ -103,7 +103,7 @@ fn from_place<L: Ledger>(
     ensures room { IfOk result (λ found. IfSome found (λ made. AreBelow board.new.room made.changes.items)) }
     ensures held { board.new.held ≡ board.old.held }
     ensures grown { board.old.room ≤ board.new.room }
-    ensures few { IfOk result (λ found. IfSome found (λ made. IfSome stops (λ local. IsWithinPlaceOf document.now.edit.now document.now.styles.now board.old.held local document.now.arena.now.tree ahead.now steps.old (steps.new + length made.changes.items)))) }
+    ensures few { IfOk result (λ found. IfSome found (λ made. IfSome stops (λ local. IsWithinPlaceOf document.now.edit.now document.now.styles.now board.old.held local document.now.arena.now.tree ahead.now steps.old (steps.new + 2 * length made.changes.items)))) }
     ensures most { IfSome stops (λ local. IsWithinPlaceOf document.now.edit.now document.now.styles.now board.old.held local document.now.arena.now.tree ahead.now steps.old steps.new) }
     ensures walk { IfOk result (λ found. IfNone found (steps.new ≤ steps.old + 4 * element_count (without_keys document.now.arena.now.tree))) }
     ensures steps { steps.new ≤ steps.old + (length ahead.now.takes.now + 10 * element_count (without_keys document.now.arena.now.tree)) }
@@ -188,7 +188,7 @@ fn renewed<L: Ledger>(
     ensures room { IfOk result (λ made. AreBelow board.new.room made.changes.items) }
     ensures held { board.new.held ≡ board.old.held }
     ensures grown { board.old.room ≤ board.new.room }
-    ensures few { IfOk result (λ made. IfSome stops (λ local. IsWithinPlaceOf document.now.edit.now document.now.styles.now board.old.held local document.now.arena.now.tree ahead.now steps.old (steps.new + length made.changes.items))) }
+    ensures few { IfOk result (λ made. IfSome stops (λ local. IsWithinPlaceOf document.now.edit.now document.now.styles.now board.old.held local document.now.arena.now.tree ahead.now steps.old (steps.new + 2 * length made.changes.items))) }
     ensures most { IfSome stops (λ local. IsWithinPlaceOf document.now.edit.now document.now.styles.now board.old.held local document.now.arena.now.tree ahead.now steps.old steps.new) }
     ensures steps { steps.new ≤ steps.old + (length ahead.now.takes.now + 12 * element_count (without_keys document.now.arena.now.tree)) }
 {
@@ -222,7 +222,7 @@ pub(crate) fn evaluated<L: Ledger>(
     ensures room { IfOk result (λ made. AreBelow board.new.room made.changes.items) }
     ensures held { board.new.held ≡ board.old.held }
     ensures grown { board.old.room ≤ board.new.room }
-    ensures few { IfOk result (λ made. IfSome stops (λ local. IsWithinPlaceOf document.now.edit.now document.now.styles.now board.old.held local document.now.arena.now.tree ahead.now steps.old (steps.new + length made.changes.items))) }
+    ensures few { IfOk result (λ made. IfSome stops (λ local. IsWithinPlaceOf document.now.edit.now document.now.styles.now board.old.held local document.now.arena.now.tree ahead.now steps.old (steps.new + 2 * length made.changes.items))) }
     ensures most { IfSome stops (λ local. IsWithinPlaceOf document.now.edit.now document.now.styles.now board.old.held local document.now.arena.now.tree ahead.now steps.old steps.new) }
     ensures steps { steps.new ≤ steps.old + (length ahead.now.takes.now + 12 * element_count (without_keys document.now.arena.now.tree)) }
 {

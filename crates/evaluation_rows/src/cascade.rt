@@ -6,12 +6,12 @@ ghost use Rattle.forest.specs.Spots.{IsLive};
 use crate::trees::tree_of;
 use css_reader::sheet::read_sheet;
 use mini_cascade::agent_sheet::AGENT_SHEET;
+use mini_cascade::rule_table::RuleTable;
 use mini_cascade::style_attributes::inline_declarations;
 use mini_cascade::style_of::style_of;
 use node_arena::arena::Arena;
 use plain_types::content::{Content, Item, QuoteKind};
 use plain_types::memory::Memory;
-use plain_types::sheet::Sheet;
 use plain_types::style::{Display, ElementStyle, ListType, Style};
 use plain_types::style_ref::StyleRef;
 use plain_types::text::Text;
@@ -120,12 +120,17 @@ pub fn arena_of(alloc: Global, text: &str) -> Result<Option<Arena>, Memory> {
     }
 }
 
+/// The sheet of a text, with its rules filed.
+pub fn table_of(alloc: Global, sheet: &str) -> Result<RuleTable, Memory> {
+    RuleTable::new(alloc, read_sheet(alloc, sheet)?)
+}
+
 /// The style of an element under its parent's, with its `style` attribute.
 pub fn style_at<L: Ledger>(
     alloc: Global,
     arena: &Arena,
-    agent: &Sheet,
-    author: &Sheet,
+    agent: &RuleTable,
+    author: &RuleTable,
     parent: Option<&Style>,
     key: usize,
     steps: &mut Steps<L>,
@@ -149,8 +154,8 @@ pub fn style_at<L: Ledger>(
 fn innermost_style<L: Ledger>(
     alloc: Global,
     arena: &Arena,
-    agent: &Sheet,
-    author: &Sheet,
+    agent: &RuleTable,
+    author: &RuleTable,
     steps: &mut Steps<L>,
 ) -> Result<ElementStyle, Memory> {
     let mut at = arena.root();
@@ -210,7 +215,7 @@ fn shown_style<L: Ledger>(
     rt: &HostRuntime,
     blank: Blank,
     arena: &Arena,
-    author: &Sheet,
+    author: &RuleTable,
 ) -> Result<Text, Memory>
     requires name { blank.name ≡ L.name }
     requires parts { blank.parts ≡ L.parts }
@@ -218,7 +223,7 @@ fn shown_style<L: Ledger>(
 {
     let alloc = rt.alloc();
     let mut steps = Steps::<L>::open(rt, blank);
-    let agent = read_sheet(alloc, AGENT_SHEET)?;
+    let agent = table_of(alloc, AGENT_SHEET)?;
     let style = innermost_style(alloc, arena, &agent, author, &mut steps)?;
     shown(alloc, &style)
 }
@@ -233,7 +238,7 @@ fn is_styled(
     let Some(arena) = arena_of(rt.alloc(), document)? else {
         return Ok(false);
     };
-    let author = read_sheet(rt.alloc(), sheet)?;
+    let author = table_of(rt.alloc(), sheet)?;
     let shown = shown_style::<Brand>(rt, Blank::new(1), &arena, &author)?;
     Ok(shown.as_str() == expected)
 }

@@ -6,7 +6,7 @@ ghost use Rattle.counter_sets.specs.Sets.{is_by_peer};
 ghost use Rattle.box_eval.specs.Boxes.{generates_box};
 ghost use Rattle.box_eval.specs.Scopes.{AreBehindChildren, AreNew, first_boxes, last_boxes};
 
-use crate::cascade::{arena_of, style_at};
+use crate::cascade::{arena_of, style_at, table_of};
 use crate::shown::show_set;
 use box_eval::element::{close_element, eval_element};
 use box_eval::entry::{Closing, Entry};
@@ -17,6 +17,7 @@ use counter_sets::counter_set::CounterSet;
 use counter_style_table::build::build;
 use css_reader::sheet::read_sheet;
 use mini_cascade::agent_sheet::AGENT_SHEET;
+use mini_cascade::rule_table::RuleTable;
 use node_arena::arena::Arena;
 use plain_types::attr::Attr;
 use plain_types::box_id::BoxId;
@@ -24,7 +25,6 @@ use plain_types::box_kind::BoxKind;
 use plain_types::counter::Counter;
 use plain_types::list::List;
 use plain_types::memory::Memory;
-use plain_types::sheet::Sheet;
 use plain_types::style::{Display, ElementStyle, Style};
 use plain_types::table::Table;
 use plain_types::text::Text;
@@ -201,8 +201,8 @@ static DEPTHS: [(&str, u64, &str); 5] = [
 #[derive(Drop)]
 struct Page {
     arena: Arena,
-    agent: Sheet,
-    author: Sheet,
+    agent: RuleTable,
+    author: RuleTable,
     table: Table,
 }
 
@@ -469,9 +469,9 @@ fn page_of(alloc: Global, document: &str, sheet: &str) -> Result<Option<Page>, M
     let author = read_sheet(alloc, sheet)?;
     Ok(Some(Page {
         arena,
-        agent: read_sheet(alloc, AGENT_SHEET)?,
+        agent: table_of(alloc, AGENT_SHEET)?,
         table: build(alloc, &author.styles)?,
-        author,
+        author: RuleTable::new(alloc, author)?,
     }))
 }
 

@@ -1,6 +1,12 @@
 pub mod Appending
 pub mod Ascii
+pub mod CandidateLaws
 pub mod Candidates
+pub mod FilingLaws
 pub mod GreatestLaws
+pub mod Members
 pub mod Ordering
+pub mod Places
+pub mod ShelfLaws
+pub mod SlotLaws
 pub mod Winning

@@ -6,3 +6,5 @@ pub mod Hints
 pub mod StyleAttributes
 pub mod Declarations
 pub mod Styles
+pub mod RuleTables
+pub mod Machinery

@@ -1,6 +1,7 @@
 //! Which declarations apply to an element and to its pseudo-elements.
 
-ghost use Rattle.std.specs.Prelude.{◌≡◌, ◌++◌, IfOk, OnOk, Some, flat_map};
+ghost use Rattle.std.specs.Prelude.{◌≡◌, ◌++◌, IfOk, OnOk, Some, flat_map, map};
+ghost use Rattle.std.specs.Map.Iter.{deref};
 ghost use Rattle.forest.specs.Spots.{IsLive};
 ghost use Rattle.plain_types.specs.declared.selector_parts.PseudoElement.TheVariants as pseudo;
 ghost use Rattle.mini_cascade.specs.Declarations.{is_same, counts_for, declared_with, hinted, attached, selects, specificity_in, declared_in, applied};
@@ -11,11 +12,13 @@ ghost use Rattle.selectors.specs.Specificity.{is_less};
 
 use crate::candidate::Candidates;
 use crate::rank::{Attachment, Level, Origin, Rank, cascade_level};
+use crate::rule_table::{RuleTable, table_misses_no_rule};
+use node_arena::laws::arena_holds_document;
 use plain_types::declaration::{Declaration, Declared};
 use plain_types::memory::Memory;
 use plain_types::selector::Selector;
 use plain_types::selector_parts::PseudoElement;
-use plain_types::sheet::{Sheet, StyleRule};
+use plain_types::sheet::StyleRule;
 use selector_match::matching::matches;
 use selector_match::siblings::Siblings;
 use selectors::counting::specificity;
@@ -164,13 +167,13 @@ fn add_rules<'a>(
     siblings: &Siblings<'_>,
     key: usize,
     origin: Origin,
-    rules: &'a [StyleRule],
+    rules: &[&'a StyleRule],
 ) -> Result<(), Memory>
     requires { IsLive siblings.now key }
-    ensures own { OnOk result (lists.new.own ≡ lists.old.own ++ flat_map (declared_in siblings.now key pseudo.Own origin) rules.now) }
-    ensures marker { OnOk result (lists.new.marker ≡ lists.old.marker ++ flat_map (declared_in siblings.now key pseudo.Marker origin) rules.now) }
-    ensures before { OnOk result (lists.new.before ≡ lists.old.before ++ flat_map (declared_in siblings.now key pseudo.Before origin) rules.now) }
-    ensures after { OnOk result (lists.new.after ≡ lists.old.after ++ flat_map (declared_in siblings.now key pseudo.After origin) rules.now) }
+    ensures own { OnOk result (lists.new.own ≡ lists.old.own ++ flat_map (declared_in siblings.now key pseudo.Own origin) (map deref rules.now)) }
+    ensures marker { OnOk result (lists.new.marker ≡ lists.old.marker ++ flat_map (declared_in siblings.now key pseudo.Marker origin) (map deref rules.now)) }
+    ensures before { OnOk result (lists.new.before ≡ lists.old.before ++ flat_map (declared_in siblings.now key pseudo.Before origin) (map deref rules.now)) }
+    ensures after { OnOk result (lists.new.after ≡ lists.old.after ++ flat_map (declared_in siblings.now key pseudo.After origin) (map deref rules.now)) }
 {
     for rule in rules {
         add_rule(
@@ -179,7 +182,7 @@ fn add_rules<'a>(
             key,
             PseudoElement::Own,
             origin,
-            rule,
+            *rule,
         )?;
         add_rule(
             &mut lists.marker,
@@ -187,7 +190,7 @@ fn add_rules<'a>(
             key,
             PseudoElement::Marker,
             origin,
-            rule,
+            *rule,
         )?;
         add_rule(
             &mut lists.before,
@@ -195,7 +198,7 @@ fn add_rules<'a>(
             key,
             PseudoElement::Before,
             origin,
-            rule,
+            *rule,
         )?;
         add_rule(
             &mut lists.after,
@@ -203,10 +206,32 @@ fn add_rules<'a>(
             key,
             PseudoElement::After,
             origin,
-            rule,
+            *rule,
         )?;
     }
     Ok(())
+}
+
+/// Appends what the rules of a sheet declare. Those alone are looked at that the table has for the element.
+fn add_sheet<'a>(
+    alloc: Global,
+    lists: &mut Applicable<'a>,
+    siblings: &Siblings<'_>,
+    key: usize,
+    origin: Origin,
+    table: &'a RuleTable,
+) -> Result<(), Memory>
+    requires { IsLive siblings.now key }
+    ensures own { OnOk result (lists.new.own ≡ lists.old.own ++ flat_map (declared_in siblings.now key pseudo.Own origin) table.now.rules) }
+    ensures marker { OnOk result (lists.new.marker ≡ lists.old.marker ++ flat_map (declared_in siblings.now key pseudo.Marker origin) table.now.rules) }
+    ensures before { OnOk result (lists.new.before ≡ lists.old.before ++ flat_map (declared_in siblings.now key pseudo.Before origin) table.now.rules) }
+    ensures after { OnOk result (lists.new.after ≡ lists.old.after ++ flat_map (declared_in siblings.now key pseudo.After origin) table.now.rules) }
+{
+    let arena = siblings.arena();
+    table_misses_no_rule();
+    arena_holds_document(arena);
+    let rules = table.candidates(alloc, arena, key)?;
+    add_rules(lists, siblings, key, origin, rules.as_slice())
 }
 
 /// The declarations that apply, where these are the element's hints and those of its `style` attribute.
@@ -214,9 +239,9 @@ pub(crate) fn collect<'a>(
     alloc: Global,
     siblings: &Siblings<'_>,
     key: usize,
-    agent: &'a Sheet,
+    agent: &'a RuleTable,
     hints: &'a [Declaration],
-    author: &'a Sheet,
+    author: &'a RuleTable,
     inline: &'a [Declared],
 ) -> Result<Applicable<'a>, Memory>
     requires live { IsLive siblings.now key }
@@ -233,21 +258,9 @@ pub(crate) fn collect<'a>(
         before: Candidates::new(alloc),
         after: Candidates::new(alloc),
     };
-    add_rules(
-        &mut lists,
-        siblings,
-        key,
-        Origin::UserAgent,
-        agent.rules.as_slice(),
-    )?;
+    add_sheet(alloc, &mut lists, siblings, key, Origin::UserAgent, agent)?;
     add_hints(&mut lists.own, hints)?;
-    add_rules(
-        &mut lists,
-        siblings,
-        key,
-        Origin::Author,
-        author.rules.as_slice(),
-    )?;
+    add_sheet(alloc, &mut lists, siblings, key, Origin::Author, author)?;
     add_attached(&mut lists.own, inline)?;
     Ok(lists)
 }

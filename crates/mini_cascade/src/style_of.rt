@@ -8,9 +8,9 @@ ghost use Rattle.mini_cascade.specs.Styles.{element_style, styles_under};
 use crate::applicable::{Applicable, collect};
 use crate::defaulting::{initial_values, style_under};
 use crate::hints::hints;
+use crate::rule_table::RuleTable;
 use plain_types::declaration::Declared;
 use plain_types::memory::Memory;
-use plain_types::sheet::Sheet;
 use plain_types::style::{ElementStyle, Style};
 use selector_match::siblings::Siblings;
 use std::alloc::Global;
@@ -45,13 +45,14 @@ fn styles_under<'a>(
 /// of the element's parent, and `None` for the root, which inherits initial values. One step is counted, also
 /// where the answer is `Memory`.
 ///
-/// Each selector is matched once; declarations of rules that do not match are not looked at. Counts of siblings that
-/// the matching asked for are kept for later calls.
+/// Of the rules those alone are looked at that their tables have for the element, and each of their selectors is matched
+/// once; declarations of rules that do not match are not looked at. Counts of siblings that the matching asked for are
+/// kept for later calls.
 pub fn style_of<L: Ledger>(
     alloc: Global,
     siblings: &mut Siblings<'_>,
-    agent: &Sheet,
-    author: &Sheet,
+    agent: &RuleTable,
+    author: &RuleTable,
     inline: &[Declared],
     parent: Option<&Style>,
     key: usize,

@@ -111,7 +111,7 @@ split-step c cs is =
           ])
     ]
 
-parts-encode : (cs : List ℕ) → parts (encode_utf8_all cs) ≡ map encode_utf8_all (parts cs)
+pub parts-encode : (cs : List ℕ) → parts (encode_utf8_all cs) ≡ map encode_utf8_all (parts cs)
 parts-encode [] = refl
 parts-encode (c ∷ cs) = split-step c cs (parts-encode cs)
 

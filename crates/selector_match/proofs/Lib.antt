@@ -1,12 +1,12 @@
-mod TextLaws
+pub mod TextLaws
 mod SeatLaws
-mod StandingLaws
+pub mod StandingLaws
 mod EmptyLaws
-mod FoldLaws
-mod Encoding
-mod AttributeLaws
+pub mod FoldLaws
+pub mod Encoding
+pub mod AttributeLaws
 mod PositionLaws
 mod ChainLaws
-mod StepLaws
+pub mod StepLaws
 mod WalkLaws
 mod CountLaws

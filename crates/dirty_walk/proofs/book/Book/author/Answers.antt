@@ -6,5 +6,5 @@ use Rattle.dirty_walk.proofs.book.Book.author.Goals as goal
 
 pub returns : goal.returns
 returns c = record {
-  sheet = its_author c.self.inside.styles c.self.inside.styles.sheet c.self.inside.arena.tree c.self.invariant.styles_are ∙ ap (λ (styled : StyledDocument). author_sheet styled.sheet styled.tree) c.self.view_is;
+  sheet = c.sheet.ensures.sheet ∙ its_author c.self.inside.styles c.self.inside.styles.sheet c.self.inside.arena.tree c.self.invariant.styles_are ∙ ap (λ (styled : StyledDocument). author_sheet styled.sheet styled.tree) c.self.view_is;
 }

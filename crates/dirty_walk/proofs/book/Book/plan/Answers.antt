@@ -1,4 +1,4 @@
-use Rattle.std.proofs.Common.{◌≡◌, ◌⊎◌, ◌∙◌, ◌≤◌, ◌+◌, true, false, None, IfSome, refl, unwrap_or, ap, sym, subst, arith, inr, length, List, ℕ}
+use Rattle.std.proofs.Common.{◌≡◌, ◌⊎◌, ◌∙◌, ◌≤◌, ◌+◌, ◌*◌, true, false, None, IfSome, refl, unwrap_or, ap, sym, subst, arith, inr, length, List, ℕ}
 use Rattle.std.specs.Prelude.{IfNone}
 use Rattle.std.specs.FinMap.{FinMap, get}
 use Rattle.std.specs.Option.{is_none}
@@ -232,7 +232,7 @@ returns-in-Ok-clause-within_work g c =
     omega (arith, ap length (c.as_slice.ensures.items ∙ taken), taken_count c.args.edit.now old) in
     subst
     (λ (styled : StyledDocument).
-    IsWithinWork c.args.edit.now (keyed_source styled) (record { tree = tree; sheet = c.replace_styles.new.styles.sheet }) c.args.steps.now (c.evaluated.new.steps + (length puts + length takes)))
+    IsWithinWork c.args.edit.now (keyed_source styled) (record { tree = tree; sheet = c.replace_styles.new.styles.sheet }) c.args.steps.now (c.evaluated.new.steps + ((length puts + length takes) + length puts)))
     c.self.view_is
     (within_work c.args.edit.now c.self.inside.styles c.self.inside.board.held old tree c.in_ok-gone.field-0.stops
     c.self.invariant.styles_are done (c.self.invariant.kept none)
@@ -240,7 +240,7 @@ returns-in-Ok-clause-within_work g c =
     (record { takes = c.as_slice.result; former = c.as_slice-2.result })
     (subst (λ (former : List FormerTarget). AreFormerTargetsOf c.args.edit.now old former) (sym c.as_slice-2.ensures.items) (ahead_of (λ styled. AreFormerTargetsOf c.args.edit.now styled.tree c.in_ok-gone.field-0.former) _ _ c.self.view_is c.in_ok-gone.ensures.former))
     (omega (arith, ap length (c.as_slice.ensures.items ∙ taken), taken_gone c.args.edit.now old tree))
-    c.args.steps.now (c.evaluated.new.steps + length puts) (length takes) (c.evaluated.new.steps + (length puts + length takes))
+    c.args.steps.now (c.evaluated.new.steps + 2 * length puts) (length takes) (c.evaluated.new.steps + ((length puts + length takes) + length puts))
     (ahead_of (λ styled. IfSome c.in_ok-gone.field-0.stops (λ _. is_unstarted (author_sheet styled.sheet styled.tree) styled.tree ≡ true)) _ _ c.self.view_is c.in_ok-gone.ensures.unstarted) (ahead_of (λ styled. IfSome c.in_ok-gone.field-0.stops (λ local. local.extent ≡ reach (looks_beside styled.sheet styled.tree) styled.tree c.args.edit.now)) _ _ c.self.view_is c.in_ok-gone.ensures.extent) c.in_ok-gone.ensures.local (ahead_of (λ styled. IfSome c.in_ok-gone.field-0.stops (λ local. local.stops.items ≡ reach_stops local.extent c.args.edit.now 0 styled.tree)) _ _ c.self.view_is c.in_ok-gone.ensures.stops) (ahead_of (λ styled. IfNone c.in_ok-gone.field-0.stops ((is_unstarted (author_sheet styled.sheet styled.tree) styled.tree ≡ false) ⊎ (reach (looks_beside styled.sheet styled.tree) styled.tree c.args.edit.now ≡ All))) _ _ c.self.view_is c.in_ok-gone.ensures.none)
     c.in-Ok.ensures.few
     (omega (arith, ap length taken, taken_gone c.args.edit.now old tree))
