@@ -9,3 +9,4 @@ pub mod PutCauses
 pub mod ShownLines
 pub mod ChapterWalks
 pub mod ShownChapters
+pub mod RekeyedWork

@@ -12,7 +12,7 @@ use Rattle.book_definitions.specs.Lines.{chapter_dump}
 use Rattle.book_refs.specs.ShowWork.{chapter_work}
 use Rattle.book_refs.proofs.VolumeLemmas.{all_at, of_chapter}
 
-keys_apart : (volume : List Chapter) → AllByRecursion (λ (chapter : Chapter). IsKeyedDocument chapter.document) volume → HaveDistinctKeys volume
+pub keys_apart : (volume : List Chapter) → AllByRecursion (λ (chapter : Chapter). IsKeyedDocument chapter.document) volume → HaveDistinctKeys volume
 keys_apart [] all = tt
 keys_apart (chapter ∷ chapters) all = (all.0.distinct, keys_apart chapters all.1)
 

@@ -2,4 +2,5 @@ pub mod Volumes
 pub mod Given
 pub mod Edited
 pub mod ShowWork
+pub mod Laws
 pub mod Machinery

@@ -1,5 +1,5 @@
 -- How much work it is to show a chapter of a volume (our own): in elements, and in pieces with urls.
-use Rattle.std.specs.Prelude.{ℕ, ◌+◌, List, Option, count_by, sum_by}
+use Rattle.std.specs.Prelude.{ℕ, ◌+◌, List, Option, count_by, map, sum_by}
 use Rattle.std.specs.Option.{option_map_or}
 use Rattle.forest.specs.Forest.{weigh}
 use Rattle.forest.specs.Keys.{Keyed}
@@ -11,6 +11,7 @@ use Rattle.box_pieces.specs.BoxPieces.{has_url}
 use Rattle.generated_texts.specs.References.{kept_at}
 use Rattle.book_definitions.specs.Aims.{target}
 use Rattle.book_definitions.specs.Chapters.{Chapter, chapter_records}
+use Rattle.book_definitions.specs.Fresh.{ChapterSource, numbered_chapter}
 use Rattle.book_definitions.specs.Texts.{url_of}
 
 -- how many pieces of a box have a url
@@ -44,3 +45,7 @@ module _ (volume : List Chapter) (own : Chapter) where
   -- of all elements of the chapter
   abbrev pub chapter_work : ℕ
   chapter_work = weigh (λ (node : Keyed Node). option_map_or element_work (kept_at (chapter_records own) node.key) 0) own.document
+
+-- the same of a chapter of a volume whose nodes have no keys
+abbrev pub fresh_chapter_work : List ChapterSource → ChapterSource → ℕ
+fresh_chapter_work volume own = chapter_work (map numbered_chapter volume) (numbered_chapter own)

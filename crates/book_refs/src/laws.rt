@@ -1,6 +1,7 @@
-//! What holds of every volume. The function does nothing: its contract is a law.
+//! What holds of every volume. The functions do nothing: each contract is a law.
 
 ghost use Rattle.book_definitions.specs.Chapters.{IsVolume};
+ghost use Rattle.book_refs.specs.Laws.{WorkIsThatOfTheTrees};
 
 use crate::volume::Volume;
 
@@ -10,3 +11,9 @@ pub fn volume_holds_chapters(volume: &Volume)
 {
     let _chapters = &volume.chapters;
 }
+
+/// Whichever distinct keys the nodes of the documents have, showing a chapter is as much work as in the volume of the
+/// documents without keys.
+pub fn work_is_that_of_the_trees()
+    ensures work { WorkIsThatOfTheTrees }
+{}

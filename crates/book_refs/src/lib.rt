@@ -12,7 +12,8 @@
 //! knows this crate by `MakeVolume` and `given_source` of `specs/Given.antt`: of which chapters a volume can be made, and what
 //! each is made of; by `IsEditedAt` of `specs/Edited.antt`: what an edit makes of a volume; by `place_named` of
 //! `specs/Volumes.antt`; by `fresh_chapter_dump` of `book_definitions`: the dump of a chapter in a fresh evaluation of its
-//! volume; and by `chapter_work` of `specs/ShowWork.antt`: how much work it is to show one.
+//! volume; and by `chapter_work` and `fresh_chapter_work` of `specs/ShowWork.antt`: how much work it is to show one, where nodes
+//! have keys, and of documents without them. That both are the same is a law ([`laws`]).
 //!
 //! ```text
 //! let mut volume = Volume::begin(alloc, chapters, steps)?;          // of the names a and b

@@ -1,10 +1,12 @@
 -- What is known of an engine and its book while an edit is done.
-use Rattle.std.proofs.Common.{◌≡◌, ◌∙◌, ℕ, Option, None, IfOk, ap, sym, subst}
+use Rattle.std.proofs.Common.{◌≡◌, ◌≤◌, ◌∙◌, ℕ, Option, None, IfOk, ap, arith, sym, subst}
 use Rattle.dirty_walk.specs.declared.plan.Plan.{Plan}
 use Rattle.dirty_walk.specs.Books.{StyledDocument}
 use Rattle.dirty_walk.specs.PlannedEntries.{IsPlannedFrom}
 use Rattle.dirty_walk.specs.Plans.{IsPlannedBy, settled_after}
+use Rattle.dirty_walk.specs.WorkBounds.{IsWithinWork}
 use Rattle.edit_merge.specs.Laws.{InsertsOneTree}
+use Rattle.edit_work.specs.KeyedSources.{KeyedSource}
 use Rattle.node_arena.specs.Document.{IsKeyedDocument}
 use Rattle.forest.specs.Forest.{Forest}
 use Rattle.forest.specs.Keys.{Keyed, without_keys}
@@ -33,6 +35,10 @@ pub allowed_by : (edit : Edit) (old told : StyledDocument) (bound : ℕ → ℕ 
 allowed_by edit old told bound allowed view within =
     rw (edited, allowed)
     (subst (λ (styled : StyledDocument). bound (element_count (edits.edited edit (without_keys styled.tree))) (element_count (without_keys styled.tree))) view within)
+
+-- fewer steps are within the work of an edit too
+pub fewer_within_work : (edit : Edit) (before after : KeyedSource) (from now more : ℕ) → now ≤ more → IsWithinWork edit before after from more → IsWithinWork edit before after from now
+fewer_within_work edit before after from now more few within paid = omega (arith, few, within paid)
 
 -- the plan of an edit that is allowed is that of the edit
 pub planned_from : (edit : Edit) (old book : StyledDocument) (plan : Plan) (before after : Forest (Keyed Node)) → IsKeyedDocument before → before ≡ old.tree → IsKeyedDocument after → after ≡ book.tree

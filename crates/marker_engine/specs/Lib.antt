@@ -1,4 +1,3 @@
 pub mod Census
 pub mod Edited
 pub mod Engines
-pub mod Telling

@@ -15,7 +15,6 @@ ghost use Rattle.document_walk.specs.Elements.{element_count};
 ghost use Rattle.marker_engine.specs.Census.{box_count, saturated};
 ghost use Rattle.marker_engine.specs.Edited.{edited, edit_fault};
 ghost use Rattle.marker_engine.specs.Engines.{source_of};
-ghost use Rattle.marker_engine.specs.Telling.{TellsWithinWork};
 
 use crate::census::{Census, census_of};
 use crate::edit_fault::EditFault;
@@ -91,12 +90,12 @@ impl Engine {
     /// Does an edit. After a fault the document, its keys, the sheet and what is kept are as before, and a refused edit
     /// counts no step.
     ///
-    /// Where no element asks for a start or holds a reference, before the edit and after it, only what the edit touches is
-    /// evaluated anew, and the elements whose styles it can change. Else, and where it can change styles everywhere, the
-    /// edited document is evaluated whole, as `start` does it; where only the walk from the edit's place finds that an
-    /// element asks or refers, that walk comes on top. In the first case, and where the edit can change styles everywhere,
-    /// its work bounds its steps, after `Memory` too. Beside that come the calls of the arena by which the edit is done. An
-    /// entry that is another is put, and one whose element goes is taken.
+    /// Where no element asks for a start, before the edit and after it, only what the edit touches is evaluated anew, and
+    /// the elements whose styles it can change; and the texts of what refers to these are made again. Else, and where it can
+    /// change styles everywhere, the edited document is evaluated whole, as `start` does it; where only the walk from the
+    /// edit's place finds that an element asks, that walk comes on top. In the first case, and where the edit can change
+    /// styles everywhere, its work bounds its steps, after `Memory` too. Beside that come the calls of the arena by which
+    /// the edit is done. An entry that is another is put, and one whose element goes is taken.
     pub fn apply<L: Ledger>(
         &mut self,
         alloc: Global,
@@ -127,8 +126,9 @@ impl Engine {
     /// `apply`. Where it was done and memory was wanting for its lines alone, it stays done, and they are not told.
     ///
     /// Beside what `apply` takes it is one step at most for each entry that comes, and memory linear in the number of these
-    /// entries and in the lines. It takes time linear in the nodes from the first element to the last of which another entry
-    /// comes, in the texts of these elements, and for each of them in the greatest depth of any.
+    /// entries and in the lines. Where its work bounds the steps of `apply`, the same bound holds with these. It takes time linear in
+    /// the nodes from the first element to the last of which another entry comes, in the texts of these elements, and for each of
+    /// them in the greatest depth of any.
     pub fn apply_and_tell<L: Ledger>(
         &mut self,
         alloc: Global,
@@ -142,7 +142,7 @@ impl Engine {
         ensures refused { IfErr (edited (source_of self.old) edit.now) (λ fault. result ≡ Err (edit_fault fault)) }
         ensures memory { IfOk (edited (source_of self.old) edit.now) (λ _. IfErr result (λ fault. fault ≡ faults.Memory)) }
         ensures failed { OnErr result (self.new ≡ self.old) }
-        ensures within_work { OnOk result (TellsWithinWork edit.now (keyed_source self.old) (keyed_source self.new) steps.old steps.new) }
+        ensures within_work { OnOk result (IsWithinWork edit.now (keyed_source self.old) (keyed_source self.new) steps.old steps.new) }
         ensures stops_within_work { OnErr result (StopsWithinWork edit.now (keyed_source self.old) steps.old steps.new) }
         ensures steps { IfOk (edited (source_of self.old) edit.now) (λ source. steps.new ≤ steps.old + (14 * element_count source.tree + 3 * element_count (source_of self.old).tree)) }
         ensures no_steps { IfErr (edited (source_of self.old) edit.now) (λ _. steps.new ≡ steps.old) }

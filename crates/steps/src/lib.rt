@@ -10,9 +10,9 @@
 //! The number has no end, so it never saturates and never wraps.
 //!
 //! No library body can count privately, with steps that its contract doesn't show. A count is opened
-//! with a `&HostRuntime`, and only `main` and tests have one: its field is private, and no function
-//! makes it. Two counts are never mistaken for one another either: `L` names the ledger that a count
-//! belongs to.
+//! with a `&HostRuntime`, which only `main` and tests have, or with a [`CallFromC`], which only a
+//! function that C calls is given: the fields of both are private, and no function makes either. Two
+//! counts are never mistaken for one another either: `L` names the ledger that a count belongs to.
 //!
 //! ```
 //! fn settle<L: Ledger>(steps: &mut Steps<L>) -> usize
@@ -40,6 +40,13 @@ ghost use Rattle.std.specs.Prelude.{◌≡◌, ℕ, ◌+◌, ◌<◌};
 use std::marker::Model;
 use std::sync::ledger::{Blank, Book, Ledger, Share};
 
+/// The leave to open a count that a call from C brings. It takes no bytes, so C passes nothing for it.
+#[repr(C)]
+#[derive(Drop)]
+pub struct CallFromC {
+    seal: (),
+}
+
 /// How many steps were taken since it was opened. Only `tick` changes it.
 #[derive(Drop)]
 pub struct Steps<L: Ledger> {
@@ -59,6 +66,26 @@ impl<L: Ledger> Steps<L> {
     /// A count that stands at 0. The blank is used up, so that a ledger has one count. The runtime is
     /// only the leave to open one.
     pub fn open(_rt: &HostRuntime, blank: Blank) -> Steps<L>
+        requires name { blank.name ≡ L.name }
+        requires parts { blank.parts ≡ L.parts }
+        requires some { 0 < L.parts }
+        ensures zero { result ≡ 0 }
+    {
+        Steps::of(blank)
+    }
+
+    /// A count that stands at 0, for a call from C. The blank and the leave are used up, so that one
+    /// call opens one count.
+    pub fn open_for_c(_leave: CallFromC, blank: Blank) -> Steps<L>
+        requires name { blank.name ≡ L.name }
+        requires parts { blank.parts ≡ L.parts }
+        requires some { 0 < L.parts }
+        ensures zero { result ≡ 0 }
+    {
+        Steps::of(blank)
+    }
+
+    fn of(blank: Blank) -> Steps<L>
         requires name { blank.name ≡ L.name }
         requires parts { blank.parts ≡ L.parts }
         requires some { 0 < L.parts }

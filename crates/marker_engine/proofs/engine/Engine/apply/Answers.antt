@@ -1,9 +1,9 @@
-use Rattle.std.proofs.Common.{◌≤◌, ◌+◌, ◌*◌, ℕ, ap, arith, inl, refl, sym, subst}
+use Rattle.std.proofs.Common.{◌≤◌, ◌+◌, ◌*◌, ap, arith, inl, refl, sym, subst}
 use Rattle.dirty_walk.specs.Books.{StyledDocument}
 use Rattle.dirty_walk.specs.Plans.{settled_after}
 use Rattle.dirty_walk.specs.WorkBounds.{IsWithinWork, StopsWithinWork, keyed_source}
 use Rattle.ports.proofs.GrownLemmas.{on_err}
-use Rattle.marker_engine.proofs.ApplyLemmas.{allowed_by, no_fault, same_evaluated}
+use Rattle.marker_engine.proofs.ApplyLemmas.{allowed_by, fewer_within_work, no_fault, same_evaluated}
 use Rattle.marker_engine.proofs.engine.Engine.apply.Goals as goal
 
 pub returns-in-Some-clause-keeps : goal.returns-in-Some-clause-keeps
@@ -43,5 +43,5 @@ pub returns-clause-within_work : goal.returns-clause-within_work
 returns-clause-within_work g c =
     subst (λ (old : StyledDocument). IsWithinWork c.args.edit.now (keyed_source old) (keyed_source c.commit.new.self) c.args.steps.now c.commit.new.steps) c.self.view_is
     (subst (λ (new : StyledDocument). IsWithinWork c.args.edit.now (keyed_source c.self.inside.book) (keyed_source new) c.args.steps.now c.commit.new.steps) (sym c.commit.ensures.settled)
-    (subst (λ (now : ℕ). IsWithinWork c.args.edit.now (keyed_source c.self.inside.book) (keyed_source (settled_after c.plan.new.self c.in_ok-plan.plan)) c.args.steps.now now) (sym c.commit.ensures.steps)
-    c.in_ok-plan.ensures.within_work))
+    (fewer_within_work c.args.edit.now (keyed_source c.self.inside.book) (keyed_source (settled_after c.plan.new.self c.in_ok-plan.plan)) c.args.steps.now c.commit.new.steps
+    _ (omega (arith, c.commit.ensures.steps)) c.in_ok-plan.ensures.within_work))

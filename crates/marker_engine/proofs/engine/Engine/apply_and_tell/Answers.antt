@@ -1,12 +1,11 @@
-use Rattle.std.proofs.Common.{◌≤◌, ◌+◌, ◌*◌, ◌∙◌, ℕ, ap, arith, inl, length, refl, sym, subst}
+use Rattle.std.proofs.Common.{◌≤◌, ◌+◌, ◌*◌, ◌∙◌, ap, arith, inl, refl, sym, subst}
 use Rattle.std.proofs.lemmas.Result.{IfOk-weaker}
 use Rattle.dirty_walk.specs.Books.{StyledDocument}
 use Rattle.dirty_walk.specs.Plans.{IsPlannedBy, settled_after}
 use Rattle.dirty_walk.specs.WorkBounds.{IsWithinWork, StopsWithinWork, keyed_source}
 use Rattle.changed_lines.specs.Changes.{changed_lines}
 use Rattle.ports.proofs.GrownLemmas.{on_err}
-use Rattle.marker_engine.specs.Telling.{TellsWithinWork}
-use Rattle.marker_engine.proofs.ApplyLemmas.{allowed_by, no_fault, planned_from, same_evaluated}
+use Rattle.marker_engine.proofs.ApplyLemmas.{allowed_by, fewer_within_work, no_fault, planned_from, same_evaluated}
 use Rattle.marker_engine.proofs.engine.Engine.apply_and_tell.Goals as goal
 
 pub returns-in-Some-clause-keeps : goal.returns-in-Some-clause-keeps
@@ -44,15 +43,10 @@ returns-in_err-plan-clause-stops_within_work g c =
 
 pub returns-clause-within_work : goal.returns-clause-within_work
 returns-clause-within_work g c =
-    subst (λ (old : StyledDocument). TellsWithinWork c.args.edit.now (keyed_source old) (keyed_source c.commit.new.self) c.args.steps.now c.commit.new.steps) c.self.view_is
-    (subst (λ (new : StyledDocument). TellsWithinWork c.args.edit.now (keyed_source c.self.inside.book) (keyed_source new) c.args.steps.now c.commit.new.steps) (sym c.commit.ensures.settled)
-    (record {
-      entries = length c.in_ok-plan.plan.puts.items;
-      others = c.plan.new.steps + length c.in_ok-plan.plan.takes;
-      within = subst (λ (now : ℕ). IsWithinWork c.args.edit.now (keyed_source c.self.inside.book) (keyed_source (settled_after c.plan.new.self c.in_ok-plan.plan)) c.args.steps.now now)
-          (omega arith) c.in_ok-plan.ensures.within_work;
-      told = omega (arith, c.changed_lines-told.ensures.steps, c.commit.ensures.steps);
-    }))
+    subst (λ (old : StyledDocument). IsWithinWork c.args.edit.now (keyed_source old) (keyed_source c.commit.new.self) c.args.steps.now c.commit.new.steps) c.self.view_is
+    (subst (λ (new : StyledDocument). IsWithinWork c.args.edit.now (keyed_source c.self.inside.book) (keyed_source new) c.args.steps.now c.commit.new.steps) (sym c.commit.ensures.settled)
+    (fewer_within_work c.args.edit.now (keyed_source c.self.inside.book) (keyed_source (settled_after c.plan.new.self c.in_ok-plan.plan)) c.args.steps.now c.commit.new.steps
+    _ (omega (arith, c.changed_lines-told.ensures.steps, c.commit.ensures.steps)) c.in_ok-plan.ensures.within_work))
 
 pub changed_lines-told-requires : goal.changed_lines-told-requires
 changed_lines-told-requires g c = record {
