@@ -39,10 +39,15 @@ use std::sync::ledger::Ledger;
 use steps::Steps;
 
 /// A chapter, whose document is evaluated under its sheet as if it stood alone.
-#[derive(Drop)]
 pub(crate) struct EvaluatedChapter {
     name: Text,
     engine: Engine,
+}
+
+impl Drop for EvaluatedChapter {
+    fn drop(self) {
+        let EvaluatedChapter { name: _, engine: _ } = self;
+    }
 }
 
 impl Model for EvaluatedChapter {

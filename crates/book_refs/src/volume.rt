@@ -31,9 +31,14 @@ use steps::Steps;
 
 /// Several documents, each a chapter with a name and a sheet of its own, and each evaluated as if it stood alone. Contracts
 /// see the list of the chapters, whose nodes have keys.
-#[derive(Drop)]
 pub struct Volume {
     pub(crate) chapters: Vec<EvaluatedChapter>,
+}
+
+impl Drop for Volume {
+    fn drop(self) {
+        let Volume { chapters: _ } = self;
+    }
 }
 
 impl Model for Volume {

@@ -4,7 +4,6 @@ use crate::made::Made;
 use counter_sets::counter_set::CounterSet;
 
 /// An element of an evaluated document. One without a box has empty sets, depths of 0 and no boxes.
-#[derive(Drop)]
 pub struct ElementRecord {
     pub has_box: bool,
     /// Its own box's counters.
@@ -18,4 +17,19 @@ pub struct ElementRecord {
     pub marker: Option<Made>,
     pub before: Option<Made>,
     pub after: Option<Made>,
+}
+
+impl Drop for ElementRecord {
+    fn drop(self) {
+        let ElementRecord {
+            has_box: _,
+            own: _,
+            exit: _,
+            depth_before: _,
+            depth_after: _,
+            marker: _,
+            before: _,
+            after: _,
+        } = self;
+    }
 }

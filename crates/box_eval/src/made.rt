@@ -7,9 +7,18 @@ use plain_types::list::List;
 
 /// A marker, before or after box: its counters once its content is used, the pieces of its text, and what
 /// it does to counters.
-#[derive(Drop)]
 pub struct Made {
     pub set: CounterSet,
     pub pieces: List<Piece>,
     pub changes: List<Change>,
+}
+
+impl Drop for Made {
+    fn drop(self) {
+        let Made {
+            set: _,
+            pieces: _,
+            changes: _,
+        } = self;
+    }
 }

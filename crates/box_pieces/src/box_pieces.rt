@@ -16,11 +16,20 @@ use plain_types::memory::Memory;
 use std::alloc::Global;
 
 /// The pieces of an element's marker, before and after box, where it has them.
-#[derive(Drop)]
 pub struct BoxPieces {
     pub marker: Option<List<Piece>>,
     pub before: Option<List<Piece>>,
     pub after: Option<List<Piece>>,
+}
+
+impl Drop for BoxPieces {
+    fn drop(self) {
+        let BoxPieces {
+            marker: _,
+            before: _,
+            after: _,
+        } = self;
+    }
 }
 
 fn is_reference(piece: &Piece) -> bool

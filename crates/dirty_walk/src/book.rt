@@ -66,7 +66,6 @@ use target_index::index::Index;
 /// evaluation keeps of each element. Each sheet is read once.
 ///
 /// Where an edit is planned the document and the styles are the edited ones already, and only `commit` may follow.
-#[derive(Drop)]
 pub struct Book {
     arena: Arena,
     /// The user agent's sheet.
@@ -80,6 +79,20 @@ pub struct Book {
     is_unstarted: bool,
     /// The way back from an edit that is planned.
     planned: Option<Reversal>,
+}
+
+impl Drop for Book {
+    fn drop(self) {
+        let Book {
+            arena: _,
+            agent: _,
+            styles: _,
+            board: _,
+            index: _,
+            is_unstarted: _,
+            planned: _,
+        } = self;
+    }
 }
 
 impl Model for Book {

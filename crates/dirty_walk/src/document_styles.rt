@@ -17,7 +17,6 @@ use plain_types::text::Text;
 use std::alloc::Global;
 
 /// The texts of the author of a document, and what they say together.
-#[derive(Drop)]
 pub(crate) struct DocumentStyles {
     /// The text of the document's sheet.
     pub(crate) sheet: Text,
@@ -29,6 +28,18 @@ pub(crate) struct DocumentStyles {
     pub(crate) features: Features,
     /// The counter styles under it.
     pub(crate) table: Table,
+}
+
+impl Drop for DocumentStyles {
+    fn drop(self) {
+        let DocumentStyles {
+            sheet: _,
+            texts: _,
+            author: _,
+            features: _,
+            table: _,
+        } = self;
+    }
 }
 
 /// The sheet of a text, and behind it those of others.

@@ -25,7 +25,6 @@ impl BoxText {
 }
 
 /// What is kept of an element. One without a box has empty sets, depths of 0 and no texts.
-#[derive(Drop)]
 pub struct NodeEntry {
     pub has_box: bool,
     /// Its own box's counters.
@@ -39,6 +38,21 @@ pub struct NodeEntry {
     pub marker: Option<BoxText>,
     pub before: Option<BoxText>,
     pub after: Option<BoxText>,
+}
+
+impl Drop for NodeEntry {
+    fn drop(self) {
+        let NodeEntry {
+            has_box: _,
+            own: _,
+            exit: _,
+            depth_before: _,
+            depth_after: _,
+            marker: _,
+            before: _,
+            after: _,
+        } = self;
+    }
 }
 
 impl NodeEntry {

@@ -8,12 +8,21 @@ use generated_texts::entry::NodeEntry;
 use surroundings::walked::Walked;
 
 /// What is kept of an element: its entry, what a walk reads that does not come to it, and what its texts are made from again.
-#[derive(Drop)]
 pub struct Kept {
     pub entry: NodeEntry,
     pub walked: Walked,
     /// The pieces of its boxes, where one of them has a url.
     pub pieces: Option<BoxPieces>,
+}
+
+impl Drop for Kept {
+    fn drop(self) {
+        let Kept {
+            entry: _,
+            walked: _,
+            pieces: _,
+        } = self;
+    }
 }
 
 impl Kept {

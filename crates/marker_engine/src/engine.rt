@@ -36,9 +36,14 @@ use std::sync::ledger::Ledger;
 use steps::Steps;
 
 /// A document and the text of its style sheet, evaluated.
-#[derive(Drop)]
 pub struct Engine {
     book: Book,
+}
+
+impl Drop for Engine {
+    fn drop(self) {
+        let Engine { book: _ } = self;
+    }
 }
 
 impl Model for Engine {

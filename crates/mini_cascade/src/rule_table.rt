@@ -16,10 +16,18 @@ use std::marker::Model;
 
 /// A sheet, whose rules are filed by the ids, classes and names that the last compounds of their selectors ask for. A
 /// clause sees the sheet.
-#[derive(Drop)]
 pub struct RuleTable {
     sheet: Sheet,
     shelves: Shelves,
+}
+
+impl Drop for RuleTable {
+    fn drop(self) {
+        let RuleTable {
+            sheet: _,
+            shelves: _,
+        } = self;
+    }
 }
 
 impl Model for RuleTable {

@@ -29,10 +29,15 @@ use std::alloc::Global;
 use std::marker::Model;
 
 /// A document whose nodes are named by keys that stay.
-#[derive(Drop)]
 pub struct Arena {
     pub(crate) nodes: Slab<Entry>,
     pub(crate) root: usize,
+}
+
+impl Drop for Arena {
+    fn drop(self) {
+        let Arena { nodes: _, root: _ } = self;
+    }
 }
 
 impl Model for Arena {

@@ -94,7 +94,6 @@ impl Duplicate for StyleDef {
 }
 
 /// A finished counter style: no descriptor is missing, and `extends` is resolved.
-#[derive(Drop)]
 pub struct CounterStyle {
     pub name: Text,
     pub system: System,
@@ -113,6 +112,25 @@ pub struct CounterStyle {
     /// .. and with which symbol.
     pub pad: Text,
     pub fallback: Text,
+}
+
+impl Drop for CounterStyle {
+    fn drop(self) {
+        let CounterStyle {
+            name: _,
+            system: _,
+            symbols: _,
+            weights: _,
+            before: _,
+            after: _,
+            prefix: _,
+            suffix: _,
+            ranges: _,
+            width: _,
+            pad: _,
+            fallback: _,
+        } = self;
+    }
 }
 
 impl Duplicate for CounterStyle {

@@ -57,9 +57,18 @@ pub struct Compound {
 
 /// A complex selector: compounds with the combinators between them, from the first to the last, and the
 /// pseudo-element at its end.
-#[derive(Drop)]
 pub struct Selector {
     pub compounds: List<Compound>,
     pub joins: List<Join>,
     pub pseudo: PseudoElement,
+}
+
+impl Drop for Selector {
+    fn drop(self) {
+        let Selector {
+            compounds: _,
+            joins: _,
+            pseudo: _,
+        } = self;
+    }
 }

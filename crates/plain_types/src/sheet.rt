@@ -6,17 +6,33 @@ use crate::list::List;
 use crate::selector::Selector;
 
 /// A style rule: its selectors and its declarations, in their order.
-#[derive(Drop)]
 pub struct StyleRule {
     pub selectors: List<Selector>,
     pub declared: List<Declared>,
 }
 
+impl Drop for StyleRule {
+    fn drop(self) {
+        let StyleRule {
+            selectors: _,
+            declared: _,
+        } = self;
+    }
+}
+
 /// A style sheet: its style rules and its counter-style rules, each in their order.
-#[derive(Drop)]
 pub struct Sheet {
     pub rules: List<StyleRule>,
     pub styles: List<StyleDef>,
+}
+
+impl Drop for Sheet {
+    fn drop(self) {
+        let Sheet {
+            rules: _,
+            styles: _,
+        } = self;
+    }
 }
 
 /// What the selectors of a sheet look at beside the element and its ancestors: siblings that stand before it

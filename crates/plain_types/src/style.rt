@@ -106,7 +106,6 @@ impl Duplicate for CounterOp {
 }
 
 /// The properties that make generated texts, of an element or of one of its pseudo-elements.
-#[derive(Drop)]
 pub struct Style {
     pub display: Display,
     pub content: Content,
@@ -121,11 +120,35 @@ pub struct Style {
     pub quotes: Quotes,
 }
 
+impl Drop for Style {
+    fn drop(self) {
+        let Style {
+            display: _,
+            content: _,
+            resets: _,
+            increments: _,
+            assigns: _,
+            list_type: _,
+            quotes: _,
+        } = self;
+    }
+}
+
 /// The styles of an element and of its pseudo-elements `::marker`, `::before` and `::after`.
-#[derive(Drop)]
 pub struct ElementStyle {
     pub own: Style,
     pub marker: Style,
     pub before: Style,
     pub after: Style,
+}
+
+impl Drop for ElementStyle {
+    fn drop(self) {
+        let ElementStyle {
+            own: _,
+            marker: _,
+            before: _,
+            after: _,
+        } = self;
+    }
 }

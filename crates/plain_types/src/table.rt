@@ -16,11 +16,19 @@ use std::marker::Model;
 
 /// The counter styles of a document, under distinct names. `decimal` is among them, and each has the
 /// symbols that its system asks for. Contracts see the list of the styles.
-#[derive(Drop)]
 pub struct Table {
     styles: List<CounterStyle>,
     /// The names of the styles, in their order.
     names: IndexSet<String>,
+}
+
+impl Drop for Table {
+    fn drop(self) {
+        let Table {
+            styles: _,
+            names: _,
+        } = self;
+    }
 }
 
 impl Model for Table {

@@ -8,10 +8,18 @@ use std::alloc::Global;
 
 /// What an element was handed, and what was handed on behind its children. In an element without a box nothing is
 /// handed: there both are none, and `behind` is none for an element that has no box itself.
-#[derive(Drop)]
 pub struct Walked {
     pub handed: Option<Surroundings>,
     pub behind: Option<Surroundings>,
+}
+
+impl Drop for Walked {
+    fn drop(self) {
+        let Walked {
+            handed: _,
+            behind: _,
+        } = self;
+    }
 }
 
 impl Walked {

@@ -16,10 +16,18 @@ use plain_types::memory::Memory;
 use std::alloc::Global;
 
 /// Which elements hold an id, and which refer to one. Elements are named by their keys in an arena.
-#[derive(Drop)]
 pub struct Index {
     holders: Pairs,
     references: Pairs,
+}
+
+impl Drop for Index {
+    fn drop(self) {
+        let Index {
+            holders: _,
+            references: _,
+        } = self;
+    }
 }
 
 impl Index {

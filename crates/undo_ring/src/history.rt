@@ -28,11 +28,20 @@ use std::sync::ledger::Ledger;
 use steps::Steps;
 
 /// A document under its sheet, whose last edits can be undone, and then redone.
-#[derive(Drop)]
 pub struct History {
     pub(crate) engine: Engine,
     undos: HeapCircularBuffer<Edit>,
     redos: HeapCircularBuffer<Edit>,
+}
+
+impl Drop for History {
+    fn drop(self) {
+        let History {
+            engine: _,
+            undos: _,
+            redos: _,
+        } = self;
+    }
 }
 
 impl Model for History {
