@@ -20,6 +20,7 @@ MOST_SECONDS = 60
 LARGEST_SECONDS = 600
 LARGEST_MEMORY = 14 << 30
 EDIT = ("edit", "article.xhtml", "house.css", "script.txt")
+BOOK = ("book", "book.css", "contents.txt", "contents.xhtml", "hive.xhtml", "year.xhtml", "honey.xhtml")
 HERE = os.path.dirname(os.path.abspath(__file__))
 
 # The line on standard error of each status.
@@ -33,6 +34,7 @@ LINES = {
     6: rb"marker: [^\n]*:\d+:\d+: not well-formed\n",
     7: rb"marker: [^\n]*:\d+: bad line\n",
     8: rb"marker: write failed\n",
+    10: rb"marker: [^\n]*:\d+:\d+: not well-formed\n",
 }
 
 Ended = collections.namedtuple("Ended", "status out err")
@@ -210,11 +212,11 @@ def long_run():
 
 
 def requests(number):
-    """Every request for memory of the article's edits, and some of a long script."""
-    whole = read("whole.txt")
-    count, _, _ = calls_of(EDIT)
-    in_turn(failed_jobs("request", EDIT, "FAIL_REQUEST", range(1, count + 1), 1, whole))
-    print(f"  {count} requests of the article's edits")
+    """Every request for memory of the article's edits and of the book's, and some of a long script."""
+    for name, words, whole in ("article", EDIT, read("whole.txt")), ("book", BOOK, read("contents.dump")):
+        count, _, _ = calls_of(words)
+        in_turn(failed_jobs(f"request of the {name}", words, "FAIL_REQUEST", range(1, count + 1), 1, whole))
+        print(f"  {count} requests of the {name}'s edits")
     words = long_run()
     count, _, _ = calls_of(words)
     numbers = spread(number or 100, count)
@@ -342,6 +344,7 @@ def broken(number):
             ("dump", paths["d.xhtml"], paths["s.css"]),
             ("edit", paths["d.xhtml"], paths["s.css"], paths["t.txt"]),
             ("table", paths["s.css"], "z", "-9", "30"),
+            ("book", paths["s.css"], paths["t.txt"], paths["d.xhtml"]),
         ))
 
         def ask(ended):

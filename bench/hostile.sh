@@ -5,7 +5,8 @@
 #   bench/hostile.sh [PROGRAM] [PART[=NUMBER]..]      the repository's program and all parts where none is named
 # The parts:
 #   fronts     every front of a document, of its sheet and of a script
-#   requests   each request for memory of a script's run refused, one at a time; NUMBER of those of a long script (100)
+#   requests   each request for memory of a script's run and of a book's refused, one at a time; NUMBER of those of a long
+#              script (100)
 #   again      a request for memory refused in a test that does 50 edits of 1,000 elements, NUMBER times (100), each
 #              another request: an edit that was refused is done again, and then all is as without the refusal
 #   devices    each read and each write of a script's run failed, one at a time; and files and output byte by byte
@@ -30,5 +31,6 @@ trap 'rm -rf "$work"' EXIT
 cp "$program" "$work/program"
 cp "$here"/crates/marker/data/* "$work"
 cp "$here/crates/marker/stdout" "$work/whole.txt"
+cp "$here"/examples/book/*.* "$work"
 cd "$work"
 PYTHONPATH=$here/bench python3 "$here/bench/hostile.py" "$@"

@@ -1,10 +1,11 @@
-"""Documents of sections with a heading, a list and a reference each, and their sheet, for the scripts beside this file."""
+"""Documents of sections with a heading, a list and a reference each, and their sheet, also without the references, for the
+scripts beside this file."""
 
-SHEET = (
+PLAIN = (
     'body{counter-reset:s}section{counter-increment:s;counter-reset:i}li{counter-increment:i list-item}'
     'h2::before{content:counter(s)". "}li::before{content:counters(i,".")}'
-    'a::after{content:"("target-counter(attr(href),s)")"}'
 )
+SHEET = PLAIN + 'a::after{content:"("target-counter(attr(href),s)")"}'
 
 
 def document(elements):

@@ -1,12 +1,16 @@
 """The examples of README and docs/, as cases for tests/run. These fenced blocks make one:
 
-    sh              a call `./marker WORDS`, as it is written at the top of the repository
+    sh              a call `./marker WORDS`, as it is written at the top of the repository; behind `cd FOLDER &&` it is
+                    called in that folder
     xml, css        a document, and a sheet for it (an empty one where there is none); they hold until the next ones
+    xml NAME        a document of a book
     script          edits of them
     history DEPTH   edits of them, which may be undone
+    book            edits of the documents of the book
 
 and then the block `dump`, with what is printed, or `lines`, with the text view of the document, or `baked`, with the document
-and its generated texts in it, or with what the call prints.
+and its generated texts in it, or with what the call prints. With a call in a folder, each other block whose kind has a name
+shows the file of that name there.
 Each row of the tables that `TABLES` names makes one too, and the table of statuses says which form the line of each status
 has.
 """
@@ -14,9 +18,10 @@ has.
 import re
 import shlex
 
-from rows import Case
+from rows import Case, files_of
 
-BLOCK = re.compile(r"^```(\w+(?: \d+)?)\n(.*?)^```$", re.MULTILINE | re.DOTALL)
+BLOCK = re.compile(r"^```(\w+(?: \S+)?)\n(.*?)^```$", re.MULTILINE | re.DOTALL)
+CALL_IN_FOLDER = re.compile(r"cd (\S+) && (?:\.\./)+marker (.*)\n")
 # Which command prints what a block of this kind has.
 COMMANDS = {"dump": "dump", "lines": "text", "baked": "bake"}
 LIST = "<ol><li>a</li><li>b</li></ol>"
@@ -24,30 +29,37 @@ LIST = "<ol><li>a</li><li>b</li></ol>"
 
 def examples(here):
     pages = [here / "README.md", *sorted((here / "docs").glob("*.md"))]
-    return [it for page in pages for it in examples_of(page.name, page.read_text())]
+    return [it for page in pages for it in examples_of(here, page.name, page.read_text())]
 
 
-def examples_of(page, text):
-    found, parts = [], {}
+def examples_of(here, page, text):
+    found, parts, is_shown = [], {}, False
     for block in BLOCK.finditer(text):
         kind, body = block.groups()
         if kind in COMMANDS:
             name = f"{page}, line {text.count(chr(10), 0, block.start()) + 1}"
-            found.append(example_of(name, COMMANDS[kind], parts, body, f"{page}-{len(found)}"))
+            found.append(example_of(here, name, COMMANDS[kind], parts, body, f"{page}-{len(found)}"))
             parts = {kind: body for kind, body in parts.items() if kind in ("sh", "xml", "css")}
-        elif kind in ("xml", "sh"):
-            parts = {kind: body}
+            is_shown = True
+        elif kind in ("xml", "sh") or (is_shown and kind.startswith("xml ")):
+            parts, is_shown = {kind: body}, False
         else:
             parts[kind] = body
     return found
 
 
-def example_of(name, command, parts, output, stem):
-    """The case that these blocks make; its files are named after its page and its place there."""
+def example_of(here, name, command, parts, output, stem):
+    """The case that these blocks make; its files are named after its page and its place there, or as the blocks say."""
+    if "sh" in parts and parts["sh"].startswith("cd "):
+        return example_in_folder(here, name, parts, output)
     if "sh" in parts:
         program, *words = shlex.split(parts["sh"])
         assert program == "./marker", name
         return Case(name, words, output=output)
+    if "book" in parts:
+        documents = {kind.removeprefix("xml "): body.strip() for kind, body in parts.items() if kind.startswith("xml ")}
+        files = {f"{stem}.css": parts.get("css", ""), f"{stem}.txt": parts["book"]}
+        return Case(name, ["book", *files, *documents], output=output, files=files | documents)
     files = {f"{stem}.xhtml": parts["xml"].strip(), f"{stem}.css": parts.get("css", "")}
     words = [command, *files]
     if command == "bake":
@@ -60,6 +72,15 @@ def example_of(name, command, parts, output, stem):
             files[f"{stem}.txt"] = parts[kind]
             words = ["history", *files, kind.removeprefix("history ")]
     return Case(name, words, output=output, files=files)
+
+
+def example_in_folder(here, name, parts, output):
+    """A call in a folder. It is made where copies of the folder's files are."""
+    folder, words = CALL_IN_FOLDER.fullmatch(parts["sh"]).groups()
+    for kind, body in parts.items():
+        shown = kind.partition(" ")[2]
+        assert not shown or (here / folder / shown).read_text() == body, f"{name}: {shown} is not as it is in {folder}"
+    return Case(name, shlex.split(words), output=output, files=files_of(here / folder))
 
 
 # Rows of tables. Each of these functions makes the cases of one row, from its cells; the names of their files begin

@@ -1,6 +1,7 @@
 """The rows of tests/run: runs of the program over files, with what they print and how they end."""
 
 import os
+import re
 import subprocess
 from collections import namedtuple
 
@@ -8,7 +9,7 @@ from collections import namedtuple
 # output and the standard error that are wanted.
 Case = namedtuple("Case", "name words status output line files", defaults=(0, "", "", {}))
 
-USAGE = "marker: usage: dump DOC SHEET | edit DOC SHEET SCRIPT | table SHEET STYLE FROM TO | gen SEED COUNT | history DOC SHEET SCRIPT DEPTH | text DOC SHEET | why DOC SHEET PATH | bake DOC SHEET\n"
+USAGE = "marker: usage: dump DOC SHEET | edit DOC SHEET SCRIPT | table SHEET STYLE FROM TO | gen SEED COUNT | history DOC SHEET SCRIPT DEPTH | text DOC SHEET | why DOC SHEET PATH | bake DOC SHEET | book SHEET SCRIPT DOC...\n"
 LIST = '/0 marker "1. "\n/1 marker "2. "\n'
 FILES = {
     "empty.css": "",
@@ -22,7 +23,26 @@ FILES = {
     "missing.txt": "show\nremove /9\nsheet none.css\nshow\n",
     "bad.txt": "show\n\nremove 0\n",
     "undo.txt": "remove /0\nundo\nshow\nundo\n",
-}
+    "a": '<p><a href="b#t"/></p>',
+    "b": '<body><h1 id="t"/></body>',
+    "own": '<p id="x">t<a href="own#x"/><a href="z#x"/></p>',
+    "heads.css": "h1{counter-increment:s}a::after{content:target-counter(attr(href),s)}",
+    "texts.css": "a::after{content:target-text(attr(href))}",
+    "show.txt": "show\n",
+    "in.txt": "show\nin b\ninsert / 0 <h1/>\nin a\nshow\nin c\n",
+    "in-none.txt": "in b \ninsert / 9 <h1/>\nin \n",
+    "redo.txt": "in b\n\nredo\n",
+} | {f"d{number}": "<p/>" for number in range(64)}
+DOCUMENTS = " ".join(f"d{number}" for number in range(64))
+ACROSS = """\
+show 1
+/0 after "1"
+end
+show 5
+/0 after "2"
+end
+refused 6 no-document
+"""
 FIGURES = '/1/1 after " (Fig. 2)"\n/3/0 before "Fig. 1: "\n/5/0 before "Fig. 2: "\n'
 ARTICLE = """\
 /1/1/0 before "I. "
@@ -86,8 +106,14 @@ end
 """
 
 
+def files_of(folder):
+    return {it.name: it.read_text() for it in sorted(folder.iterdir()) if it.is_file()}
+
+
 def small(here):
     """The rows that every build of the program can run."""
+    book = files_of(here / "examples/book")
+    chapters = "contents.xhtml hive.xhtml year.xhtml honey.xhtml"
     edited = (here / "crates/marker/stdout").read_text()
     told = f"show 1\n{LIST}end\nrefused 2 no-place\n"
     baked = (here / "examples/article.xhtml").read_text()
@@ -128,9 +154,58 @@ def small(here):
         ("a folder", "dump . empty.css", 3, "", "marker: .: read failed\n"),
         ("a sheet of a space", "dump list.xhtml space.css", 0, LIST, ""),
         ("a list without items", "dump ul.xhtml empty.css", 0, "", ""),
+        ("the example of a book", f"book book.css contents.txt {chapters}", 0, book["contents.dump"], ""),
+        ("a book of two documents", "book heads.css in.txt a b", 0, ACROSS, ""),
+        ("a name of its own, and none", "book texts.css show.txt own", 0, 'show 1\n/1 after "t"\n/2 after ""\nend\n', ""),
+        ("64 documents", f"book empty.css show.txt {DOCUMENTS}", 0, "show 1\nend\n", ""),
+        ("65 documents", f"book empty.css show.txt {DOCUMENTS} own", 2, "", USAGE),
+        ("no document", "book empty.css show.txt", 2, "", USAGE),
+        ("two of one name", "book empty.css show.txt a b a", 2, "", USAGE),
+        ("a name with a sign", "book empty.css show.txt a#", 2, "", USAGE),
+        ("a document of a book that is open", "book empty.css bad.txt a open.xhtml", 10, "", "marker: open.xhtml:1:9: not well-formed\n"),
+        ("two that are open", "book empty.css bad.txt open.xhtml list.xhtml lists.css", 10, "", "marker: open.xhtml:1:9: not well-formed\n"),
+        ("a document of a book that is not UTF-8", "book empty.css bad.txt open.xhtml bytes.css", 5, "", "marker: bytes.css: not UTF-8 at 0\n"),
+        ("no file of a book", "book empty.css none.txt none.xhtml", 3, "", "marker: none.txt: read failed\n"),
+        ("no such document of a book", "book empty.css bad.txt open.xhtml none.xhtml", 3, "", "marker: none.xhtml: read failed\n"),
+        ("no file of a line in a book", "book empty.css missing.txt list.xhtml", 3, told, "marker: none.css: read failed\n"),
+        ("no name of a document", "book empty.css in-none.txt a b", 7, "", "marker: in-none.txt:3: bad line\n"),
+        ("no undo in a book", "book empty.css undo.txt list.xhtml", 7, "", "marker: undo.txt:2: bad line\n"),
+        ("no redo in a book", "book empty.css redo.txt a b", 7, "", "marker: redo.txt:3: bad line\n"),
+        ("no other document in a script of edits", "edit b heads.css in.txt", 7, "", "marker: in.txt:2: bad line\n"),
+        ("nor in one with a history", "history b heads.css in.txt 9", 7, "", "marker: in.txt:2: bad line\n"),
     ]
-    files = FILES | {"silenced.css": silenced}
+    files = FILES | {"silenced.css": silenced} | book
     return [Case(name, words.split(), status, output, line, files) for name, words, status, output, line in rows]
+
+
+# What `dump` writes of each document of the example of a book, one after the other, and which of them are left where that of
+# the year cannot be read.
+ALONE = """\
+/1/1/1/1/0 before ""
+/1/1/1/1/1/0/0 before ""
+/1/1/1/1/1/1/0 before ""
+/1/1/1/3/0 before ""
+/1/1/1/3/1/0/0 before ""
+/1/1/1/3/1/1/0 before ""
+/1/1/1/5/0 before ""
+/1/1/1/5/1/0/0 before ""
+/1/1 before "Chapter 1. "
+/1/3 before "1.1 "
+/1/5/0 before "Fig. 1.1: "
+/1/7 before "1.2 "
+/1/9/1 after "(Fig. 1.1)"
+/1/9/3 after "()"
+/1/1 before "Chapter 2. "
+/1/3 before "2.1 "
+/1/5/1 after "(Fig. .)"
+/1/7 before "2.2 "
+/1/9/1 after "()"
+/1/1 before "Chapter 3. "
+/1/3 before "3.1 "
+/1/5/0 before "Fig. 3.1: "
+/1/7/1 after "()"
+"""
+LEFT = "contents.dump\nhive.dump\nhoney.dump\n"
 
 
 # Large documents and sheets: each row is made when its turn comes, and needs the proved program.
@@ -158,6 +233,7 @@ def too_long(file, text):
 
 LARGE = (
     lambda: Case("a name that is no text", ["dump", os.fsdecode(b"\xff"), "empty.css"], 2, "", USAGE),
+    lambda: Case("an empty name of a document", ["book", "empty.css", "show.txt", "a", ""], 2, "", USAGE),
     nested,
     items,
     lambda: too_long("long.xhtml", "<p>" + "a" * (16_777_217 - 7) + "</p>"),
@@ -189,8 +265,37 @@ def unwritable(program, work, output, name):
     return Case(name, words, 8, "", "marker: write failed\n"), ran.returncode, ran.stdout, ran.stderr
 
 
+def make(program, work, *words):
+    """GNU make in the folder of the example of a book, four runs side by side, into the folder `made`."""
+    words = ["make", "-s", "-j4", "-C", "examples/book", f"MARKER={program}", "OUT=made", *words]
+    return subprocess.run(words, cwd=work, stdin=subprocess.DEVNULL, capture_output=True)
+
+
+def made(program, work):
+    """All that the example's Makefile makes: the texts of the book, and those of each document, which knows no other."""
+    ran = make(program, work, "all", "check")
+    names = "book", "contents", "hive", "year", "honey"
+    texts = {name: (work / f"examples/book/made/{name}.dump").read_bytes() for name in names}
+    expected = (work / "examples/book/contents.dump").read_text() + ALONE
+    case = Case("a book by make", ["make"], output=expected)
+    return case, ran.returncode, b"".join(texts.values()), ran.stdout + ran.stderr
+
+
+def made_but_one(program, work):
+    """With a document that is open, all but its own texts and those of the book are made."""
+    (work / "examples/book/year.xhtml").write_text("<p>")
+    ran = make(program, work, "-k", "all")
+    left = "".join(f"{it}\n" for it in sorted(os.listdir(work / "examples/book/made")))
+    status = re.search(rb"made/book\.dump\] Error (\d+)", ran.stderr)
+    lines = {it for it in ran.stderr.splitlines(True) if it.startswith(b"marker: ")}
+    case = Case("a book by make, with a fault", ["make"], 10, LEFT, "marker: year.xhtml:1:4: not well-formed\n")
+    return case, int(status[1]) if status else ran.returncode, left.encode(), b"".join(lines)
+
+
 ON_SYSTEM = (
     unreadable,
+    made,
+    made_but_one,
     lambda program, work: unwritable(program, work, ">/dev/full", "a device that is full"),
     lambda program, work: unwritable(program, work, ">&-", "an output that is closed"),
 )

@@ -18,7 +18,7 @@ use Rattle.book_definitions.specs.Texts.{url_of}
 abbrev pub urls_in : Option Made → ℕ
 urls_in made = option_map_or (λ (made : Made). count_by has_url made.pieces) made 0
 
--- how many of an element's boxes have one
+-- how many pieces of an element's boxes have one
 abbrev pub urls_at : ElementRecord → ℕ
 urls_at element = urls_in element.marker + (urls_in element.before + urls_in element.after)
 

@@ -18,6 +18,8 @@ use std::test::Fail;
 
 const WORDS: [&str; 4] = ["edit", "art.xhtml", "house.css", "t.txt"];
 
+const BOOK: [&str; 4] = ["book", "house.css", "t.txt", "art.xhtml"];
+
 /// More than a run of the article reads or writes.
 const MOST_CALLS: u64 = 100_000;
 
@@ -255,9 +257,10 @@ fn bytes_that_are_not_read(rt: HostRuntime) -> Result<(), Fail> {
     Ok(())
 }
 
-/// Runs that end with a line: their files, and the code and the line.
-static FAULTS: [(&[File<'static>], u8, &str); 3] = [
+/// Runs that end with a line: their words and files, and the code and the line.
+static FAULTS: [(&[&str], &[File<'static>], u8, &str); 4] = [
     (
+        &WORDS,
         &[
             ("art.xhtml", b"<ol><li>"),
             ("house.css", b""),
@@ -267,6 +270,7 @@ static FAULTS: [(&[File<'static>], u8, &str); 3] = [
         "marker: art.xhtml:1:9: not well-formed\n",
     ),
     (
+        &WORDS,
         &[
             ("art.xhtml", b"<p/>"),
             ("house.css", b"\xff"),
@@ -276,6 +280,7 @@ static FAULTS: [(&[File<'static>], u8, &str); 3] = [
         "marker: house.css: not UTF-8 at 0\n",
     ),
     (
+        &WORDS,
         &[
             ("art.xhtml", b"<p/>"),
             ("house.css", b""),
@@ -284,12 +289,23 @@ static FAULTS: [(&[File<'static>], u8, &str); 3] = [
         7,
         "marker: t.txt:1: bad line\n",
     ),
+    (
+        &BOOK,
+        &[
+            ("art.xhtml", b"<ol><li>"),
+            ("house.css", b""),
+            ("t.txt", b"insert /0"),
+        ],
+        10,
+        "marker: art.xhtml:1:9: not well-formed\n",
+    ),
 ];
 
-/// The run over these files, whose write of the line of this number fails: whether the code stays and a front of the
-/// line is written.
+/// The run of these words over these files, whose write of the line of this number fails: whether the code stays and a
+/// front of the line is written.
 fn keeps_code(
     rt: &HostRuntime,
+    words: &[&str],
     files: &[File<'_>],
     code: u8,
     line: &str,
@@ -299,7 +315,7 @@ fn keeps_code(
     let mut shelf = HonestShelf::new(held(alloc, files)?);
     let mut out = FixedSink::new(alloc, 1000)?;
     let mut err = TrickleSink::new(alloc, line.len(), 1, at(alloc, call)?)?;
-    let ended = code_over(rt, &WORDS, &mut shelf, &mut out, &mut err)?;
+    let ended = code_over(rt, words, &mut shelf, &mut out, &mut err)?;
     Ok(
         ended == code
             && out.bytes().is_empty()
@@ -311,10 +327,10 @@ fn keeps_code(
 /// A line is written a byte at a time, and each time another write of it fails.
 #[test]
 fn lines_that_fail(rt: HostRuntime) -> Result<(), Fail> {
-    for (files, code, line) in FAULTS {
+    for (words, files, code, line) in FAULTS {
         for call in 0..line.len() {
             assert!(rt;
-                keeps_code(&rt, files, code, line, call as u64)?,
+                keeps_code(&rt, words, files, code, line, call as u64)?,
                 "{line}: byte {call}"
             );
         }

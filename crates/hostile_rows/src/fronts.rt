@@ -8,6 +8,8 @@ use std::test::Fail;
 
 const DUMP: [&str; 3] = ["dump", "d.xhtml", "s.css"];
 
+const BOOK: [&str; 5] = ["book", "s.css", "t.txt", "first.xhtml", "d.xhtml"];
+
 /// A list of one item, and for each front of it, from the empty one on, the column where it stops being a document.
 const LIST: &str = "<ol><li>a</li></ol>";
 
@@ -63,6 +65,19 @@ fn is_cut(rt: &HostRuntime, front: &str, place: Place) -> Result<bool, Memory> {
     Ok(end_of(rt, &DUMP, &files)?.is(6, "", told.as_str()))
 }
 
+/// Whether a book with this front as its second document ends by the line of this place.
+fn is_cut_part(rt: &HostRuntime, front: &str, place: Place) -> Result<bool, Memory> {
+    let Place { line, column } = place;
+    let told = format!(in rt.alloc(); "marker: d.xhtml:{line}:{column}: not well-formed\n")?;
+    let files = [
+        ("d.xhtml", front.as_bytes()),
+        ("first.xhtml", b"<p/>"),
+        ("s.css", b""),
+        ("t.txt", b"show\n"),
+    ];
+    Ok(end_of(rt, &BOOK, &files)?.is(10, "", told.as_str()))
+}
+
 #[test]
 fn fronts_of_a_list(rt: HostRuntime) -> Result<(), Fail> {
     let mut front = String::new(rt.alloc());
@@ -74,6 +89,19 @@ fn fronts_of_a_list(rt: HostRuntime) -> Result<(), Fail> {
         front.push(character)?;
     }
     assert_eq!(rt; front.as_str(), LIST);
+    Ok(())
+}
+
+#[test]
+fn fronts_of_a_part(rt: HostRuntime) -> Result<(), Fail> {
+    let mut front = String::new(rt.alloc());
+    for (character, column) in LIST.chars().zip(COLUMNS) {
+        assert!(rt;
+            is_cut_part(&rt, front.as_str(), Place { line: 1, column })?,
+            "{front}"
+        );
+        front.push(character)?;
+    }
     Ok(())
 }
 

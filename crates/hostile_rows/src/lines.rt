@@ -6,8 +6,8 @@ use std::test::Fail;
 
 const DOCUMENT: &str = "<ol><li>a</li><li>b</li></ol>";
 
-/// Lines that are of no form.
-static BAD_LINES: [&str; 61] = [
+/// Lines that no script of edits has, nor one of a book.
+static BAD_LINES: [&str; 65] = [
     // words that are none, or not as they are written
     "Show",
     "SHOW",
@@ -15,6 +15,10 @@ static BAD_LINES: [&str; 61] = [
     "dump",
     "gen 1 1",
     "undo",
+    "redo",
+    "in",
+    "in ",
+    "in\td.xhtml",
     "<li/>",
     // blanks before, behind and between words
     " show",
@@ -78,25 +82,35 @@ static BAD_LINES: [&str; 61] = [
     "insert / 0 &unknown;",
 ];
 
-/// The end of a script over a list of two items.
-fn end_of_script(rt: &HostRuntime, script: &str) -> Result<End, Memory> {
-    let words = ["edit", "d.xhtml", "s.css", "t.txt"];
+const EDIT: [&str; 4] = ["edit", "d.xhtml", "s.css", "t.txt"];
+
+const BOOK: [&str; 4] = ["book", "s.css", "t.txt", "d.xhtml"];
+
+/// The end of a script over a list of two items, as these words have it done.
+fn end_of_script(rt: &HostRuntime, words: &[&str], script: &str) -> Result<End, Memory> {
     let files = [
         ("d.xhtml", DOCUMENT.as_bytes()),
         ("s.css", b""),
         ("t.txt", script.as_bytes()),
     ];
-    end_of(rt, &words, &files)
+    end_of(rt, words, &files)
 }
 
 /// The first line with which a script ends otherwise than by it, wherever it stands; none where each ends its script.
 /// Nothing is written then, not even by the lines before it.
-fn first_done(rt: &HostRuntime, lines: &[&'static str]) -> Result<Option<&'static str>, Memory> {
+fn first_done(
+    rt: &HostRuntime,
+    words: &[&str],
+    lines: &[&'static str],
+) -> Result<Option<&'static str>, Memory> {
     for line in lines {
         let between = format!(in rt.alloc(); "show\n{line}\r\nshow\nnothing\n")?;
         let last = format!(in rt.alloc(); "# a comment\nremove /9\n\n{line}")?;
-        let is_told = end_of_script(rt, between.as_str())?.is(7, "", "marker: t.txt:2: bad line\n")
-            && end_of_script(rt, last.as_str())?.is(7, "", "marker: t.txt:4: bad line\n");
+        let is_told = end_of_script(rt, words, between.as_str())?.is(
+            7,
+            "",
+            "marker: t.txt:2: bad line\n",
+        ) && end_of_script(rt, words, last.as_str())?.is(7, "", "marker: t.txt:4: bad line\n");
         if !is_told {
             return Ok(Some(line));
         }
@@ -106,7 +120,21 @@ fn first_done(rt: &HostRuntime, lines: &[&'static str]) -> Result<Option<&'stati
 
 #[test]
 fn bad_lines(rt: HostRuntime) -> Result<(), Fail> {
-    assert_eq!(rt; first_done(&rt, &BAD_LINES)?, None);
+    assert_eq!(rt; first_done(&rt, &EDIT, &BAD_LINES)?, None);
+    Ok(())
+}
+
+#[test]
+fn bad_lines_of_a_book(rt: HostRuntime) -> Result<(), Fail> {
+    assert_eq!(rt; first_done(&rt, &BOOK, &BAD_LINES)?, None);
+    Ok(())
+}
+
+/// A line that the script of a book has, and no other.
+#[test]
+fn another_document(rt: HostRuntime) -> Result<(), Fail> {
+    assert_eq!(rt; first_done(&rt, &EDIT, &["in d.xhtml"])?, None);
+    assert!(rt; end_of_script(&rt, &BOOK, "in d.xhtml")?.is(0, "", ""));
     Ok(())
 }
 
@@ -124,7 +152,8 @@ static GOOD_LINES: [(&str, &str); 7] = [
 #[test]
 fn good_lines(rt: HostRuntime) -> Result<(), Fail> {
     for (line, told) in GOOD_LINES {
-        assert!(rt; end_of_script(&rt, line)?.is(0, told, ""), "{line}");
+        assert!(rt; end_of_script(&rt, &EDIT, line)?.is(0, told, ""), "{line}");
+        assert!(rt; end_of_script(&rt, &BOOK, line)?.is(0, told, ""), "{line}");
     }
     Ok(())
 }

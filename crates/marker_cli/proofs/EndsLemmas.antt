@@ -171,6 +171,7 @@ caused_within U R L W (status.BadDocument line column) within = tt
 caused_within U R L W (status.BadScript number) within = tt
 caused_within U R L W WriteFault within = absurd within
 caused_within U R L W (status.LeftOut count) within = tt
+caused_within U R L W (status.BadPart file line column) within = tt
 
 -- what is caused by facts is caused by those that follow from them
 pub caused_more : {read large write later_read later_large later_write : Type 0} (status : Status) → (read → later_read) → (large → later_large) → (write → later_write)
@@ -185,6 +186,7 @@ caused_more (status.BadDocument line column) r l w cause = tt
 caused_more (status.BadScript number) r l w cause = tt
 caused_more WriteFault r l w cause = w cause
 caused_more (status.LeftOut count) r l w cause = tt
+caused_more (status.BadPart file line column) r l w cause = tt
 
 pub caused_as : (U R L W : Type 0) {status told : Status} → told ≡ status → IsCaused U R L W status → IsCaused U R L W told
 caused_as U R L W same cause = subst (λ s. IsCaused U R L W s) (sym same) cause

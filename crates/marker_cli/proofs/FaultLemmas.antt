@@ -1,5 +1,5 @@
 -- Faults of parts, as the statuses with which they end a run.
-use Rattle.std.proofs.Common.{◌≡◌, ℕ, List, Result, sym, ◌∙◌, ap, inl, inr, ◌⊎◌}
+use Rattle.std.proofs.Common.{◌≡◌, ℕ, List, Result, refl, sym, ◌∙◌, ap, inl, inr, ◌⊎◌}
 use Rattle.std.specs.Prelude.{Ok, Err, IfErr}
 use Rattle.std.specs.Result.{IsErr, IsErrAnd}
 use Rattle.edit_script.specs.Faults.{IsFault as IsScriptFault}
@@ -18,11 +18,13 @@ use Rattle.xhtml_reader.specs.declared.fault.DocFault.{DocFault}
 use Rattle.xhtml_reader.specs.declared.fault.DocFault.TheVariants.{Malformed, Memory}
 use Rattle.xml_definitions.specs.Faults.{FailsAsDocument}
 use Rattle.marker_cli.specs.declared.status.Status.{Status}
+use Rattle.marker_cli.specs.declared.status.Status.TheVariants as status
 use Rattle.marker_cli.specs.Documents.{Reading, tree_of}
 use Rattle.marker_cli.specs.Edit.{commands_of}
 use Rattle.marker_cli.specs.Ends.{Gives, IsCaused, IsPutCaused, IsStop, part_status}
 use Rattle.marker_cli.specs.Names.{TellsOfLine}
-use Rattle.marker_cli.specs.Statuses.{document_status, put_status, script_status}
+use Rattle.marker_cli.specs.Parts.{part_of}
+use Rattle.marker_cli.specs.Statuses.{document_status, part_fault, put_status, script_status}
 
 -- what a `?` hands on
 abbrev pub HandsOn : {A : Type 0} → Result A Status → Status → Type 0
@@ -34,6 +36,24 @@ pub no_tree : (text : List ℕ) (reading : Reading) (fault : DocFault) (tree : R
 no_tree text reading fault (Ok x) is one fails = absurd is.1
 no_tree text reading (Malformed line column) (Err error) is one fails = inr (ap tree_of (one (line, column) fails) ∙ ap Err (sym is.1))
 no_tree text reading Memory (Err error) is one fails = inl is.1
+
+-- a document of a book that wasn't read
+pub no_part : (place : ℕ) (text : List ℕ) (reading : Reading) (fault : DocFault) → ((there : ℕ × ℕ) → ReadsAsDocument text (Err there) → reading ≡ Err there)
+    → IsFault (FailsAsDocument text) fault → (part_fault place fault ≡ status.Memory) ⊎ (part_of place reading ≡ Err (part_fault place fault))
+no_part place text reading (Malformed line column) one fails = inr (ap (part_of place) (one (line, column) fails))
+no_part place text reading Memory one fails = inl refl
+
+pub part_caused : (place : ℕ) (fault : DocFault) → IsCaused ⊥ ⊥ ⊥ ⊥ (part_fault place fault)
+part_caused place (Malformed line column) = tt
+part_caused place Memory = tt
+
+pub part_file : (place : ℕ) (fault : DocFault) → TellsOfLine (part_fault place fault) → ⊥
+part_file place (Malformed line column) tells = tells
+part_file place Memory tells = tells
+
+pub part_stops : (place : ℕ) (fault : DocFault) → IsStop (part_fault place fault)
+part_stops place (Malformed line column) = tt
+part_stops place Memory = tt
 
 -- a script that wasn't read
 pub no_commands : (kind : ScriptKind) (text : List ℕ) (reading : Result (List Command) ℕ) (fault : ScriptFault) (commands : Result (List Command) Status) → HandsOn commands (script_status fault)

@@ -12,6 +12,8 @@ mod PlayLemmas
 mod SameLemmas
 mod StepLemmas
 mod EditorLemmas
+mod OpenBookLemmas
+mod PlayBookLemmas
 mod FaultLemmas
 mod ReadLemmas
 mod PlainTrees
@@ -20,5 +22,6 @@ mod PlainElements
 mod LeftBoxes
 mod AgentRules
 mod Readings
+mod PartLemmas
 mod BoxCounts
 mod GeneratedBoxes

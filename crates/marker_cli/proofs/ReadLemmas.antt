@@ -31,6 +31,7 @@ whole_stop (status.BadDocument line column) stops whole = absurd whole
 whole_stop (status.BadScript number) stops whole = absurd whole
 whole_stop status.WriteFault stops whole = absurd whole
 whole_stop (status.LeftOut count) stops whole = absurd stops
+whole_stop (status.BadPart file line column) stops whole = absurd whole
 
 -- what holds of a part that was done to its end
 pub of_whole : {T P : Type 0} (r : Result T Status) → IfErr r IsStop → OnOk r P → IsWhole (part_status r) → P

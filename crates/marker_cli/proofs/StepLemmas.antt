@@ -42,7 +42,7 @@ use Rattle.marker_cli.proofs.SameLemmas.{AreSameSteps, after_same, back_same, ed
 
 -- What an editor's calls take.
 
-placed_by : (version : Version) (edit : Edit) (source : Source) (place : Option PlaceFault) (low high : ℕ) → element_count source.tree ≡ element_count (version_after edit version).document
+pub placed_by : (version : Version) (edit : Edit) (source : Source) (place : Option PlaceFault) (low high : ℕ) → element_count source.tree ≡ element_count (version_after edit version).document
     → IfOk (elim place [ None ↦ Ok source | Some fault ↦ Err fault ]) (λ after. low ≤ high + (13 * element_count after.tree + 2 * element_count version.document))
     → IfErr (elim place [ None ↦ Ok source | Some fault ↦ Err fault ]) (λ _. low ≡ high) → low ≤ high + placed_steps version edit place
 placed_by version edit source None low high is most none = omega (arith, is, most)

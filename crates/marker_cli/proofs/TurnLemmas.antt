@@ -1,17 +1,19 @@
 -- The turns of files in a run: a run with this output ends as a failed read exactly where a file whose turn
 -- comes isn't held.
-use Rattle.std.proofs.Common.{◌≡◌, ℕ, ℤ, ◌≤◌, ◌+◌, ◌==◌, Bool, true, false, nat_lt, if◌then◌else◌, List, [], ◌∷◌, ◌++◌, length, Option, Result, IsTrue, refl, sym, ◌∙◌, ap, subst, arith, inl, inr, ◌⊎◌}
-use Rattle.std.specs.Prelude.{Some, None, Ok, Err, encode_utf8_all}
+use Rattle.std.proofs.Common.{◌≡◌, ℕ, ℤ, ◌≤◌, ◌+◌, ◌==◌, Bool, true, false, nat_lt, if◌then◌else◌, List, [], ◌∷◌, ◌++◌, length, Option, Result, IsTrue, refl, sym, ◌∙◌, ap, subst, append_assoc, arith, inl, inr, ◌⊎◌}
+use Rattle.std.specs.Prelude.{Some, None, Ok, Err, codes, encode_utf8_all}
 use Rattle.std.specs.Str.{chars, is_utf8}
 use Rattle.std.specs.Str.Lossy.{utf8_valid_len}
 use Rattle.bake_book.specs.Dressing.{dressed_document}
 use Rattle.bake_definitions.specs.Places.{left_out}
 use Rattle.baked_text.specs.Walks.{saturated}
+use Rattle.book_definitions.specs.Fresh.{ChapterSource}
 use Rattle.edit_script.specs.Scripts.{AreCommands, ReadsAsScript, command_line, no_line, skipped_line}
 use Rattle.edit_script.specs.declared.action.Action.{Action}
 use Rattle.edit_script.specs.declared.action.Action.TheVariants.{Change, SheetFile, Show, Undo, Redo, Enter}
 use Rattle.edit_script.specs.declared.command.Command.{Command}
 use Rattle.edit_script.specs.declared.script_kind.ScriptKind.{ScriptKind}
+use Rattle.edit_script.specs.declared.script_kind.ScriptKind.TheVariants.{Book}
 use Rattle.forest.specs.Forest.{Forest}
 use Rattle.node_arena.specs.Edits.{place_fault}
 use Rattle.node_arena.specs.declared.place_fault.PlaceFault.{PlaceFault}
@@ -27,16 +29,19 @@ use Rattle.marker_cli.specs.declared.status.Status.TheVariants.{Memory, NotUtf8,
 use Rattle.marker_cli.specs.declared.status.Status.TheVariants as status
 use Rattle.marker_cli.specs.Aspects.{aspect_bytes, aspect_output}
 use Rattle.marker_cli.specs.Bake.{bake_output, with_left_out}
+use Rattle.marker_cli.specs.Book.{BookScriptReadsAs, after_chapter_edit, after_enter, book_action, book_output, play_book}
 use Rattle.marker_cli.specs.Documents.{Reading, tree_of}
 use Rattle.marker_cli.specs.Edit.{ScriptReadsAs, action_output, after_edit, after_step, commands_of, edit_output, kept_edits, kind_of, play}
 use Rattle.marker_cli.specs.Ends.{EndsAs, ReadsFailed, no_memory, not_read, not_written, whole}
 use Rattle.marker_cli.specs.Names.{file_of, sheet_name}
+use Rattle.marker_cli.specs.OpenBooks.{OpenBook, chapters_of, entered, opened}
 use Rattle.marker_cli.specs.Output.{ComesAfter, Output, ends, goes_on, status_of, turn, writes}
+use Rattle.marker_cli.specs.Parts.{HaveTexts, before_trees, trees_of, with_texts}
 use Rattle.marker_cli.specs.Run.{AreReadings, HasTurn, Readings, TextsReadAs, commands_in, form_output, name_in, output}
 use Rattle.marker_cli.specs.Table.{table_output}
 use Rattle.marker_cli.specs.Turns.{text_in, text_of, with_text}
 use Rattle.marker_cli.specs.Versions.{Versions, begun, redone, undone}
-use Rattle.marker_cli.specs.Words.{Form, ReadsAsForm, aspect, bake, edit, gen, table, word}
+use Rattle.marker_cli.specs.Words.{Form, ReadsAsForm, aspect, bake, book, edit, gen, table, word}
 
 -- a file that is held doesn't end a run as one that isn't
 text_gives : (file : FileAt) (bytes : List ℕ) (other : FileAt) → text_of file bytes ≡ Err (ReadFault other) → ⊥
@@ -105,6 +110,32 @@ turns_play : (files : Files) (name : FileAt → List ℕ) (depth : ℕ) (command
 turns_play files name depth [] versions named = at_end _ (λ file fault. cc fault)
 turns_play files name depth (command ∷ commands) versions named =
     turns_action files name depth command.line command.action versions (play files depth commands) named.0 (λ now. turns_play files name depth commands now named.1)
+
+-- The commands of a book.
+
+turns_chapter_edit : (files : Files) (name : FileAt → List ℕ) (number : ℕ) (change : Edit) (opening : OpenBook) (place : Option PlaceFault) (next : OpenBook → Output)
+    → ((now : OpenBook) → AreTurns files name (next now)) → AreTurns files name (after_chapter_edit number change opening place next)
+turns_chapter_edit files name number change opening None next follows = follows _
+turns_chapter_edit files name number change opening (Some fault) next follows = at_bytes _ (follows opening)
+
+turns_enter : (files : Files) (name : FileAt → List ℕ) (number : ℕ) (opening : OpenBook) (led : Option OpenBook) (next : OpenBook → Output)
+    → ((now : OpenBook) → AreTurns files name (next now)) → AreTurns files name (after_enter number opening led next)
+turns_enter files name number opening (Some led) next follows = follows led
+turns_enter files name number opening None next follows = at_bytes _ (follows opening)
+
+turns_book_action : (files : Files) (name : FileAt → List ℕ) (number : ℕ) (action : Action) (opening : OpenBook) (next : OpenBook → Output) → name (Line number) ≡ file_of action
+    → ((now : OpenBook) → AreTurns files name (next now)) → AreTurns files name (book_action files number action opening next)
+turns_book_action files name number (Change change) opening next is follows = turns_chapter_edit files name number change opening (place_fault change opening.present.tree) next follows
+turns_book_action files name number (SheetFile file) opening next is follows = turns_text files name (Line number) _ file is (λ text found. follows _)
+turns_book_action files name number Show opening next is follows = at_bytes _ (follows opening)
+turns_book_action files name number Undo opening next is follows = at_bytes _ (follows opening)
+turns_book_action files name number Redo opening next is follows = at_bytes _ (follows opening)
+turns_book_action files name number (Enter document) opening next is follows = turns_enter files name number opening (entered document opening) next follows
+
+turns_play_book : (files : Files) (name : FileAt → List ℕ) (commands : List Command) (opening : OpenBook) → AreNamed name commands → AreTurns files name (play_book files commands opening)
+turns_play_book files name [] opening named = at_end _ (λ file fault. cc fault)
+turns_play_book files name (command ∷ commands) opening named =
+    turns_book_action files name command.line command.action opening (play_book files commands) named.0 (λ now. turns_play_book files name commands now named.1)
 
 -- the lines of a script differ, so each command has the name of its own file
 other_line : (number other : ℕ) → number + 1 ≤ other → (number == other) ≡ false
@@ -178,6 +209,76 @@ module _ (files : Files) (name : FileAt → List ℕ) where
         turns_text files name (Word 3) _ script third (λ lines there.
         turns_tree lines style reading read (reads text style lines found held there) named)))
 
+-- the words from this place on are these names
+abbrev AreWords : (FileAt → List ℕ) → ℕ → List (List ℕ) → Type 0
+AreWords name place [] = Unit {0}
+AreWords name place (first ∷ names) = (name (Word place) ≡ first) × AreWords name (place + 1) names
+
+word_behind : (front : List (List ℕ)) (name : List ℕ) (names : List (List ℕ)) → word (front ++ name ∷ names) (length front) ≡ name
+word_behind [] name names = refl
+word_behind (first ∷ front) name names = word_behind front name names
+
+one_longer : (front : List (List ℕ)) (name : List ℕ) → length (front ++ name ∷ []) ≡ length front + 1
+one_longer [] name = refl
+one_longer (first ∷ front) name = let longer = one_longer front name in omega (arith, longer)
+
+words_behind : (called : FileAt → List ℕ) (words : List (List ℕ)) → ((place : ℕ) → called (Word place) ≡ word words place) → (front names : List (List ℕ)) → words ≡ front ++ names
+    → AreWords called (length front) names
+words_behind called words agrees front [] written = tt
+words_behind called words agrees front (name ∷ names) written = (
+  agrees (length front) ∙ ap (λ ws. word ws (length front)) written ∙ word_behind front name names,
+  subst (λ place. AreWords called place names) (one_longer front name)
+      (words_behind called words agrees (front ++ name ∷ []) names (written ∙ sym (append_assoc front (name ∷ []) names))),
+)
+
+-- the trees of documents fail as no read does
+tree_behind : (tree : Forest Node) (others : Result (List (Forest Node)) Status) (status : Status) → before_trees (Ok tree) others ≡ Err status → others ≡ Err status
+tree_behind tree (Ok trees) status is = absurd (cc is)
+tree_behind tree (Err fault) status is = is
+
+trees_no_fault : (place : ℕ) (readings : List Reading) (told : Status) → trees_of place readings ≡ Err told → (file : FileAt) → told ≡ ReadFault file → ⊥
+trees_no_fault place [] told is file fault = cc is
+trees_no_fault place (Err there ∷ readings) told is file fault = let same : status.BadPart (Word place) there.0 there.1 ≡ told = cc is in cc (same ∙ fault)
+trees_no_fault place (Ok tree ∷ readings) told is file fault =
+    trees_no_fault (place + 1) readings told (tree_behind tree (trees_of (place + 1) readings) told is) file fault
+
+module _ (files : Files) (name : FileAt → List ℕ) where
+  turns_texts : (place : ℕ) (names : List (List ℕ)) (next : Output) → AreWords name place names
+      → ((texts : List (List ℕ)) → HaveTexts files place names texts → AreTurns files name next) → AreTurns files name (with_texts files place names next)
+  turns_texts place [] next are follows = follows [] tt
+  turns_texts place (first ∷ names) next are follows =
+      turns_text files name (Word place) _ first are.0 (λ text found. turns_texts (place + 1) names next are.1 (λ texts have. follows (text ∷ texts) (found, have)))
+
+  turns_opened : (sources : List ChapterSource) (commands : List Command) → AreNamed name commands
+      → AreTurns files name (goes_on (opened sources) (λ opening. play_book files commands opening))
+  turns_opened [] commands named = at_end _ (λ file fault. cc fault)
+  turns_opened (first ∷ rest) commands named = turns_play_book files name commands _ named
+
+  turns_book_commands : (lines style : List ℕ) (documents : List (List ℕ)) (trees : List (Forest Node)) (read : Result (List Command) ℕ) → ReadsAsScript Book lines read
+      → ((line : ℕ) → name (Line line) ≡ sheet_name (commands_in read) line)
+      → AreTurns files name (goes_on (commands_of read) (λ commands. goes_on (opened (chapters_of style documents trees)) (λ opening. play_book files commands opening)))
+  turns_book_commands lines style documents trees (Ok commands) reads named =
+      turns_opened (chapters_of style documents trees) commands (named_from name reads (λ line more. named line))
+  turns_book_commands lines style documents trees (Err number) reads named = at_end _ (λ file fault. cc fault)
+
+  turns_trees : (lines style : List ℕ) (documents : List (List ℕ)) (given : Result (List (Forest Node)) Status) (read : Result (List Command) ℕ)
+      → ((status : Status) → given ≡ Err status → (file : FileAt) → status ≡ ReadFault file → ⊥) → ReadsAsScript Book lines read
+      → ((line : ℕ) → name (Line line) ≡ sheet_name (commands_in read) line)
+      → AreTurns files name (goes_on given (λ trees.
+      goes_on (commands_of read) (λ commands. goes_on (opened (chapters_of style documents trees)) (λ opening. play_book files commands opening))))
+  turns_trees lines style documents (Ok trees) read no_fault reads named = turns_book_commands lines style documents trees read reads named
+  turns_trees lines style documents (Err status) read no_fault reads named = at_end _ (no_fault status refl)
+
+  turns_book : (sheet script : List ℕ) (documents : List (List ℕ)) (readings : List Reading) (read : Result (List Command) ℕ) → name (Word 1) ≡ sheet → name (Word 2) ≡ script
+      → AreWords name 3 documents → BookScriptReadsAs files sheet script documents read → ((line : ℕ) → name (Line line) ≡ sheet_name (commands_in read) line)
+      → AreTurns files name (book_output files sheet script documents readings read)
+  turns_book sheet script documents readings read first second others reads named =
+      turns_text files name (Word 1) _ sheet first (λ style found.
+      turns_text files name (Word 2) _ script second (λ lines there.
+      turns_texts 3 documents _ others (λ texts have.
+      turns_trees lines style documents (trees_of 3 readings) read (trees_no_fault 3 readings)
+      (reads style lines texts (record { of_sheet = found; of_script = there; of_documents = have })) named)))
+
 -- the turns of a run
 turns_form : (words : List (List ℕ)) (files : Files) (readings : Readings) (form : Option Form) → ReadsAsForm words form → TextsReadAs files readings form
     → AreTurns files (name_in words readings) (form_output files readings form)
@@ -196,6 +297,9 @@ turns_form words files readings (Some (edit doc sheet commands None)) is reads =
 turns_form words files readings (Some (edit doc sheet commands (Some depth))) is reads =
     turns_script files _ (Some depth) doc sheet commands readings.document readings.script (ap (λ ws. word ws 1) is.written) (ap (λ ws. word ws 2) is.written) (ap (λ ws. word ws 3) is.written)
     reads.1 (λ line. refl)
+turns_form words files readings (Some (book sheet commands documents)) is reads =
+    turns_book files _ sheet commands documents readings.parts readings.script (ap (λ ws. word ws 1) is.written) (ap (λ ws. word ws 2) is.written)
+    (words_behind (name_in words readings) words (λ place. refl) (codes "book" ∷ sheet ∷ commands ∷ []) documents is.written) reads.1 (λ line. refl)
 turns_form words files readings (Some (table sheet style from to)) is reads = turns_table files _ sheet style from to (ap (λ ws. word ws 1) is.written)
 turns_form words files readings (Some (gen seed count)) is reads = at_bytes _ (at_end _ (λ file fault. cc fault))
 

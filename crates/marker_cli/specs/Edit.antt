@@ -42,9 +42,13 @@ commands_of (Err number) = Err (BadScript number)
 
 -- What the commands write. Each tells the number of its line in the script.
 
--- what `show` shows: between two lines the dump of a fresh evaluation
+-- what `show` shows: a dump between two lines
+abbrev pub shown_dump : ℕ → List ℕ → List ℕ
+shown_dump number dump = (codes "show " ++ (decimal number ++ codes "\n")) ++ (dump ++ codes "end\n")
+
+-- that of a fresh evaluation
 abbrev pub shown : ℕ → Version → List ℕ
-shown number version = (codes "show " ++ (decimal number ++ codes "\n")) ++ (fresh_dump version.sheet version.document ++ codes "end\n")
+shown number version = shown_dump number (fresh_dump version.sheet version.document)
 
 abbrev pub refusal : PlaceFault → List ℕ
 refusal NoPlace = codes " no-place\n"

@@ -41,6 +41,7 @@ IsCaused usage read large write (status.BadDocument line column) = Unit {0}
 IsCaused usage read large write (status.BadScript number) = Unit {0}
 IsCaused usage read large write WriteFault = write
 IsCaused usage read large write (status.LeftOut count) = Unit {0}
+IsCaused usage read large write (status.BadPart file line column) = Unit {0}
 
 -- what a part that has no cause outside the program may answer: its value or its refusal, or Memory
 abbrev pub Gives : {A : Type 0} → Result A Status → Result A Status → Type 0
@@ -63,6 +64,7 @@ IsSettled (status.BadDocument line column) = Unit {0}
 IsSettled (status.BadScript number) = Unit {0}
 IsSettled WriteFault = ⊥
 IsSettled (status.LeftOut count) = Unit {0}
+IsSettled (status.BadPart file line column) = Unit {0}
 
 -- with this status all output was written
 abbrev pub IsWhole : Status → Type 0
@@ -76,6 +78,7 @@ IsWhole (status.BadDocument line column) = ⊥
 IsWhole (status.BadScript number) = ⊥
 IsWhole WriteFault = ⊥
 IsWhole (status.LeftOut count) = Unit {0}
+IsWhole (status.BadPart file line column) = ⊥
 
 -- a part of a run that stops does so with a status of a run that wasn't done to its end
 abbrev pub IsStop : Status → Type 0
@@ -89,3 +92,4 @@ IsStop (status.BadDocument line column) = Unit {0}
 IsStop (status.BadScript number) = Unit {0}
 IsStop WriteFault = Unit {0}
 IsStop (status.LeftOut count) = ⊥
+IsStop (status.BadPart file line column) = Unit {0}

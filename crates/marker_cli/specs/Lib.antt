@@ -1,5 +1,7 @@
 pub mod Aspects
 pub mod Bake
+pub mod Book
+pub mod BookSteps
 pub mod Documents
 pub mod Edit
 pub mod EditSteps
@@ -8,7 +10,10 @@ pub mod Ends
 pub mod Generated
 pub mod Lines
 pub mod Names
+pub mod OpenBooks
+pub mod OpenVolumes
 pub mod Output
+pub mod Parts
 pub mod Run
 pub mod Stands
 pub mod Statuses

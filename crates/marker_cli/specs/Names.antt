@@ -44,3 +44,4 @@ TellsOfLine (status.BadDocument line column) = ⊥
 TellsOfLine (status.BadScript number) = ⊥
 TellsOfLine status.WriteFault = ⊥
 TellsOfLine (status.LeftOut count) = ⊥
+TellsOfLine (status.BadPart file line column) = IsOfLine file

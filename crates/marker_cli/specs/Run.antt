@@ -1,5 +1,5 @@
 -- A run, from its words and files to its output (our own).
-use Rattle.std.specs.Prelude.{◌≡◌, ◌⊎◌, ℕ, ℤ, ◌+◌, List, [], ◌∷◌, length, Option, Some, None, Result, Ok, Err}
+use Rattle.std.specs.Prelude.{◌≡◌, ◌⊎◌, ℕ, ℤ, ◌+◌, List, [], ◌∷◌, length, map, sum, Option, Some, None, Result, Ok, Err}
 use Rattle.std.specs.Option.{option_map_or}
 use Rattle.edit_script.specs.declared.action.Action.{Action}
 use Rattle.edit_script.specs.declared.action.Action.TheVariants.{Change, SheetFile, Show, Undo, Redo, Enter}
@@ -9,19 +9,23 @@ use Rattle.marker_cli.specs.declared.status.FileAt.{FileAt}
 use Rattle.marker_cli.specs.declared.status.Status.TheVariants.{Usage}
 use Rattle.marker_cli.specs.Aspects.{aspect_output, most_steps}
 use Rattle.marker_cli.specs.Bake.{BakesTo, bake_output, most_bake_steps}
+use Rattle.marker_cli.specs.Book.{BookScriptReadsAs, book_output}
+use Rattle.marker_cli.specs.BookSteps.{most_book_steps}
 use Rattle.marker_cli.specs.Documents.{DocumentReadsAs, Reading}
 use Rattle.marker_cli.specs.Edit.{ScriptReadsAs, edit_output, kind_of}
 use Rattle.marker_cli.specs.EditSteps.{most_edit_steps}
 use Rattle.marker_cli.specs.Generated.{generated_output, most_generated_steps}
 use Rattle.marker_cli.specs.Names.{name_at}
 use Rattle.marker_cli.specs.Output.{ComesAfter, Output, ends}
+use Rattle.marker_cli.specs.Parts.{PartsReadAs}
 use Rattle.marker_cli.specs.Table.{table_output}
-use Rattle.marker_cli.specs.Words.{Form, IsForm, ReadsAsForm, aspect, bake, edit, gen, table}
+use Rattle.marker_cli.specs.Words.{Form, IsForm, ReadsAsForm, aspect, bake, book, edit, gen, table}
 
--- what the words and the texts of a run read as, and the text that DOC bakes to
+-- what the words and the texts of a run read as, the documents of a book one by one, and the text that DOC bakes to
 pub record Readings : Type 0 where
   pub form : Option Form
   pub document : Reading
+  pub parts : List Reading
   pub script : Result (List Command) ℕ
   pub baked : List ℕ
 
@@ -32,6 +36,8 @@ TextsReadAs files readings (Some (aspect what doc sheet)) = DocumentReadsAs file
 TextsReadAs files readings (Some (bake doc sheet)) = DocumentReadsAs files doc sheet readings.document × BakesTo files doc sheet readings.document readings.baked
 TextsReadAs files readings (Some (edit doc sheet commands depth)) =
     DocumentReadsAs files doc sheet readings.document × ScriptReadsAs files doc sheet commands (kind_of depth) readings.script
+TextsReadAs files readings (Some (book sheet commands documents)) =
+    PartsReadAs files sheet commands documents readings.parts × BookScriptReadsAs files sheet commands documents readings.script
 TextsReadAs files readings (Some (table sheet style from to)) = Unit {0}
 TextsReadAs files readings (Some (gen seed count)) = Unit {0}
 
@@ -54,6 +60,7 @@ form_output files readings None = ends Usage
 form_output files readings (Some (aspect what doc sheet)) = aspect_output files what doc sheet readings.document
 form_output files readings (Some (bake doc sheet)) = bake_output files doc sheet readings.document readings.baked
 form_output files readings (Some (edit doc sheet commands depth)) = edit_output files doc sheet commands depth readings.document readings.script
+form_output files readings (Some (book sheet commands documents)) = book_output files sheet commands documents readings.parts readings.script
 form_output files readings (Some (table sheet style from to)) = table_output files sheet style from to
 form_output files readings (Some (gen seed count)) = generated_output seed count
 
@@ -101,6 +108,8 @@ form_size files script None = 0
 form_size files script (Some (aspect what doc sheet)) = size_of files doc + size_of files sheet
 form_size files script (Some (bake doc sheet)) = size_of files doc + size_of files sheet
 form_size files script (Some (edit doc sheet commands depth)) = size_of files doc + (size_of files sheet + (size_of files commands + commands_size files (commands_in script)))
+form_size files script (Some (book sheet commands documents)) =
+    size_of files sheet + (size_of files commands + (sum (map (size_of files) documents) + commands_size files (commands_in script)))
 form_size files script (Some (table sheet style from to)) = size_of files sheet
 form_size files script (Some (gen seed count)) = 0
 
@@ -114,6 +123,7 @@ form_steps files readings None = 0
 form_steps files readings (Some (aspect what doc sheet)) = most_steps readings.document
 form_steps files readings (Some (bake doc sheet)) = most_bake_steps readings.document
 form_steps files readings (Some (edit doc sheet commands depth)) = most_edit_steps files doc sheet commands depth readings.document readings.script
+form_steps files readings (Some (book sheet commands documents)) = most_book_steps files sheet commands documents readings.parts readings.script
 form_steps files readings (Some (table sheet style from to)) = 0
 form_steps files readings (Some (gen seed count)) = most_generated_steps seed count
 

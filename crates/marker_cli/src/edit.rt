@@ -18,12 +18,23 @@ use crate::play::play;
 use crate::read_texts::{read_commands, read_tree};
 use crate::status::{FileAt, Status};
 use edit_script::command::Command;
+use edit_script::script_kind::ScriptKind;
 use plain_types::list::List;
 use ports::shelf::Shelf;
 use ports::sink::Sink;
 use std::alloc::Global;
 use std::sync::ledger::Ledger;
 use steps::Steps;
+
+/// The kind of a script: with a depth it has a history.
+fn script_kind(depth: Option<u32>) -> ScriptKind
+    ensures { result ≡ kind_of depth }
+{
+    match depth {
+        None => ScriptKind::Edits,
+        Some(_) => ScriptKind::History,
+    }
+}
 
 /// Does the commands of the script of that name with the document and the sheet of these names. The commands are
 /// left in `commands` once they are read: they have the names of the files that the script's lines name. With a depth
@@ -60,7 +71,7 @@ pub fn edit<S: Shelf, O: Sink, L: Ledger>(
     let style = fetch_text(alloc, shelf, FileAt::Word(2), sheet)?;
     let lines = fetch_text(alloc, shelf, FileAt::Word(3), script)?;
     let tree = read_tree(alloc, text.as_str())?;
-    *commands = read_commands(alloc, depth, lines.as_str())?;
+    *commands = read_commands(alloc, script_kind(depth), lines.as_str())?;
     let mut editor = Editor::start(alloc, tree, style.as_str(), depth, steps)?;
     play(alloc, commands.as_slice(), &mut editor, shelf, out, steps)
 }

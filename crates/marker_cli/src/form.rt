@@ -1,9 +1,11 @@
 //! What the words ask for.
 
-ghost use Rattle.std.specs.Prelude.{◌≡◌, ◌<◌, ◌↔◌, ℤ, ℕ, ◌≤ℤ◌, IfNone, IfOk, IfSome, IsTrue, OnErr, codes, length};
+ghost use Rattle.std.specs.Prelude.{◌≡◌, ◌≢◌, ◌<◌, ◌↔◌, ℤ, ℕ, ◌≤ℤ◌, IfNone, IfOk, IfSome, IsTrue, List, OnErr, codes, length};
 ghost use Rattle.std.specs.Fmt.{decimal, signed_decimal};
+ghost use Rattle.std.specs.List.{All, AllByRecursion, AllPairs};
 ghost use Rattle.std.specs.Str.{chars};
-ghost use Rattle.marker_cli.specs.Words.{IsCommand, IsCount, IsDepth, IsForm, IsRun, IsSpan, IsTable, ReadsAsForm, form_of, read_form_of, word};
+ghost use Rattle.book_definitions.specs.Chapters.{IsChapterName};
+ghost use Rattle.marker_cli.specs.Words.{AreDocumentNames, IsBookCommand, IsCommand, IsCount, IsDepth, IsForm, IsRun, IsSpan, IsTable, ReadsAsForm, form_of, read_form_of, word};
 ghost use Rattle.marker_cli.specs.Words as forms;
 
 use crate::aspect::Aspect;
@@ -36,6 +38,12 @@ pub enum Form<'a> {
         script: &'a Text,
         depth: Option<u32>,
     },
+    /// `book SHEET SCRIPT DOC...`
+    Book {
+        sheet: &'a Text,
+        script: &'a Text,
+        documents: &'a [Text],
+    },
     /// `table SHEET STYLE FROM TO`
     Table {
         sheet: &'a Text,
@@ -50,7 +58,8 @@ pub enum Form<'a> {
     },
 }
 
-fn is_word(word: &Text, name: &str) -> bool
+/// Whether the word is this name.
+pub(crate) fn is_word(word: &Text, name: &str) -> bool
     ensures same { IsTrue result ↔ (word.now ≡ chars name.now) }
 {
     word.as_str() == name
@@ -150,9 +159,75 @@ fn aspect_form(aspect: Aspect, words: &[Text]) -> Form<'_>
     }
 }
 
-/// The form that words are of which don't ask why, if they are of one. It takes no memory.
+/// Whether this can be the name of a document of a book: a url can give it before its `#`.
+fn is_document_name(name: &str) -> bool
+    ensures same { IsTrue result ↔ IsChapterName (chars name.now) }
+{
+    !name.is_empty() && name.chars().all(|c| c != '#')
+}
+
+/// Whether none of the others is this name.
+fn is_new(others: &[Text], name: &Text) -> bool
+    ensures same { IsTrue result ↔ All (λ (other : List ℕ). other ≢ name.now) others.now }
+{
+    others.iter().all(|other| other.as_str() != name.as_str())
+}
+
+/// Whether no two of the names are the same.
+fn are_distinct(names: &[Text]) -> bool
+    ensures same { IsTrue result ↔ AllPairs (λ (name other : List ℕ). name ≢ other) names.now }
+{
+    for place in 0..names.len() {
+        if !is_new(&names[..place], &names[place]) {
+            return false;
+        }
+    }
+    true
+}
+
+/// Whether each of these can be the name of a document of a book.
+fn is_each_document_name(names: &[Text]) -> bool
+    ensures same { IsTrue result ↔ AllByRecursion IsChapterName names.now }
+{
+    names.iter().all(|name| is_document_name(name.as_str()))
+}
+
+/// Whether the words can be the names of the documents of a book. It takes no memory, and time quadratic in their number,
+/// which is 64 at most.
+fn are_document_names(names: &[Text]) -> bool
+    ensures same { IsTrue result ↔ AreDocumentNames names.now }
+{
+    !names.is_empty() && names.len() <= 64 && is_each_document_name(names) && are_distinct(names)
+}
+
+/// Whether the words are `book` and three others at least.
+fn is_book_command(words: &[Text]) -> bool
+    ensures same { IsTrue result ↔ IsBookCommand words.now }
+{
+    words.len() > 3 && is_word(&words[0], "book")
+}
+
+/// The form of words that begin with `book`, if their documents have names that tell them apart. It takes no memory.
+fn read_book_form(words: &[Text]) -> Option<Form<'_>>
+    requires command { IsBookCommand words.now }
+    ensures form { ReadsAsForm words.now (read_form_of result) }
+{
+    let documents = &words[3..];
+    if are_document_names(documents) {
+        Some(Form::Book {
+            sheet: &words[1],
+            script: &words[2],
+            documents,
+        })
+    } else {
+        None
+    }
+}
+
+/// The form that words are of which don't ask why and have no book, if they are of one. It takes no memory.
 fn read_plain_form(words: &[Text]) -> Option<Form<'_>>
     requires other { ¬ (IsCommand words.now 4 (codes "why")) }
+    requires no_book { ¬ (IsBookCommand words.now) }
     ensures form { ReadsAsForm words.now (read_form_of result) }
 {
     if is_command("dump", 3, words) {
@@ -215,6 +290,9 @@ pub fn read_form(alloc: Global, words: &[Text]) -> Result<Option<Form<'_>>, Memo
 {
     if is_command("why", 4, words) {
         return read_why_form(alloc, words);
+    }
+    if is_book_command(words) {
+        return Ok(read_book_form(words));
     }
     Ok(read_plain_form(words))
 }

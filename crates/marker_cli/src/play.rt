@@ -157,7 +157,7 @@ fn put_step<O: Sink>(
 }
 
 /// Tells that the `in` of the line of this number finds no document of its name.
-fn put_no_document<O: Sink>(number: usize, out: &mut O) -> Result<(), Status>
+pub fn put_no_document<O: Sink>(number: usize, out: &mut O) -> Result<(), Status>
     ensures ok { OnOk result (O.out out.new ≡ grown (O.out out.old) (no_document number)) }
     ensures failed { OnErr result (GrowsByFront (O.out out.old) (O.out out.new) (no_document number)) }
     ensures cause { IsPutCaused (Rose (O.faults out.old) (O.faults out.new)) result }

@@ -3,10 +3,11 @@
 ghost use Rattle.std.specs.Prelude.{◌≡◌, ◌++◌, OnOk, OnErr, encode_utf8_all};
 ghost use Rattle.ports.specs.Causes.{HasCause, Rose};
 ghost use Rattle.ports.specs.Grown.{grown, GrowsByFront};
-ghost use Rattle.marker_cli.specs.Lines.{GoesOut, about, message};
+ghost use Rattle.marker_cli.specs.Lines.{GoesOut, about, message, not_well_formed, script_word};
 ghost use Rattle.marker_cli.specs.Names.{file_of, name_at, sheet_name};
 ghost use Rattle.marker_cli.specs.declared.status.Status.TheVariants as status;
 
+use crate::form::is_word;
 use crate::put_number::put_number;
 use crate::status::{FileAt, Status};
 use edit_script::action::Action;
@@ -89,20 +90,32 @@ fn put_not_utf8<E: Sink>(
     put_number(offset, b"\n", err)
 }
 
+/// A file is no document, and the place where it fails.
 fn put_malformed<E: Sink>(
     words: &[Text],
     commands: &[Command],
+    file: FileAt,
     line: usize,
     column: usize,
     err: &mut E,
 ) -> Result<(), Failed>
-    ensures ok { OnOk result (E.out err.new ≡ grown (E.out err.old) (message words.now commands.now (status.BadDocument line column))) }
-    ensures failed { OnErr result (GrowsByFront (E.out err.old) (E.out err.new) (message words.now commands.now (status.BadDocument line column))) }
+    ensures ok { OnOk result (E.out err.new ≡ grown (E.out err.old) (about words.now commands.now file (not_well_formed line column))) }
+    ensures failed { OnErr result (GrowsByFront (E.out err.old) (E.out err.new) (about words.now commands.now file (not_well_formed line column))) }
     ensures cause { HasCause (E.faults err.old) (E.faults err.new) result }
 {
-    put_about(words, commands, FileAt::Word(1), b":", err)?;
+    put_about(words, commands, file, b":", err)?;
     put_number(line, b":", err)?;
     put_number(column, b": not well-formed\n", err)
+}
+
+/// The word that names the script.
+fn script_word(words: &[Text]) -> FileAt
+    ensures { result ≡ script_word words.now }
+{
+    match words.first() {
+        Some(command) if is_word(command, "book") => FileAt::Word(2),
+        _ => FileAt::Word(3),
+    }
 }
 
 fn put_bad_line<E: Sink>(
@@ -115,7 +128,7 @@ fn put_bad_line<E: Sink>(
     ensures failed { OnErr result (GrowsByFront (E.out err.old) (E.out err.new) (message words.now commands.now (status.BadScript number))) }
     ensures cause { HasCause (E.faults err.old) (E.faults err.new) result }
 {
-    put_about(words, commands, FileAt::Word(3), b":", err)?;
+    put_about(words, commands, script_word(words), b":", err)?;
     put_number(number, b": bad line\n", err)
 }
 
@@ -154,7 +167,7 @@ fn put_message<E: Sink>(
         Status::Memory => put_all(err, b"marker: out of memory\n"),
         Status::Usage => put_all(
             err,
-            b"marker: usage: dump DOC SHEET | edit DOC SHEET SCRIPT | table SHEET STYLE FROM TO | gen SEED COUNT | history DOC SHEET SCRIPT DEPTH | text DOC SHEET | why DOC SHEET PATH | bake DOC SHEET\n",
+            b"marker: usage: dump DOC SHEET | edit DOC SHEET SCRIPT | table SHEET STYLE FROM TO | gen SEED COUNT | history DOC SHEET SCRIPT DEPTH | text DOC SHEET | why DOC SHEET PATH | bake DOC SHEET | book SHEET SCRIPT DOC...\n",
         ),
         Status::ReadFault { file } => put_about(words, commands, file, b": read failed\n", err),
         Status::TooLarge { file } => {
@@ -167,7 +180,17 @@ fn put_message<E: Sink>(
             )
         }
         Status::NotUtf8 { file, offset } => put_not_utf8(words, commands, file, offset, err),
-        Status::BadDocument { line, column } => put_malformed(words, commands, line, column, err),
+        Status::BadDocument { line, column } => put_malformed(
+            words,
+            commands,
+            FileAt::Word(1),
+            line,
+            column,
+            err,
+        ),
+        Status::BadPart { file, line, column } => put_malformed(
+            words, commands, file, line, column, err,
+        ),
         Status::BadScript { number } => put_bad_line(words, commands, number, err),
         Status::WriteFault => put_all(err, b"marker: write failed\n"),
         Status::LeftOut { count } => put_left_out(words, commands, count, err),

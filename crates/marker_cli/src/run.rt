@@ -10,12 +10,13 @@ ghost use Rattle.marker_cli.specs.Lines.{GoesOut, message};
 ghost use Rattle.marker_cli.specs.Output.{bytes_of, status_of};
 ghost use Rattle.marker_cli.specs.Names.{TellsOfLine};
 ghost use Rattle.marker_cli.specs.Run.{AreReadings, HasTurn, OverTexts, OverTold, Readings, TakesNoStep, commands_in, form_output, form_size, form_steps, most_run_steps, name_in, output, read_size};
-ghost use Rattle.marker_cli.specs.Words.{IsOfTable, ReadsAsForm, form_of};
+ghost use Rattle.marker_cli.specs.Words.{IsOfTable, IsWithin, ReadsAsForm, form_of};
 ghost use Rattle.marker_cli.specs.declared.status.FileAt.{FileAt};
 ghost use Rattle.marker_cli.specs.declared.status.Status.TheVariants as status;
 
 use crate::aspect::write_aspect;
 use crate::bake::write_baked;
+use crate::book::book;
 use crate::edit::edit;
 use crate::form::{Form, read_form};
 use crate::generated::generated;
@@ -51,6 +52,7 @@ fn perform<S: Shelf, O: Sink, L: Ledger>(
     out: &mut O,
     steps: &mut Steps<L>,
 ) -> Result<(), Status>
+    requires within { IsWithin (form_of form) }
     ensures told { OverTexts (S.held shelf.old) (form_of form.entry) (λ files readings.
         EndsAs (ReadsFailed (S.honest shelf.old) (S.faults shelf.old) (S.faults shelf.new)) (Rose (O.faults out.old) (O.faults out.new))
         (form_output files readings (Some (form_of form.entry))) (O.out out.old) (O.out out.new) (part_status result)) }
@@ -97,6 +99,20 @@ fn perform<S: Shelf, O: Sink, L: Ledger>(
             sheet.as_str(),
             script.as_str(),
             depth,
+            commands,
+            shelf,
+            out,
+            steps,
+        ),
+        Form::Book {
+            sheet,
+            script,
+            documents,
+        } => book(
+            alloc,
+            sheet.as_str(),
+            script.as_str(),
+            documents,
             commands,
             shelf,
             out,
@@ -165,6 +181,7 @@ fn flushed<O: Sink>(outcome: Status, out: &mut O) -> Status
         | Status::TooLarge { .. }
         | Status::NotUtf8 { .. }
         | Status::BadDocument { .. }
+        | Status::BadPart { .. }
         | Status::BadScript { .. } => match out.flush() {
             Ok(()) => outcome,
             Err(_) => Status::WriteFault,
@@ -176,15 +193,15 @@ fn flushed<O: Sink>(outcome: Status, out: &mut O) -> Status
 ///
 /// The words are the arguments of the program without its name. They are told apart first, then the files
 /// are read in their order, each checked for its length and for UTF-8 before the next one, then the document is
-/// read, and then the script; its commands are done in their order, and the file of a `sheet` line is read when
+/// read, or those of a book in their order, and then the script; its commands are done in their order, and the file of a `sheet` line is read when
 /// that line is done. The first fault ends the run, and its status tells it; what was written until then stays. A refused
 /// edit, an undo or redo that finds nothing, and a path to no element are told in the output and end nothing. Where `bake`
 /// leaves texts out, all else is written, and the status, `LeftOut`, tells how many. At the end `out` is flushed, and where
 /// that fails the status is `WriteFault`, if it isn't `Usage` or `Memory`. A fault of `err` changes no status.
 ///
 /// It takes time linear in the files and the output, and what one evaluation of the document costs; for each accepted
-/// edit, undo, redo and `sheet` line what `Engine::apply` of such an edit costs. It takes memory for the files, the commands,
-/// the document and what is kept of its elements, and for the edits that can be undone and redone. A run that is made up takes
+/// edit, undo, redo and `sheet` line what `Engine::apply` of such an edit costs, and for each `show` of a book what
+/// `Volume::show` does. It takes memory for the files, the commands, the documents and what is kept of their elements, and for the edits that can be undone and redone. A run that is made up takes
 /// time and memory for its COUNT edits too.
 pub fn run<S: Shelf, O: Sink, E: Sink, L: Ledger>(
     alloc: Global,

@@ -29,19 +29,39 @@ pub enum Status {
     /// The words are of no form.
     Usage,
     /// A read of this file failed.
-    ReadFault { file: FileAt },
+    ReadFault {
+        file: FileAt,
+    },
     /// This file is longer than a file may be.
-    TooLarge { file: FileAt },
+    TooLarge {
+        file: FileAt,
+    },
     /// This file isn't UTF-8; its first bytes are, up to the offset.
-    NotUtf8 { file: FileAt, offset: usize },
+    NotUtf8 {
+        file: FileAt,
+        offset: usize,
+    },
     /// DOC is no document; the first item that doesn't fit is here, both from 1.
-    BadDocument { line: usize, column: usize },
+    BadDocument {
+        line: usize,
+        column: usize,
+    },
     /// SCRIPT is no script; this is the first line, from 1, that is neither skipped nor a command.
-    BadScript { number: usize },
+    BadScript {
+        number: usize,
+    },
     /// A write of the output failed.
     WriteFault,
+    /// This document of a book is none; the first item that doesn't fit is here, both from 1.
+    BadPart {
+        file: FileAt,
+        line: usize,
+        column: usize,
+    },
     /// All output was written, but so many texts found no place in it: their elements take no `span`.
-    LeftOut { count: usize },
+    LeftOut {
+        count: usize,
+    },
 }
 
 impl Status {
@@ -59,6 +79,7 @@ impl Status {
             Status::BadDocument { .. } => 6,
             Status::BadScript { .. } => 7,
             Status::WriteFault => 8,
+            Status::BadPart { .. } => 10,
             Status::LeftOut { .. } => 11,
         }
     }

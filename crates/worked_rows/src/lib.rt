@@ -6,6 +6,7 @@
 //! | `dumps` | runs of `dump DOC SHEET`, and prefixes of sheets and deep documents |
 //! | `scripts` | runs of `edit DOC SHEET SCRIPT` and of `gen SEED COUNT` |
 //! | `histories` | runs of `history DOC SHEET SCRIPT DEPTH` |
+//! | `books` | runs of `book SHEET SCRIPT DOC...` |
 //! | `style_elements`, `style_attributes` | runs of both over documents that have these |
 //! | `texts`, `accounts` | runs of `text DOC SHEET` and of `why DOC SHEET PATH` |
 //! | `baked` | runs of `bake DOC SHEET` |
@@ -21,6 +22,8 @@
 mod accounts;
 #[cfg(test)]
 mod baked;
+#[cfg(test)]
+mod books;
 #[cfg(test)]
 mod dumps;
 #[cfg(test)]

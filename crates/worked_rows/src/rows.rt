@@ -14,6 +14,9 @@ use std::alloc::Global;
 use std::sync::ledger::{Blank, Ledger};
 use steps::Steps;
 
+/// A document of a book: its name and its text.
+pub type Chapter<'a> = (&'a str, &'a str);
+
 /// A run: its words and files, and what must come out.
 #[derive(Clone, Copy)]
 pub struct Row<'a> {
@@ -23,6 +26,8 @@ pub struct Row<'a> {
     pub script: &'a [u8],
     /// The file that a `sheet` line of the script may name.
     pub other_sheet: &'a [u8],
+    /// Further documents, each under a name of its own.
+    pub chapters: &'a [Chapter<'a>],
     pub out: &'a str,
     pub err: &'a str,
     pub code: u8,
@@ -36,6 +41,7 @@ pub fn dumped<'a>(document: &'a str, sheet: &'a str, out: &'a str) -> Row<'a> {
         sheet: sheet.as_bytes(),
         script: b"",
         other_sheet: b"",
+        chapters: &[],
         out,
         err: "",
         code: 0,
@@ -58,6 +64,7 @@ pub fn refused<'a>(document: &'a [u8], sheet: &'a [u8], err: &'a str, code: u8) 
         sheet,
         script: b"",
         other_sheet: b"",
+        chapters: &[],
         out: "",
         err,
         code,
@@ -72,6 +79,7 @@ pub fn tabled<'a>(sheet: &'a str, words: &'a [&'a str], out: &'a str) -> Row<'a>
         sheet: sheet.as_bytes(),
         script: b"",
         other_sheet: b"",
+        chapters: &[],
         out,
         err: "",
         code: 0,
@@ -86,6 +94,7 @@ pub fn edited<'a>(document: &'a str, sheet: &'a str, script: &'a str, out: &'a s
         sheet: sheet.as_bytes(),
         script: script.as_bytes(),
         other_sheet: b"",
+        chapters: &[],
         out,
         err: "",
         code: 0,
@@ -100,6 +109,7 @@ pub fn ended<'a>(words: &'a [&'a str], err: &'a str, code: u8) -> Row<'a> {
         sheet: b"",
         script: b"",
         other_sheet: b"",
+        chapters: &[],
         out: "",
         err,
         code,
@@ -123,7 +133,19 @@ fn words_of(alloc: Global, row: &Row<'_>) -> Result<List<Text>, Memory> {
     Ok(words)
 }
 
-/// Runs a row over the files `d.xhtml`, `s.css`, `t.txt` and `n.css`, and answers its code.
+/// Adds further documents to the files.
+fn add_chapters(
+    alloc: Global,
+    files: &mut List<NamedFile>,
+    chapters: &[Chapter<'_>],
+) -> Result<(), Memory> {
+    for (name, text) in chapters {
+        files.push(named(alloc, name, text.as_bytes())?)?;
+    }
+    Ok(())
+}
+
+/// Runs a row over the files `d.xhtml`, `s.css`, `t.txt` and `n.css` and its further documents, and answers its code.
 pub fn code_of<O: Sink, L: Ledger>(
     rt: &HostRuntime,
     blank: Blank,
@@ -142,6 +164,7 @@ pub fn code_of<O: Sink, L: Ledger>(
     files.push(named(alloc, "s.css", row.sheet)?)?;
     files.push(named(alloc, "t.txt", row.script)?)?;
     files.push(named(alloc, "n.css", row.other_sheet)?)?;
+    add_chapters(alloc, &mut files, row.chapters)?;
     let mut shelf = HonestShelf::new(files);
     let mut steps = Steps::<L>::open(rt, blank);
     Ok(run(alloc, words.as_slice(), &mut shelf, out, err, &mut steps).code())

@@ -10,7 +10,7 @@ use std::sync::ledger::Blank;
 use std::test::Fail;
 
 pub const USAGE: &str =
-    "marker: usage: dump DOC SHEET | edit DOC SHEET SCRIPT | table SHEET STYLE FROM TO | gen SEED COUNT | history DOC SHEET SCRIPT DEPTH | text DOC SHEET | why DOC SHEET PATH | bake DOC SHEET\n";
+    "marker: usage: dump DOC SHEET | edit DOC SHEET SCRIPT | table SHEET STYLE FROM TO | gen SEED COUNT | history DOC SHEET SCRIPT DEPTH | text DOC SHEET | why DOC SHEET PATH | bake DOC SHEET | book SHEET SCRIPT DOC...\n";
 
 /// Whether the row comes out as it is to.
 pub fn comes_out(rt: &HostRuntime, row: &Row<'_>) -> Result<bool, Memory> {

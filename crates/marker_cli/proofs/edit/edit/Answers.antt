@@ -53,7 +53,7 @@ returns-in_err-commands-clause-told g c files reading read told reads reads_scri
     ends_stopped c.from_residual-in_err-commands.result c.from_residual-in_err-commands.ensures
     (ends_not_given _ (at_value _ (at_text files _ _ _ (at_text files _ _ _ (at_text files _ _ _ (at_start _ _) text) style) lines)
     (c.in_ok-tree.ensures.tree reading (rw c.as_str.ensures.characters (reads c.in_ok-text.text c.in_ok-style.style text style))))
-    (c.in_err-commands.ensures.commands read (rw c.as_str-2.ensures.characters (reads_script c.in_ok-text.text c.in_ok-style.style c.in_ok-lines.lines text style lines))))
+    (c.in_err-commands.ensures.commands read (rw (c.as_str-2.ensures.characters, c.script_kind.ensures) (reads_script c.in_ok-text.text c.in_ok-style.style c.in_ok-lines.lines text style lines))))
 
 pub returns-in_err-editor-clause-told : goal.returns-in_err-editor-clause-told
 returns-in_err-editor-clause-told g c files reading read told reads reads_script =
@@ -63,7 +63,7 @@ returns-in_err-editor-clause-told g c files reading read told reads reads_script
     ends_stopped c.from_residual-in_err-editor.result c.from_residual-in_err-editor.ensures
     (ends_no_memory (at_value _ (at_value _ (at_text files _ _ _ (at_text files _ _ _ (at_text files _ _ _ (at_start _ _) text) style) lines)
     (c.in_ok-tree.ensures.tree reading (rw c.as_str.ensures.characters (reads c.in_ok-text.text c.in_ok-style.style text style))))
-    (c.in_ok-commands.ensures.commands read (rw c.as_str-2.ensures.characters (reads_script c.in_ok-text.text c.in_ok-style.style c.in_ok-lines.lines text style lines)))) refl)
+    (c.in_ok-commands.ensures.commands read (rw (c.as_str-2.ensures.characters, c.script_kind.ensures) (reads_script c.in_ok-text.text c.in_ok-style.style c.in_ok-lines.lines text style lines)))) refl)
 
 pub returns-clause-told : goal.returns-clause-told
 returns-clause-told g c files reading read told reads reads_script =
@@ -75,7 +75,7 @@ returns-clause-told g c files reading read told reads reads_script =
     (sym (c.in_ok-editor.ensures.versions ∙ ap (λ sheet. begun (record { document = c.in_ok-tree.tree; sheet = sheet })) c.as_str-3.ensures.characters) i))
     (at_value _ (at_value _ (at_text files _ _ _ (at_text files _ _ _ (at_text files _ _ _ (at_start _ _) text) style) lines)
     (c.in_ok-tree.ensures.tree reading (rw c.as_str.ensures.characters (reads c.in_ok-text.text c.in_ok-style.style text style))))
-    (c.in_ok-commands.ensures.commands read (rw c.as_str-2.ensures.characters (reads_script c.in_ok-text.text c.in_ok-style.style c.in_ok-lines.lines text style lines)))))
+    (c.in_ok-commands.ensures.commands read (rw (c.as_str-2.ensures.characters, c.script_kind.ensures) (reads_script c.in_ok-text.text c.in_ok-style.style c.in_ok-lines.lines text style lines)))))
     (c.play.ensures.told files (c.in_ok-lines.ensures.held ∙ c.in_ok-style.ensures.held ∙ c.in_ok-text.ensures.held ∙ told))
     (λ failed. reads_after (c.in_ok-lines.ensures.honest ∙ c.in_ok-style.ensures.honest ∙ c.in_ok-text.ensures.honest) (omega (arith, c.in_ok-text.ensures.faults, c.in_ok-style.ensures.faults, c.in_ok-lines.ensures.faults)) failed)
     (λ failed. failed)
@@ -85,7 +85,7 @@ returns-clause-commands g c files read told reads_script tells =
     let text : text_in (Word 1) (files (chars c.args.document.now)) ≡ Ok c.in_ok-text.text = c.in_ok-text.ensures.told files told in
     let style : text_in (Word 2) (files (chars c.args.sheet.now)) ≡ Ok c.in_ok-style.style = c.in_ok-style.ensures.told files (c.in_ok-text.ensures.held ∙ told) in
     let lines : text_in (Word 3) (files (chars c.args.script.now)) ≡ Ok c.in_ok-lines.lines = c.in_ok-lines.ensures.told files (c.in_ok-style.ensures.held ∙ c.in_ok-text.ensures.held ∙ told) in
-    given_commands read _ (c.in_ok-commands.ensures.commands read (rw c.as_str-2.ensures.characters (reads_script c.in_ok-text.text c.in_ok-style.style c.in_ok-lines.lines text style lines)))
+    given_commands read _ (c.in_ok-commands.ensures.commands read (rw (c.as_str-2.ensures.characters, c.script_kind.ensures) (reads_script c.in_ok-text.text c.in_ok-style.style c.in_ok-lines.lines text style lines)))
 
 pub returns-clause-reads : goal.returns-clause-reads
 returns-clause-reads g c files read told reads_script =
@@ -93,7 +93,7 @@ returns-clause-reads g c files read told reads_script =
     let style : text_in (Word 2) (files (chars c.args.sheet.now)) ≡ Ok c.in_ok-style.style = c.in_ok-style.ensures.told files (c.in_ok-text.ensures.held ∙ told) in
     let held = c.in_ok-style.ensures.held ∙ c.in_ok-text.ensures.held ∙ told in
     let lines : text_in (Word 3) (files (chars c.args.script.now)) ≡ Ok c.in_ok-lines.lines = c.in_ok-lines.ensures.told files held in
-    let given = given_commands read _ (c.in_ok-commands.ensures.commands read (rw c.as_str-2.ensures.characters (reads_script c.in_ok-text.text c.in_ok-style.style c.in_ok-lines.lines text style lines))) in
+    let given = given_commands read _ (c.in_ok-commands.ensures.commands read (rw (c.as_str-2.ensures.characters, c.script_kind.ensures) (reads_script c.in_ok-text.text c.in_ok-style.style c.in_ok-lines.lines text style lines))) in
     on_ok_weaker c.play.result
     (λ played. raises_more _ _ _ _ _ _ (c.in_ok-text.ensures.came files told)
     (raises_more _ _ _ _ _ _ (c.in_ok-style.ensures.came files (c.in_ok-text.ensures.held ∙ told))
@@ -117,7 +117,7 @@ returns-in_err-editor-clause-steps g c files reading read told reads reads_scrip
     let lines : text_in (Word 3) (files (chars c.args.script.now)) ≡ Ok c.in_ok-lines.lines = c.in_ok-lines.ensures.told files held in
     let most = most_of_script files _ _ _ c.args.depth reading read _ _ _ _ _ text style lines
     (c.in_ok-tree.ensures.tree reading (rw c.as_str.ensures.characters (reads c.in_ok-text.text c.in_ok-style.style text style)))
-    (c.in_ok-commands.ensures.commands read (rw c.as_str-2.ensures.characters (reads_script c.in_ok-text.text c.in_ok-style.style c.in_ok-lines.lines text style lines))) in
+    (c.in_ok-commands.ensures.commands read (rw (c.as_str-2.ensures.characters, c.script_kind.ensures) (reads_script c.in_ok-text.text c.in_ok-style.style c.in_ok-lines.lines text style lines))) in
     omega (arith, most, c.in_err-editor.ensures.steps)
 
 pub returns-clause-steps : goal.returns-clause-steps
@@ -128,7 +128,7 @@ returns-clause-steps g c files reading read told reads reads_script =
     let lines : text_in (Word 3) (files (chars c.args.script.now)) ≡ Ok c.in_ok-lines.lines = c.in_ok-lines.ensures.told files held in
     let most = most_of_script files _ _ _ c.args.depth reading read _ _ _ _ _ text style lines
     (c.in_ok-tree.ensures.tree reading (rw c.as_str.ensures.characters (reads c.in_ok-text.text c.in_ok-style.style text style)))
-    (c.in_ok-commands.ensures.commands read (rw c.as_str-2.ensures.characters (reads_script c.in_ok-text.text c.in_ok-style.style c.in_ok-lines.lines text style lines))) in
+    (c.in_ok-commands.ensures.commands read (rw (c.as_str-2.ensures.characters, c.script_kind.ensures) (reads_script c.in_ok-text.text c.in_ok-style.style c.in_ok-lines.lines text style lines))) in
     let same = script_as files _ _ _ _ _ _ c.in_ok-editor.ensures.depth c.as_slice.ensures.items
     (c.in_ok-editor.ensures.versions ∙ ap (λ sheet. begun (record { document = c.in_ok-tree.tree; sheet = sheet })) c.as_str-3.ensures.characters) in
     let played = c.play.ensures.steps files (c.in_ok-lines.ensures.held ∙ held) in

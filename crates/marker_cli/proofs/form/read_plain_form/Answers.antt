@@ -124,5 +124,5 @@ returns-else-is_command-7 c =
           (λ both. cc (sym c.if-is_command-5.false ∙ c.is_command-else-is_command-4.ensures.same.1 (both.0, both.1 ∙ sym history_name)))
           (λ both. cc (sym c.if-is_command-6.false ∙ c.is_command-else-is_command-5.ensures.same.1 (both.0, both.1 ∙ sym text_name)))
           (λ both. cc (sym c.if-is_command-7.false ∙ c.is_command-else-is_command-6.ensures.same.1 (both.0, both.1 ∙ sym bake_name)))
-          c.requires.other;
+          c.requires.other c.requires.no_book;
     }

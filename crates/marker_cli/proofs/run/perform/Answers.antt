@@ -1,12 +1,13 @@
-use Rattle.std.proofs.Common.{◌+◌, FitsSigned, refl, rules, sym, w64}
-use Rattle.std.specs.Prelude.{Some}
+use Rattle.std.proofs.Common.{◌+◌, FitsSigned, map, refl, rules, sym, w64}
+use Rattle.std.specs.Prelude.{Some, sum}
 use Rattle.std.proofs.lemmas.Int.{to_z-of_z}
 use Rattle.marker_cli.specs.Aspects.{aspect_output}
 use Rattle.marker_cli.specs.Bake.{bake_output}
+use Rattle.marker_cli.specs.Book.{book_output}
 use Rattle.marker_cli.specs.Edit.{edit_output}
 use Rattle.marker_cli.specs.Run.{TextsReadAs, commands_in, commands_size, size_of}
 use Rattle.marker_cli.specs.Table.{table_output}
-use Rattle.marker_cli.specs.Words.{aspect, bake, edit}
+use Rattle.marker_cli.specs.Words.{aspect, bake, book, edit}
 use Rattle.marker_cli.proofs.EndsLemmas.{ends_same}
 use Rattle.marker_cli.proofs.ReadLemmas.{of_whole, raised_as}
 use Rattle.marker_cli.proofs.run.perform.Goals as goal
@@ -94,6 +95,42 @@ returns-in-Script-clause-steps g c files readings told reads =
     let script = c.as_str-in-Script-3.ensures.characters in
     let taken = c.edit.ensures.steps files readings.document readings.script told (rw (document, sheet) texts.0) (rw (document, sheet, script) texts.1) in
     rw c.in-Script.is (rw (document, sheet, script) at taken)
+
+pub book-requires : goal.book-requires
+book-requires g c = record { names = rw c.in-Book.is at c.requires.within }
+
+pub returns-in-Book-clause-told : goal.returns-in-Book-clause-told
+returns-in-Book-clause-told g c files readings told reads =
+    let texts : TextsReadAs files readings (Some (book c.in-Book.sheet.now c.in-Book.script.now c.in-Book.documents.now)) = rw c.in-Book.is at reads in
+    let sheet = c.as_str-in-Book.ensures.characters in
+    let script = c.as_str-in-Book-2.ensures.characters in
+    rw c.in-Book.is
+    (ends_same (λ i. book_output files (sheet i) (script i) c.in-Book.documents.now readings.parts readings.script) refl
+    (c.book.ensures.told files readings.parts readings.script told (rw (sheet, script) texts.0) (rw (sheet, script) texts.1)))
+
+pub returns-in-Book-clause-commands : goal.returns-in-Book-clause-commands
+returns-in-Book-clause-commands g c files readings told reads tells =
+    let texts : TextsReadAs files readings (Some (book c.in-Book.sheet.now c.in-Book.script.now c.in-Book.documents.now)) = rw c.in-Book.is at reads in
+    let sheet = c.as_str-in-Book.ensures.characters in
+    let script = c.as_str-in-Book-2.ensures.characters in
+    c.book.ensures.commands files readings.script told (rw (sheet, script) texts.1) tells
+
+pub returns-in-Book-clause-reads : goal.returns-in-Book-clause-reads
+returns-in-Book-clause-reads g c files readings told reads =
+    let texts : TextsReadAs files readings (Some (book c.in-Book.sheet.now c.in-Book.script.now c.in-Book.documents.now)) = rw c.in-Book.is at reads in
+    let sheet = c.as_str-in-Book.ensures.characters in
+    let script = c.as_str-in-Book-2.ensures.characters in
+    rw c.in-Book.is
+    (λ whole. raised_as (λ i. size_of files (sym sheet i) + (size_of files (sym script i) + (sum (map (size_of files) c.in-Book.documents.now) + commands_size files (commands_in readings.script))))
+    (of_whole c.book.result c.book.ensures.stops (c.book.ensures.reads files readings.script told (rw (sheet, script) texts.1)) whole))
+
+pub returns-in-Book-clause-steps : goal.returns-in-Book-clause-steps
+returns-in-Book-clause-steps g c files readings told reads =
+    let texts : TextsReadAs files readings (Some (book c.in-Book.sheet.now c.in-Book.script.now c.in-Book.documents.now)) = rw c.in-Book.is at reads in
+    let sheet = c.as_str-in-Book.ensures.characters in
+    let script = c.as_str-in-Book-2.ensures.characters in
+    let taken = c.book.ensures.steps files readings.parts readings.script told (rw (sheet, script) texts.0) (rw (sheet, script) texts.1) in
+    rw c.in-Book.is (rw (sheet, script) at taken)
 
 pub returns-in-Table-clause-told : goal.returns-in-Table-clause-told
 returns-in-Table-clause-told g c files readings told reads =

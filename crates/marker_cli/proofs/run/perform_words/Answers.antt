@@ -9,6 +9,11 @@ use Rattle.marker_cli.proofs.ReadLemmas.{raised_as}
 use Rattle.marker_cli.proofs.RunLemmas.{output_of, output_usage, size_same, some_readings, steps_same, texts_of}
 use Rattle.marker_cli.proofs.run.perform_words.Goals as goal
 
+pub perform-requires : goal.perform-requires
+perform-requires g c =
+    let is : IsForm c.args.words.now (form_of c.in-Ok-Some.form) = rw c.in-Ok-Some.field-0-is at c.in-Ok-Some.ensures.form in
+    record { within = is.within }
+
 pub returns-in-Ok-Some-clause-readings : goal.returns-in-Ok-Some-clause-readings
 returns-in-Ok-Some-clause-readings g c files = some_readings c.documents_stay.ensures.stay c.some_output.ensures c.args.words.now files (read_form_of c.in-Ok-Some.field-0) c.in-Ok-Some.ensures.form
 
