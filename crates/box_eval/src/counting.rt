@@ -17,6 +17,7 @@ use plain_types::counter::Counter;
 use plain_types::duplicate::Duplicate;
 use plain_types::list::List;
 use plain_types::memory::Memory;
+use plain_types::shared_text::SharedText;
 use plain_types::style::{CounterOp, ResetOp, Style};
 use plain_types::text::Text;
 use reversed_start::event::Event;
@@ -95,7 +96,7 @@ fn reset(
     ensures set { IfOk result (λ after. after ≡ reset_by (is_missing_in place.now.parent) place.now.creator starts.now set.now op.now) }
 {
     let counter = Counter {
-        name: op.name.duplicate(alloc)?,
+        name: SharedText::from_str(alloc, op.name.as_str())?,
         creator: place.creator,
         reversed: op.reversed,
         value: first_value(starts, place.creator, op),

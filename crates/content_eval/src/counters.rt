@@ -9,8 +9,8 @@ use crate::place::Place;
 use counter_sets::counter_set::CounterSet;
 use counter_sets::counters::is_named;
 use plain_types::counter::Counter;
-use plain_types::duplicate::Duplicate;
 use plain_types::memory::Memory;
+use plain_types::shared_text::SharedText;
 use plain_types::style_ref::StyleRef;
 use plain_types::table::Table;
 use plain_types::text::Text;
@@ -30,7 +30,7 @@ pub fn with_counter(
         return Ok(set);
     }
     let counter = Counter {
-        name: name.duplicate(alloc)?,
+        name: SharedText::from_str(alloc, name.as_str())?,
         creator: place.creator,
         reversed: false,
         value: 0,

@@ -35,7 +35,7 @@ pub fn eval_items(
 ) -> Result<Generated, Memory>
     ensures generated { IfOk result (λ made. made ≡ generated table.now content.now attrs.now quotes.now place.now.creator (is_missing_in place.now.parent) place.now.set place.now.depth) }
 {
-    let mut pieces = List::new(alloc);
+    let mut pieces = List::with_capacity(alloc, content.len())?;
     let mut set = place.set.share(alloc)?;
     let mut depth = place.depth;
     for item in content.as_slice() {

@@ -4,7 +4,9 @@ ghost use Rattle.std.specs.Prelude.{◌≡◌, ◌≢◌, ◌↔◌, None, Some,
 ghost use Rattle.std.specs.Str.{chars};
 ghost use Rattle.counter_sets.specs.Sets.{AreDistinct, assigned, incremented, inherited, innermost, innermost_place, instantiated, is_missing_in, replaced_place, change_at, with_value};
 
-use crate::counters::{are_equal, copy_with_value, copy_without, is_missing_in, last_place};
+use crate::counters::{
+    are_equal, copy_with_room, copy_with_value, copy_without, is_missing_in, last_place,
+};
 use crate::inheriting::{copy_inherited, is_inherited};
 use plain_types::box_id::BoxId;
 use plain_types::count::{Count, add_counts};
@@ -12,6 +14,7 @@ use plain_types::counter::Counter;
 use plain_types::duplicate::Duplicate;
 use plain_types::list::List;
 use plain_types::memory::Memory;
+use plain_types::shared_text::SharedText;
 use plain_types::text::Text;
 use std::alloc::Global;
 use std::marker::Model;
@@ -88,7 +91,7 @@ impl CounterSet {
     {
         let mut counters = match self.replaced_place(parent, counter.name.as_str()) {
             Some(place) => copy_without(alloc, self.as_slice(), place)?,
-            None => self.counters.duplicate(alloc)?,
+            None => copy_with_room(alloc, self.as_slice())?,
         };
         counters.push(counter)?;
         CounterSet::of(alloc, counters)
@@ -243,9 +246,9 @@ impl CounterSet {
         requires unused { innermost_place self.now name.now ≡ None }
         ensures set { IfOk result (λ set. set ≡ self.now ++ record { name = name.now; creator = creator; reversed = false; value = value } ∷ []) }
     {
-        let mut counters = self.counters.duplicate(alloc)?;
+        let mut counters = copy_with_room(alloc, self.as_slice())?;
         counters.push(Counter {
-            name: name.duplicate(alloc)?,
+            name: SharedText::from_str(alloc, name.as_str())?,
             creator,
             reversed: false,
             value,

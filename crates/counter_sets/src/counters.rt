@@ -97,7 +97,18 @@ pub(crate) fn last_place(counters: &[Counter], name: &str) -> Option<usize>
     None
 }
 
-/// Copies of the counters but for that at a place.
+/// Copies of the counters, in a list with room for one more.
+pub(crate) fn copy_with_room(alloc: Global, counters: &[Counter]) -> Result<List<Counter>, Memory>
+    ensures copy { IfOk result (λ copy. copy ≡ counters.now) }
+{
+    let mut copy = List::with_capacity(alloc, counters.len() + 1)?;
+    for counter in counters {
+        copy.push(counter.duplicate(alloc)?)?;
+    }
+    Ok(copy)
+}
+
+/// Copies of the counters but for that at a place, in a list with room for one more.
 pub(crate) fn copy_without(
     alloc: Global,
     counters: &[Counter],
@@ -105,7 +116,7 @@ pub(crate) fn copy_without(
 ) -> Result<List<Counter>, Memory>
     ensures copy { IfOk result (λ copy. copy ≡ remove counters.now place) }
 {
-    let mut copy = List::new(alloc);
+    let mut copy = List::with_capacity(alloc, counters.len())?;
     for (at, counter) in counters.iter().enumerate() {
         if at != place {
             copy.push(counter.duplicate(alloc)?)?;
@@ -123,7 +134,7 @@ pub(crate) fn copy_with_value(
 ) -> Result<List<Counter>, Memory>
     ensures copy { IfOk result (λ copy. copy ≡ change_at (with_value (λ _. value)) counters.now place) }
 {
-    let mut copy = List::new(alloc);
+    let mut copy = List::with_capacity(alloc, counters.len())?;
     for (at, counter) in counters.iter().enumerate() {
         let mut counter = counter.duplicate(alloc)?;
         if at == place {

@@ -24,9 +24,9 @@ pub(crate) fn copy_inherited(
     requires distinct { AreDistinct values.now }
     ensures copy { IfOk result (λ copy. copy ≡ inherited parent.now (Some sibling.now) (Some values.now)) }
 {
-    let mut list = List::new(alloc);
-    push_added(alloc, &mut list, &[], parent, values)?;
     let (others, added) = besides(parent, sibling);
+    let mut list = List::with_capacity(alloc, parent.len() + added.len())?;
+    push_added(alloc, &mut list, &[], parent, values)?;
     push_added(alloc, &mut list, others, added, values)?;
     Ok(list)
 }

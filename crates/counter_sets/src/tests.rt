@@ -7,6 +7,7 @@ use plain_types::box_kind::BoxKind;
 use plain_types::count::{COUNT_HIGH, COUNT_LOW, Count};
 use plain_types::counter::Counter;
 use plain_types::memory::Memory;
+use plain_types::shared_text::SharedText;
 use plain_types::text::Text;
 use std::alloc::Global;
 use std::test::Fail;
@@ -27,7 +28,7 @@ fn reset(
     key: usize,
 ) -> Result<CounterSet, Memory> {
     let counter = Counter {
-        name: Text::from_str(alloc, name)?,
+        name: SharedText::from_str(alloc, name)?,
         creator: element(key),
         reversed: false,
         value: 0,

@@ -15,7 +15,7 @@ use std::alloc::Global;
 fn copied_attrs(alloc: Global, attrs: &[Attr]) -> Result<List<Attr>, Memory>
     ensures same { IfOk result (λ copy. copy ≡ attrs.now) }
 {
-    let mut copy = List::new(alloc);
+    let mut copy = List::with_capacity(alloc, attrs.len())?;
     for attr in attrs {
         copy.push(attr.duplicate(alloc)?)?;
     }

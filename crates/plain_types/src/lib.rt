@@ -1,7 +1,7 @@
 //! The plain types that every crate shares, each with a copy that equals its source.
 //!
-//! - Texts, lists and paths, which contracts see as lists (`text`, `list`, `path`), the answer for want
-//!   of memory (`memory`), and copies (`duplicate`).
+//! - Texts, lists and paths, which contracts see as lists (`text`, `list`, `path`), texts that copies share
+//!   (`shared_text`), the answer for want of memory (`memory`), and copies (`duplicate`).
 //! - Documents: nodes with their attributes (`node`, `attr`), and trees of them with their builder
 //!   (`tree`, `tree_builder`). A tree is seen as the forest of its root, `specs/Tree.antt`; code walks
 //!   it in tree order, node by node with its depth (`row`), `specs/Rows.antt`.
@@ -36,6 +36,7 @@ pub mod path;
 pub mod row;
 pub mod selector;
 pub mod selector_parts;
+pub mod shared_text;
 pub mod sheet;
 pub mod style;
 pub mod style_name;

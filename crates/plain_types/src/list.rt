@@ -1,6 +1,6 @@
 //! Owned lists.
 
-ghost use Rattle.std.specs.Prelude.{◌≡◌, ◌↔◌, ◌++◌, ◌∷◌, [], IsTrue, OnOk, OnErr, length};
+ghost use Rattle.std.specs.Prelude.{◌≡◌, ◌↔◌, ◌++◌, ◌∷◌, [], IfOk, IsTrue, OnOk, OnErr, length};
 
 use crate::duplicate::Duplicate;
 use crate::memory::Memory;
@@ -35,6 +35,15 @@ impl<T> List<T> {
         }
     }
 
+    /// The list without items, with room in memory for so many.
+    pub fn with_capacity(alloc: Global, capacity: usize) -> Result<List<T>, Memory>
+        ensures empty { IfOk result (λ list. list ≡ []) }
+    {
+        Ok(List {
+            items: Vec::with_capacity(alloc, capacity)?,
+        })
+    }
+
     /// The items as a slice.
     pub fn as_slice(&self) -> &[T]
         ensures items { result.now ≡ self.now }
@@ -56,13 +65,17 @@ impl<T> List<T> {
         self.items.is_empty()
     }
 
-    /// Appends the item, in amortized constant time. After `Memory` the item is dropped.
+    /// Appends the item, in amortized constant time. After `Memory` the item is dropped. A list of one item takes room for
+    /// no more, since most lists have one.
     pub fn push(&mut self, item: T) -> Result<(), Memory>
     where
         T: Drop,
         ensures ok { OnOk result (self.new ≡ self.old ++ item ∷ []) }
         ensures err { OnErr result (self.new ≡ self.old) }
     {
+        if self.items.is_empty() {
+            self.items.reserve_exact(1)?;
+        }
         self.items.push(item)?;
         Ok(())
     }
@@ -81,7 +94,7 @@ impl List<u8> {
 
 impl<T: Duplicate + Drop> Duplicate for List<T> {
     fn duplicate(&self, alloc: Global) -> Result<List<T>, Memory> {
-        let mut copy = List::new(alloc);
+        let mut copy = List::with_capacity(alloc, self.len())?;
         for item in self.as_slice() {
             copy.push(item.duplicate(alloc)?)?;
         }

@@ -11,9 +11,9 @@ no_place set name (Some counter) e h = absurd (cc)
 
 pub instantiate-requires : goal.instantiate-requires
 instantiate-requires c =
-    let new : Counter = record { name = c.in_ok-duplicate.field-0; creator = c.args.place.now.creator; reversed = false; value = pos 0 } in
-    let none : innermost_place c.args.set c.in_ok-duplicate.field-0 ≡ None =
-    subst (λ (name : List ℕ). innermost_place c.args.set name ≡ None) (c.as_str.ensures.characters ∙ sym c.in_ok-duplicate.ensures.same)
+    let new : Counter = record { name = c.in_ok-from_str.field-0; creator = c.args.place.now.creator; reversed = false; value = pos 0 } in
+    let none : innermost_place c.args.set c.in_ok-from_str.field-0 ≡ None =
+    subst (λ (name : List ℕ). innermost_place c.args.set name ≡ None) (c.as_str.ensures.characters ∙ sym (c.in_ok-from_str.ensures.characters ∙ c.as_str-2.ensures.characters))
     (no_place c.args.set _ c.innermost.result c.innermost.ensures.innermost (sym c.is_some.ensures ∙ c.if-is_some.false)) in
     record {
       distinct = instantiated_distinct (is_missing_in c.args.place.now.parent) c.args.set new (subst AreDistinct c.set.view_is c.set.invariant) (unnamed_missing c.args.set new none);

@@ -10,8 +10,8 @@ of-requires c =
     let new : List ℕ → Counter = λ name. record { name = name; creator = c.args.creator; reversed = false; value = to_z w64 (of_z w64 c.args.value) } in
     let pushed : c.push.new.self ≡ set ++ new c.args.name.now ∷ [] =
     c.in_ok-push.ensures.ok
-    ∙ ap (λ counters. counters ++ new c.in_ok-duplicate.field-0 ∷ []) (c.in_ok-counters.ensures.same ∙ c.deref.ensures ∙ c.self.view_is)
-    ∙ ap (λ name. set ++ new name ∷ []) c.in_ok-duplicate.ensures.same in
+    ∙ ap (λ counters. counters ++ new c.in_ok-from_str.field-0 ∷ []) (c.in_ok-counters.ensures.copy ∙ c.as_slice.ensures.counters)
+    ∙ ap (λ name. set ++ new name ∷ []) (c.in_ok-from_str.ensures.characters ∙ c.as_str.ensures.characters) in
     record {
-      distinct = subst AreDistinct (sym pushed) (distinct_push set (new c.args.name.now) (subst AreDistinct c.self.view_is c.self.invariant) (unnamed_missing set (new c.args.name.now) c.requires.unused));
+      distinct = subst AreDistinct (sym pushed) (distinct_push set (new c.args.name.now) c.as_slice.ensures.distinct (unnamed_missing set (new c.args.name.now) c.requires.unused));
     }
