@@ -118,7 +118,7 @@ pub fn rule<'a>(
         return Ok(Some((None, after)));
     }
     match &first.kind {
-        TokenKind::AtKeyword(name) => Ok(Some(at_rule(alloc, name, after)?)),
+        TokenKind::AtKeyword(name) => Ok(Some(at_rule(alloc, name.as_text(), after)?)),
         _ => Ok(Some(style_rule(alloc, tokens)?)),
     }
 }
@@ -142,7 +142,7 @@ pub fn part<'a>(
     }
     match &first.kind {
         TokenKind::AtKeyword(name) => {
-            let (_, rest) = at_rule(alloc, name, after)?;
+            let (_, rest) = at_rule(alloc, name.as_text(), after)?;
             Ok(Some((None, rest)))
         }
         _ => {

@@ -26,7 +26,7 @@ blanks_at [] = None
 blanks_at (first ∷ rest) = if is_blank first then Some (past_blanks rest) else None
 
 abbrev pub hash_of : List ℕ → TokenKind × List ℕ
-hash_of characters = (kind.Hash (ident_sequence_at characters).0 (starts_identifier characters), (ident_sequence_at characters).1)
+hash_of characters = (kind.Hash (starts_identifier characters) (ident_sequence_at characters).0, (ident_sequence_at characters).1)
 
 -- a `#` before an ident code point or an escape
 unfoldable pub hash_at : List ℕ → Option (TokenKind × List ℕ)

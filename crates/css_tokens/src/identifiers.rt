@@ -11,6 +11,7 @@ ghost use Rattle.css_definitions.specs.Identifiers.{character_of, past_blank, es
 use crate::characters::{
     begins, is_digit, is_hexadecimal_digit, is_ident_character, is_ident_start,
 };
+use crate::token_text::TokenText;
 use plain_types::memory::Memory;
 use plain_types::text::Text;
 use reading::characters::{first_char, is_blank};
@@ -123,7 +124,7 @@ pub(crate) fn ident_character(text: &str) -> Option<(char, &str)>
 }
 
 /// The longest run of identifier characters at the front, and the text after it.
-pub(crate) fn ident_sequence(alloc: Global, text: &str) -> Result<(Text, &str), Memory>
+pub(crate) fn ident_sequence(alloc: Global, text: &str) -> Result<(TokenText, &str), Memory>
     ensures gives { IfOk result (λ x. ident_sequence_at (chars text.now) ≡ (x.0, chars x.1.now)) }
     ensures text { IfOk result (λ x. IsUtf8 x.1.now) }
 {
@@ -133,7 +134,7 @@ pub(crate) fn ident_sequence(alloc: Global, text: &str) -> Result<(Text, &str), 
         name.push(c)?;
         rest = after;
     }
-    Ok((name, rest))
+    Ok((TokenText::new(alloc, name)?, rest))
 }
 
 /// The text after the longest run of identifier characters at its front.
@@ -173,7 +174,7 @@ pub(crate) fn starts_identifier(text: &str) -> bool
 }
 
 /// The identifier at the front, and the text after it.
-pub(crate) fn identifier(alloc: Global, text: &str) -> Result<Option<(Text, &str)>, Memory>
+pub(crate) fn identifier(alloc: Global, text: &str) -> Result<Option<(TokenText, &str)>, Memory>
     ensures gives { IfOk result (λ r. Reads (λ x. (x.0, chars x.1.now)) r (identifier_at (chars text.now))) }
     ensures text { IfOk result (λ r. IfSome r (λ x. IsUtf8 x.1.now)) }
 {

@@ -56,7 +56,7 @@ fn hash(alloc: Global, text: &str) -> Result<Option<(TokenKind, &str)>, Memory>
     }
     let identifier = starts_identifier(after);
     let (name, rest) = ident_sequence(alloc, after)?;
-    Ok(Some((TokenKind::Hash { name, identifier }, rest)))
+    Ok(Some((TokenKind::Hash { identifier, name }, rest)))
 }
 
 fn past_comment_close(text: &str) -> Option<&str>
@@ -127,6 +127,16 @@ fn piece(alloc: Global, text: &str) -> Result<Option<(Option<TokenKind>, &str)>,
     }
 }
 
+/// The place of a token, or `Memory` where it does not fit.
+fn place(bytes: usize) -> Result<u32, Memory>
+    ensures { IfOk result (λ place. place ≡ bytes) }
+{
+    match u32::try_from(bytes) {
+        Ok(place) => Ok(place),
+        Err(_) => Err(Memory),
+    }
+}
+
 fn push_token(
     tokens: &mut List<Token>,
     kind: Option<TokenKind>,
@@ -136,13 +146,15 @@ fn push_token(
     ensures ok { OnOk result (tokens.new ≡ tokens.old ++ token_from kind start end) }
 {
     if let Some(kind) = kind {
+        let start = place(start)?;
+        let end = place(end)?;
         tokens.push(Token { kind, start, end })?;
     }
     Ok(())
 }
 
 /// The tokens of a prepared text, each with its place in it (CSS Syntax 3, 4.3). Comments leave none.
-/// Time and memory are linear in the length of the text.
+/// Time and memory are linear in the length of the text. A token that ends past 4 GiB answers `Memory`.
 pub fn tokens(alloc: Global, text: &str) -> Result<List<Token>, Memory>
     requires prepared { IsPrepared (chars text.now) }
     ensures tokens { IfOk result (λ found. found ≡ tokens (chars text.now)) }

@@ -25,5 +25,6 @@ pub mod sheet_text;
 mod strings;
 pub mod token;
 pub mod token_reading;
+pub mod token_text;
 mod urls;
 pub mod words;

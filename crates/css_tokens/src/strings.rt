@@ -7,6 +7,7 @@ ghost use Rattle.css_tokens.specs.Strings.{string_escape_at, string_piece_at, st
 
 use crate::identifiers::escape;
 use crate::token::TokenKind;
+use crate::token_text::TokenText;
 use plain_types::memory::Memory;
 use plain_types::text::Text;
 use reading::characters::{first_char, is_quote};
@@ -54,7 +55,7 @@ fn push_left(value: &mut Text, left: Option<char>) -> Result<(), Memory>
 }
 
 /// The characters of a string, and the text from where it ends or breaks.
-fn string_value(alloc: Global, quote: char, text: &str) -> Result<(Text, &str), Memory>
+fn string_value(alloc: Global, quote: char, text: &str) -> Result<(TokenText, &str), Memory>
     ensures value { IfOk result (λ x. x.0 ≡ kept (run_at (string_piece_at quote) (chars text.now)).0) }
     ensures rest { IfOk result (λ x. chars x.1.now ≡ (run_at (string_piece_at quote) (chars text.now)).1) }
     ensures text { IfOk result (λ x. IsUtf8 x.1.now) }
@@ -65,11 +66,11 @@ fn string_value(alloc: Global, quote: char, text: &str) -> Result<(Text, &str), 
         push_left(&mut value, left)?;
         rest = after;
     }
-    Ok((value, rest))
+    Ok((TokenText::new(alloc, value)?, rest))
 }
 
 /// The string whose characters are read: what stands after them ends or breaks it.
-fn string_end(quote: char, value: Text, text: &str) -> (TokenKind, &str)
+fn string_end(quote: char, value: TokenText, text: &str) -> (TokenKind, &str)
     ensures gives { string_end quote value (chars text.now) ≡ (result.0, chars result.1.now) }
     ensures text { IsUtf8 result.1.now }
 {

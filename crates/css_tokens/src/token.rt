@@ -1,7 +1,7 @@
 //! Tokens.
 
+use crate::token_text::TokenText;
 use plain_types::count::Count;
-use plain_types::text::Text;
 
 /// What a token is (CSS Syntax 3, 4). Names, strings and addresses have their escapes resolved.
 #[derive(Drop)]
@@ -9,15 +9,16 @@ pub enum TokenKind {
     /// Whitespace: one blank or more.
     Blank,
     /// An identifier.
-    Word(Text),
+    Word(TokenText),
     /// A name with `(` right after it; the bracket is part of the token.
-    Function(Text),
+    Function(TokenText),
     /// `@` and an identifier.
-    AtKeyword(Text),
-    /// `#` and a name, and whether that name is an identifier.
-    Hash { name: Text, identifier: bool },
+    AtKeyword(TokenText),
+    /// `#` and a name, and whether that name is an identifier. The flag stands first so that it shares its room
+    /// with the tag of the kind.
+    Hash { identifier: bool, name: TokenText },
     /// A string between quotes.
-    Chars(Text),
+    Chars(TokenText),
     /// A string that a line feed breaks; the line feed is no part of it.
     BadString,
     /// A number, and whether it has neither point nor exponent. The value of one that is not whole is 0.
@@ -27,7 +28,7 @@ pub enum TokenKind {
     /// A number and an identifier.
     Dimension,
     /// `url(`, an address without quotes, and `)`.
-    Url(Text),
+    Url(TokenText),
     /// The same with something that may not stand there.
     BadUrl,
     /// `<!--`.
@@ -38,10 +39,13 @@ pub enum TokenKind {
     Sign(char),
 }
 
-/// A token and its place in the text: its bytes from `start` on and before `end`.
+/// A token and its place in the text: its bytes from `start` on and before `end`. The places have 32 bits,
+/// so that a token takes 24 bytes: a sheet may have a token for each of its bytes.
 #[derive(Drop)]
 pub struct Token {
     pub kind: TokenKind,
-    pub start: usize,
-    pub end: usize,
+    pub start: u32,
+    pub end: u32,
 }
+
+const _: () = prove!(size_of::<Token>() == 24);

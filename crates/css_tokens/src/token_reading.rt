@@ -72,7 +72,7 @@ pub fn ident(tokens: &[Token]) -> Option<(&Text, &[Token])>
 {
     let (token, rest) = tokens.split_first()?;
     match &token.kind {
-        TokenKind::Word(name) => Some((name, rest)),
+        TokenKind::Word(name) => Some((name.as_text(), rest)),
         _ => None,
     }
 }
@@ -83,7 +83,7 @@ pub fn function(tokens: &[Token]) -> Option<(&Text, &[Token])>
 {
     let (token, rest) = tokens.split_first()?;
     match &token.kind {
-        TokenKind::Function(name) => Some((name, rest)),
+        TokenKind::Function(name) => Some((name.as_text(), rest)),
         _ => None,
     }
 }

@@ -9,6 +9,7 @@ ghost use Rattle.css_tokens.specs.Urls.{is_url_character, url_character_at, bad_
 use crate::characters::{begins, past_blanks, past_one};
 use crate::identifiers::{escape, identifier};
 use crate::token::TokenKind;
+use crate::token_text::TokenText;
 use crate::words::is_word;
 use plain_types::memory::Memory;
 use plain_types::text::Text;
@@ -44,7 +45,7 @@ fn url_character(text: &str) -> Option<(char, &str)>
 }
 
 /// The characters of an address, and the text after them.
-fn url_value(alloc: Global, text: &str) -> Result<(Text, &str), Memory>
+fn url_value(alloc: Global, text: &str) -> Result<(TokenText, &str), Memory>
     ensures gives { IfOk result (λ x. run_at url_character_at (chars text.now) ≡ (x.0, chars x.1.now)) }
     ensures text { IfOk result (λ x. IsUtf8 x.1.now) }
 {
@@ -54,7 +55,7 @@ fn url_value(alloc: Global, text: &str) -> Result<(Text, &str), Memory>
         value.push(c)?;
         rest = after;
     }
-    Ok((value, rest))
+    Ok((TokenText::new(alloc, value)?, rest))
 }
 
 /// A character of an address that is bad, and the text after it.
@@ -88,7 +89,7 @@ fn past_bad_url(text: &str) -> &str
 }
 
 /// The address whose characters are read: what stands after them ends it or makes it bad.
-fn url_end(value: Text, text: &str) -> (TokenKind, &str)
+fn url_end(value: TokenText, text: &str) -> (TokenKind, &str)
     ensures gives { url_end value (chars text.now) ≡ (result.0, chars result.1.now) }
     ensures text { IsUtf8 result.1.now }
 {
@@ -124,7 +125,7 @@ fn begins_quote(text: &str) -> bool
 }
 
 /// The function or address of this name, and the text after it, which begins after the `(`.
-fn function(alloc: Global, name: Text, text: &str) -> Result<(TokenKind, &str), Memory>
+fn function(alloc: Global, name: TokenText, text: &str) -> Result<(TokenKind, &str), Memory>
     ensures gives { IfOk result (λ x. function_or_url name (chars text.now) ≡ (x.0, chars x.1.now)) }
     ensures text { IfOk result (λ x. IsUtf8 x.1.now) }
 {

@@ -73,7 +73,7 @@ pub(crate) fn word(tokens: &[Token]) -> Option<(&Text, &[Token])>
 {
     let (kind, rest) = next(tokens)?;
     match kind {
-        TokenKind::Word(name) => Some((name, rest)),
+        TokenKind::Word(name) => Some((name.as_text(), rest)),
         _ => None,
     }
 }
@@ -83,7 +83,7 @@ pub(crate) fn string(tokens: &[Token]) -> Option<(&Text, &[Token])>
 {
     let (kind, rest) = next(tokens)?;
     match kind {
-        TokenKind::Chars(value) => Some((value, rest)),
+        TokenKind::Chars(value) => Some((value.as_text(), rest)),
         _ => None,
     }
 }

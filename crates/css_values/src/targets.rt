@@ -52,7 +52,7 @@ fn url_token(tokens: &[Token]) -> Option<(&Text, &[Token])>
 {
     let (kind, rest) = next(tokens)?;
     match kind {
-        TokenKind::Url(value) => Some((value, rest)),
+        TokenKind::Url(value) => Some((value.as_text(), rest)),
         _ => None,
     }
 }

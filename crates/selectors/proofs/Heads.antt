@@ -49,7 +49,7 @@ held_head {X = X} held (t ∷ us) more x e = go (held t.kind) refl e
 
 -- whether a simple selector that is no type, or a pseudo-element, may begin with this token
 abbrev pub begins_subclass : TokenKind → Bool
-begins_subclass (kind.Hash name true) = true
+begins_subclass (kind.Hash true name) = true
 begins_subclass (kind.Sign c) = c == 46 || (c == 91 || c == 58)
 begins_subclass _ = false
 
@@ -58,8 +58,8 @@ or_parts true b e = absurd cc
 or_parts false b e = (refl, e)
 
 begins_parts : (k : TokenKind) → begins_subclass k ≡ false → (id_of k ≡ None) × (is_sign 46 k ≡ false) × (is_sign 91 k ≡ false) × (is_sign 58 k ≡ false)
-begins_parts (kind.Hash name true) e = absurd cc
-begins_parts (kind.Hash name false) e = (refl, refl, refl, refl)
+begins_parts (kind.Hash true name) e = absurd cc
+begins_parts (kind.Hash false name) e = (refl, refl, refl, refl)
 begins_parts (kind.Sign c) e = let p = or_parts (c == 46) (c == 91 || c == 58) e in let q = or_parts (c == 91) (c == 58) p.1 in (refl, p.0, q.0, q.1)
 begins_parts _ e = (refl, refl, refl, refl)
 
@@ -196,7 +196,7 @@ type_begins ts x e =
     (rw (h.1, k.0) refl, rw (h.1, k.1) refl)
 
 id_kind : (k : TokenKind) (simple : Simple) → id_of k ≡ Some simple → (type_of k ≡ None) × (combinator_of k ≡ None)
-id_kind (kind.Hash name true) simple e = (refl, refl)
+id_kind (kind.Hash true name) simple e = (refl, refl)
 id_kind _ simple e = absurd cc
 
 pub id_begins : (ts : List Token) (x : Simple × List Token) → id_at ts ≡ Some x → (type_at ts ≡ None) × (held_at combinator_of ts ≡ None)

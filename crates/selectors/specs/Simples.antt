@@ -27,7 +27,7 @@ type_at tokens = held_at type_of tokens
 
 -- `<id-selector>`: a hash that is an identifier
 abbrev pub id_of : TokenKind → Option Simple
-id_of (kind.Hash name true) = Some (simple.Id name)
+id_of (kind.Hash true name) = Some (simple.Id name)
 id_of _ = None
 
 abbrev pub id_at : List Token → Option (Simple × List Token)

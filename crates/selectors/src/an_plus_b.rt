@@ -163,8 +163,8 @@ fn an_plus_b_value(text: &str) -> Option<AnPlusB>
 fn slice<'a>(text: &'a str, token: &Token) -> &'a [u8]
     ensures { result.now ≡ slice text.now token.now }
 {
-    let rest = text.as_bytes().get(token.start..).unwrap_or(&[]);
-    let length = token.end.saturating_sub(token.start);
+    let rest = text.as_bytes().get(token.start as usize..).unwrap_or(&[]);
+    let length = token.end.saturating_sub(token.start) as usize;
     rest.get(..length).unwrap_or(rest)
 }
 

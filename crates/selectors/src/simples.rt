@@ -27,7 +27,10 @@ pub(crate) fn type_selector(
         return Ok(None);
     };
     match &token.kind {
-        TokenKind::Word(name) => Ok(Some((Simple::Element(name.duplicate(alloc)?), rest))),
+        TokenKind::Word(name) => {
+            let name = name.as_text().duplicate(alloc)?;
+            Ok(Some((Simple::Element(name), rest)))
+        }
         TokenKind::Sign('*') => Ok(Some((Simple::Any, rest))),
         _ => Ok(None),
     }
@@ -42,9 +45,12 @@ pub(crate) fn id(alloc: Global, tokens: &[Token]) -> Result<Option<(Simple, &[To
     };
     match &token.kind {
         TokenKind::Hash {
-            name,
             identifier: true,
-        } => Ok(Some((Simple::Id(name.duplicate(alloc)?), rest))),
+            name,
+        } => {
+            let name = name.as_text().duplicate(alloc)?;
+            Ok(Some((Simple::Id(name), rest)))
+        }
         _ => Ok(None),
     }
 }
@@ -95,8 +101,8 @@ fn value(tokens: &[Token]) -> Option<(&Text, &[Token])>
 {
     let (token, rest) = tokens.split_first()?;
     match &token.kind {
-        TokenKind::Chars(value) => Some((value, rest)),
-        TokenKind::Word(value) => Some((value, rest)),
+        TokenKind::Chars(value) => Some((value.as_text(), rest)),
+        TokenKind::Word(value) => Some((value.as_text(), rest)),
         _ => None,
     }
 }

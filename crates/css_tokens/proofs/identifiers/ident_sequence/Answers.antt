@@ -14,4 +14,4 @@ pub pieces-preserved : goal.pieces-preserved
 pieces-preserved c = record { utf8 = c.in-Some.ensures.text; goes = rw c.in_ok-push.ensures.ok (Goes-more _ _ _ _ c.in-Some.c _ c.pieces.invariant.goes c.in-Some.ensures.gives) }
 
 pub returns-clause-gives : goal.returns-clause-gives
-returns-clause-gives c = Goes-read ident_character_at ident_shorter _ _ _ c.pieces.invariant.goes c.in_default.ensures.gives
+returns-clause-gives c = rw c.in_ok-new.ensures.characters (Goes-read ident_character_at ident_shorter _ _ _ c.pieces.invariant.goes c.in_default.ensures.gives)

@@ -14,7 +14,7 @@ pub pieces-preserved : goal.pieces-preserved
 pieces-preserved c = record { utf8 = c.in-Some.ensures.text; keeps = Keeps-more _ _ _ _ _ c.in-Some.left _ c.pieces.invariant.keeps c.in-Some.ensures.gives c.in_ok-push_left.ensures.ok }
 
 pub returns-clause-value : goal.returns-clause-value
-returns-clause-value c = (Keeps-read (string_piece_at c.args.quote) (string_shorter c.args.quote) _ _ _ c.pieces.invariant.keeps c.in_default.ensures.gives).0
+returns-clause-value c = rw c.in_ok-new.ensures.characters (Keeps-read (string_piece_at c.args.quote) (string_shorter c.args.quote) _ _ _ c.pieces.invariant.keeps c.in_default.ensures.gives).0
 
 pub returns-clause-rest : goal.returns-clause-rest
 returns-clause-rest c = (Keeps-read (string_piece_at c.args.quote) (string_shorter c.args.quote) _ _ _ c.pieces.invariant.keeps c.in_default.ensures.gives).1
