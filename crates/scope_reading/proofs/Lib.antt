@@ -1,6 +1,6 @@
-mod OtherCounters
-mod RowLemmas
-mod PseudoLemmas
+pub mod OtherCounters
+pub mod RowLemmas
+pub mod PseudoLemmas
 mod CreatorLemmas
 pub mod OwnSets
 pub mod LawLemmas

@@ -54,7 +54,7 @@ module _ (key : ℕ) (name : List ℕ) (table : List CounterStyle) (element : St
   own-set : (a : BoxId) → is_same_box (box_of key kind.Element) a ≡ false → AreGood (IsOther a name) handed → AllByRecursion (IsOther a name) (own_counted table by_parent key element handed).set
   own-set a not good = own_good (IsOther a name) (steady a name) table by_parent key element handed (inherits a good) (made-by a kind.Element not)
 
-  own-changes : (a : BoxId) → is_same_box (box_of key kind.Element) a ≡ false → AreGood (IsOther a name) handed → AllByRecursion (IsOfOther a name) (own_counted table by_parent key element handed).changes
+  pub own-changes : (a : BoxId) → is_same_box (box_of key kind.Element) a ≡ false → AreGood (IsOther a name) handed → AllByRecursion (IsOfOther a name) (own_counted table by_parent key element handed).changes
   own-changes a not good = names-other a name (box_of key kind.Element) _ _ (own_counted table by_parent key element handed).set not (own-set a not good) _
 
   abbrev first : List Change
