@@ -1,0 +1,6 @@
+mod KeptNodes
+mod ReadLemmas
+mod CreatorLemmas
+mod KeyLemmas
+mod Examples
+pub mod LawLemmas

@@ -1,0 +1,74 @@
+//! The start of a reversed counter, told by what is kept of elements under their keys.
+//!
+//! A reversed counter that is given no number starts with one that is told by all that boxes do to it in its scope (CSS Lists
+//! 3, 4.4). `scope_reading` says which elements are read for it, in a document whose evaluation is at hand. An index of elements
+//! has no evaluation at hand: it has what was kept of each element under its key, and the tree of keys. This crate says what is
+//! to be kept of an element, and that the start is told by it. It has no code. Its functions are laws.
+//!
+//! | Of an element is kept | It tells |
+//! |---|---|
+//! | `own`: the counters of its own box, where it has one | which siblings are in a scope |
+//! | `deeds.before_children`: what its own box and its before box do to counters | what is done to each counter |
+//! | `deeds.after_children`: what its after box does | the same |
+//!
+//! Nothing is kept of a text. An element without a box has no own set and does nothing.
+//!
+//! What is read for a counter, where `kept` has this (`kept_scope kept creator name trees`):
+//!
+//! | The counter is created by | What is read |
+//! |---|---|
+//! | the element's own box | all that is kept in the element; its later siblings up to the first whose own set lacks the counter; `after_children` of its parent |
+//! | its before box | `before_children` of the element; its children up to the first whose own set lacks the counter; its `after_children` |
+//! | its after box | its `after_children` |
+//!
+//! A sibling that has no own set is passed with all that is in it. What was done to other counters is read along with the rest,
+//! as what the own box of an element does before its before box creates the counter: it is no event of this one. So what is
+//! read is not compared list by list with what `scope_reading` reads, but by the events of the counter.
+//! [`laws::kept_scopes_tell_starts`]
+//!
+//! # An example
+//!
+//! ```text
+//! 0 body
+//! 1   h2     counter-reset: reversed(c)
+//! 2   p      counter-increment: c -1
+//! 3   p      counter-increment: c -1
+//! 4   h2     counter-reset: reversed(c)
+//! 5   p      counter-increment: c -1
+//! ```
+//!
+//! | Key | `own` | `before_children` |
+//! |---|---|---|
+//! | 0 | no counter | |
+//! | 1 | that of 1 | |
+//! | 2 | that of 1 | -1 to that of 1 |
+//! | 3 | that of 1 | -1 to that of 1 |
+//! | 4 | that of 4 | |
+//! | 5 | that of 4 | -1 to that of 4 |
+//!
+//! For the counter of the first heading 1 is read, then 2 and 3, whose own sets have it. That of 4 lacks it, so there the row
+//! ends. Two events of -1 are read, and the counter starts with 3. Where 3 goes, nothing else is to be done but to read 1, 2 and the
+//! own set of 4 again: the counter starts with 2.
+//!
+//! An element with a before box that creates the counter, a text, and a child without a box:
+//!
+//! ```text
+//! 1 div        div::before { counter-reset: reversed(c) }  div::after { counter-increment: c -1 }
+//! 2   p        counter-increment: c -1
+//! 3   (a text)
+//! 4   p        display: none
+//! 5     p      counter-increment: c -1
+//! 6   p        counter-increment: c -1
+//! ```
+//!
+//! What is read is that of 1 before its children, of 2, of 6, and of 1 after its children: the counter starts with 4. Nothing is
+//! kept of 3, and 4 has no own set, so both are passed, and 5 with them. Were the counter created by the after box, that would be
+//! read alone. Each of these readings is computed in `proofs/Examples.antt`.
+//!
+//! # What the layers above cite
+//!
+//! In contracts: `Counting`, `own_set`, `counting_in` and `KeepsCounting` (`specs/Counting.antt`), `kept_changes`, `kept_row` and
+//! `kept_scope` (`KeptScopes.antt`). In proofs: the laws of [`laws`], by the lemmas of `proofs/LawLemmas.antt`.
+#![tactic(auto)]
+
+pub mod laws;
