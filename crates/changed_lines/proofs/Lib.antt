@@ -2,3 +2,4 @@ pub mod SameLemmas
 pub mod PathLemmas
 pub mod PutLemmas
 pub mod DumpLemmas
+pub mod ListingLemmas

@@ -1,5 +1,5 @@
 -- Laws of changed lines.
-use Rattle.std.specs.Prelude.{◌≡◌, ℕ, Bool, false, Option, filter, flat_map}
+use Rattle.std.specs.Prelude.{◌≡◌, ℕ, Bool, false, Option, IsPermutation, filter, flat_map, map}
 use Rattle.forest.specs.Forest.{Forest}
 use Rattle.forest.specs.Keys.{Keyed, keys}
 use Rattle.forest.specs.Paths.{path_of}
@@ -7,12 +7,14 @@ use Rattle.forest.specs.Spots.{IsLive}
 use Rattle.plain_types.specs.declared.box_kind.BoxKind.{BoxKind}
 use Rattle.plain_types.specs.declared.node.Node.{Node}
 use Rattle.node_arena.specs.Document.{IsKeyedDocument}
-use Rattle.dump_definitions.specs.Dump.{dump}
+use Rattle.dump_definitions.specs.Dump.{Line, dump}
 use Rattle.generated_texts.specs.Lines.{keyed_lines}
 use Rattle.generated_texts.specs.declared.entry.NodeEntry.{NodeEntry}
 use Rattle.edit_work.specs.KeyedSources.{KeyedSource}
+use Rattle.changed_lines.specs.declared.changed_line.ChangedLine.{ChangedLine}
 use Rattle.changed_lines.specs.Changes.{changed_lines, entry_in, lines_at, lines_between}
 use Rattle.changed_lines.specs.Dumps.{lines_with, replayed, text_in}
+use Rattle.changed_lines.specs.Listings.{lines_from_nothing, listed_lines, shown_line, stands_first}
 use Rattle.changed_lines.specs.Replays.{put_in}
 use Rattle.changed_lines.specs.ShownTexts.{shown_text}
 
@@ -41,3 +43,18 @@ OthersHaveNoLines =
     (document : Forest (Keyed Node)) (before after : ℕ → Option NodeEntry) (is_other : ℕ → Bool)
     → ((key : ℕ) → is_other key ≡ false → before key ≡ after key)
     → lines_between document before after ≡ flat_map (lines_at document before after) (filter is_other (keys document))
+
+-- All lines that are told of a document are those of its dump, each once.
+abbrev pub AllLinesAreOfTheDump : Type 0
+AllLinesAreOfTheDump = (source : KeyedSource) → IsPermutation (lines_from_nothing source) (map shown_line (keyed_lines source.sheet source.tree))
+
+-- But for those of after boxes they have the order of the dump.
+abbrev pub AllLinesAreInOrder : Type 0
+AllLinesAreInOrder =
+    (source : KeyedSource)
+    → filter (λ (line : ChangedLine). stands_first line.kind) (lines_from_nothing source)
+    ≡ map shown_line (filter (λ (line : Line). stands_first line.kind) (keyed_lines source.sheet source.tree))
+
+-- And the line of an after box stands behind the others of its element, before those of the children.
+abbrev pub AllLinesAreByElements : Type 0
+AllLinesAreByElements = (source : KeyedSource) → lines_from_nothing source ≡ map shown_line (listed_lines source.tree (entry_in source) source.tree)
