@@ -63,8 +63,11 @@ module _ (edit : Edit) (old new : Forest (Keyed Node)) (done : IsDone edit old n
   count : length all ≡ element_count (without_keys new)
   count = kept_count author new done.after.distinct
 
+  pub few_puts : length changes ≤ element_count (without_keys new)
+  few_puts = let fewer : length changes ≤ length all = are.few in omega (arith, fewer, count)
+
   pub few : length changes + length takes ≤ element_count (without_keys new) + element_count (without_keys old)
-  few = let fewer : length changes ≤ length all = are.few in omega (arith, fewer, count, ap length taken, taken_count edit old)
+  few = omega (arith, few_puts, ap length taken, taken_count edit old)
 
 -- what is of elements has the room that these have
 pub below_of : (tree : Forest (Keyed Node)) (room more : ℕ) (puts : List (ℕ × Kept)) → more ≡ room → HasRoomFor room tree → AreOfElements tree puts → AreBelow more puts

@@ -246,7 +246,8 @@ impl Book {
         ensures err { OnErr result (self.new ≡ self.old) }
         ensures within_work { IfOk result (λ plan. IsWithinWork edit.now (keyed_source self.old) (keyed_source (settled_after self.new plan)) steps.old (steps.new + (plan_size plan + length plan.puts.items))) }
         ensures stops_within_work { OnErr result (StopsWithinWork edit.now (keyed_source self.old) steps.old steps.new) }
-        ensures steps { steps.new ≤ steps.old + (12 * element_count (edited edit.now (without_keys self.old.tree)) + element_count (without_keys self.old.tree)) }
+        ensures steps { steps.new ≤ steps.old + (11 * element_count (edited edit.now (without_keys self.old.tree)) + element_count (without_keys self.old.tree)) }
+        ensures puts { IfOk result (λ plan. length plan.puts.items ≤ element_count (edited edit.now (without_keys self.old.tree))) }
         ensures size { IfOk result (λ plan. plan_size plan ≤ element_count (edited edit.now (without_keys self.old.tree)) + element_count (without_keys self.old.tree)) }
     {
         arena_holds_document(&self.arena);

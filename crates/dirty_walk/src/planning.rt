@@ -190,7 +190,7 @@ fn renewed<L: Ledger>(
     ensures grown { board.old.room ≤ board.new.room }
     ensures few { IfOk result (λ made. IfSome stops (λ local. IsWithinPlaceOf document.now.edit.now document.now.styles.now board.old.held local document.now.arena.now.tree ahead.now steps.old (steps.new + 2 * length made.changes.items))) }
     ensures most { IfSome stops (λ local. IsWithinPlaceOf document.now.edit.now document.now.styles.now board.old.held local document.now.arena.now.tree ahead.now steps.old steps.new) }
-    ensures steps { steps.new ≤ steps.old + (length ahead.now.takes.now + 12 * element_count (without_keys document.now.arena.now.tree)) }
+    ensures steps { steps.new ≤ steps.old + (length ahead.now.takes.now + 11 * element_count (without_keys document.now.arena.now.tree)) }
 {
     match from_place(alloc, document, ahead, index, board, stops, steps)? {
         Some(made) => Ok(made),
@@ -224,7 +224,7 @@ pub(crate) fn evaluated<L: Ledger>(
     ensures grown { board.old.room ≤ board.new.room }
     ensures few { IfOk result (λ made. IfSome stops (λ local. IsWithinPlaceOf document.now.edit.now document.now.styles.now board.old.held local document.now.arena.now.tree ahead.now steps.old (steps.new + 2 * length made.changes.items))) }
     ensures most { IfSome stops (λ local. IsWithinPlaceOf document.now.edit.now document.now.styles.now board.old.held local document.now.arena.now.tree ahead.now steps.old steps.new) }
-    ensures steps { steps.new ≤ steps.old + (length ahead.now.takes.now + 12 * element_count (without_keys document.now.arena.now.tree)) }
+    ensures steps { steps.new ≤ steps.old + (length ahead.now.takes.now + 11 * element_count (without_keys document.now.arena.now.tree)) }
 {
     let back = exchange_ids(alloc, index, document.arena, document.edit, gone)?;
     match renewed(alloc, document, ahead, index, board, stops, steps) {

@@ -37,7 +37,7 @@ use Rattle.dirty_walk.proofs.ExchangeLaws.{taken_count}
 use Rattle.dirty_walk.proofs.GoneLemmas.{taken_gone}
 use Rattle.dirty_walk.proofs.PlaceLemmas.{stands_read}
 use Rattle.dirty_walk.proofs.PlanLemmas.{as_read, its_keys, its_text, same_document, under_its_text}
-use Rattle.dirty_walk.proofs.SettlingLemmas.{few, has_room, keeps_all, of_elements}
+use Rattle.dirty_walk.proofs.SettlingLemmas.{few, few_puts, has_room, keeps_all, of_elements}
 use Rattle.dirty_walk.proofs.WorkLemmas.{leads, within_work}
 use Rattle.dirty_walk.proofs.book.Book.plan.Goals as goal
 
@@ -180,6 +180,27 @@ returns-in-Ok-clause-steps g c =
     let gone : length c.as_slice.result.now ≤ element_count (without_keys c.args.self.now.tree) =
     omega (arith, ap length (c.as_slice.ensures.items ∙ c.in_ok-gone.ensures.takes), taken_count c.args.edit.now c.args.self.now.tree) in
     omega (arith, same, gone, c.evaluated.ensures.steps)
+
+pub returns-in-Ok-clause-puts : goal.returns-in-Ok-clause-puts
+returns-in-Ok-clause-puts g c =
+    let none : is_none c.self.inside.planned ≡ true = ap (λ (styled : StyledDocument). styled.settled) c.self.view_is ∙ c.requires.settled in
+    let old = c.self.inside.arena.tree in
+    let tree = c.commit-reversal.new.self.tree in
+    let before = c.self.inside.styles.sheet in
+    let text = edited_sheet c.args.edit.now before in
+    let puts = c.in-Ok.made.changes.items in
+    let takes = c.in_ok-gone.field-0.takes in
+    let done =
+    done_by c.args.edit.now old _ tree c.args.self.now c.arena_holds_document.ensures.document c.arena_holds_document-2.ensures.document
+    (ap (λ (styled : StyledDocument). styled.tree) c.self.view_is) c.requires.allowed c.inserts_one_tree.ensures c.in_ok-prepared.ensures.edits c.commit-reversal.ensures.tree in
+    let taken = (c.in_ok-gone.ensures.takes ∙ ap (λ (styled : StyledDocument). taken_keys c.args.edit.now (elements_in (leaving c.args.edit.now styled.tree))) (sym c.self.view_is)) in
+    let same : element_count (without_keys tree) ≡ element_count (edited c.args.edit.now (without_keys c.args.self.now.tree)) =
+    ap (λ (tree : Forest (Keyed Node)). element_count (without_keys tree)) c.commit-reversal.ensures.tree
+    ∙ ap element_count c.in_ok-prepared.ensures.edits.tree
+    ∙ ap (λ (styled : StyledDocument). element_count (edited c.args.edit.now (without_keys styled.tree))) c.self.view_is in
+    let count : length puts ≤ element_count (without_keys tree) =
+    few_puts c.args.edit.now old tree done before text c.self.inside.board.held puts takes (c.self.invariant.kept none) c.in-Ok.ensures.changes taken in
+    omega (arith, same, count)
 
 pub returns-in-Ok-clause-size : goal.returns-in-Ok-clause-size
 returns-in-Ok-clause-size g c =
