@@ -96,7 +96,7 @@ impl EvaluatedChapter {
         ensures failed { OnErr result (self.new ≡ self.old) }
         ensures within_work { OnOk result (IsWithinWork edit.now (keyed_source self.old) (keyed_source self.new) steps.old steps.new) }
         ensures stops_within_work { OnErr result (StopsWithinWork edit.now (keyed_source self.old) steps.old steps.new) }
-        ensures steps { IfOk (edited (source_of self.old) edit.now) (λ source. steps.new ≤ steps.old + (13 * element_count source.tree + 2 * element_count (source_of self.old).tree)) }
+        ensures steps { IfOk (edited (source_of self.old) edit.now) (λ source. steps.new ≤ steps.old + (12 * element_count source.tree + 2 * element_count (source_of self.old).tree)) }
         ensures no_steps { IfErr (edited (source_of self.old) edit.now) (λ _. steps.new ≡ steps.old) }
     {
         let done = self.engine.apply(alloc, edit, steps);

@@ -101,7 +101,7 @@ impl Volume {
         ensures failed { OnErr result (self.new ≡ self.old) }
         ensures within_work { OnOk result (IfSome (slice_get self.old place) (λ before. IfSome (slice_get self.new place) (λ after. IsWithinWork edit.now (keyed_source before) (keyed_source after) steps.old steps.new))) }
         ensures stops_within_work { OnErr result (IfSome (slice_get self.old place) (λ before. StopsWithinWork edit.now (keyed_source before) steps.old steps.new)) }
-        ensures steps { IfSome (slice_get self.old place) (λ chapter. IfOk (edited (source_of chapter) edit.now) (λ source. steps.new ≤ steps.old + (13 * element_count source.tree + 2 * element_count (source_of chapter).tree))) }
+        ensures steps { IfSome (slice_get self.old place) (λ chapter. IfOk (edited (source_of chapter) edit.now) (λ source. steps.new ≤ steps.old + (12 * element_count source.tree + 2 * element_count (source_of chapter).tree))) }
         ensures no_steps { IfSome (slice_get self.old place) (λ chapter. IfErr (edited (source_of chapter) edit.now) (λ _. steps.new ≡ steps.old)) }
     {
         let chapter = &mut self.chapters[place];

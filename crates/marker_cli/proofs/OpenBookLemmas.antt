@@ -173,14 +173,14 @@ module _ (volume : List Chapter) (place : ℕ) (within : place < length volume) 
           (at_present (λ chapter. IfOk (edited_source (source_of chapter) edit) (λ _. IfErr result (λ fault. fault ≡ edit_faults.Memory))) is))
 
     pub edit_within : (low high : ℕ)
-        → IfSome (slice_get volume place) (λ chapter. IfOk (edited_source (source_of chapter) edit) (λ source. low ≤ high + (13 * element_count source.tree + 2 * element_count (source_of chapter).tree)))
+        → IfSome (slice_get volume place) (λ chapter. IfOk (edited_source (source_of chapter) edit) (λ source. low ≤ high + (12 * element_count source.tree + 2 * element_count (source_of chapter).tree)))
         → IfSome (slice_get volume place) (λ chapter. IfErr (edited_source (source_of chapter) edit) (λ _. low ≡ high))
         → low ≤ high + edit_steps (version_in (open_at (map chapter_source volume) place).present) edit
     edit_within low high most none =
         let own = present_in volume place in
         subst (λ (chapter : ChapterSource). low ≤ high + edit_steps (version_in chapter) edit) (sym present_is)
         (placed_by (version_in (chapter_source own)) edit (after edit (source_of own)) (place_fault edit (chapter_source own).tree) low high refl
-        (at_present (λ chapter. IfOk (edited_source (source_of chapter) edit) (λ source. low ≤ high + (13 * element_count source.tree + 2 * element_count (source_of chapter).tree))) most)
+        (at_present (λ chapter. IfOk (edited_source (source_of chapter) edit) (λ source. low ≤ high + (12 * element_count source.tree + 2 * element_count (source_of chapter).tree))) most)
         (at_present (λ chapter. IfErr (edited_source (source_of chapter) edit) (λ _. low ≡ high)) none))
 
   -- What is shown.

@@ -43,26 +43,26 @@ use Rattle.marker_cli.proofs.SameLemmas.{AreSameSteps, after_same, back_same, ed
 -- What an editor's calls take.
 
 pub placed_by : (version : Version) (edit : Edit) (source : Source) (place : Option PlaceFault) (low high : ℕ) → element_count source.tree ≡ element_count (version_after edit version).document
-    → IfOk (elim place [ None ↦ Ok source | Some fault ↦ Err fault ]) (λ after. low ≤ high + (13 * element_count after.tree + 2 * element_count version.document))
+    → IfOk (elim place [ None ↦ Ok source | Some fault ↦ Err fault ]) (λ after. low ≤ high + (12 * element_count after.tree + 2 * element_count version.document))
     → IfErr (elim place [ None ↦ Ok source | Some fault ↦ Err fault ]) (λ _. low ≡ high) → low ≤ high + placed_steps version edit place
 placed_by version edit source None low high is most none = omega (arith, is, most)
 placed_by version edit source (Some fault) low high is most none = omega (arith, none)
 
 pub engine_most : (edit : Edit) (book : StyledDocument) (low high : ℕ)
-    → IfOk (edited_source (source_of book) edit) (λ after. low ≤ high + (13 * element_count after.tree + 2 * element_count (source_of book).tree))
+    → IfOk (edited_source (source_of book) edit) (λ after. low ≤ high + (12 * element_count after.tree + 2 * element_count (source_of book).tree))
     → IfErr (edited_source (source_of book) edit) (λ _. low ≡ high) → low ≤ high + edit_steps (version_of book) edit
 engine_most edit book low high most none =
     placed_by (version_of book) edit (record { tree = edits.edited edit (source_of book).tree; sheet = edits.edited_sheet edit (source_of book).sheet })
     (place_fault edit (version_of book).document) low high refl most none
 
 pub back_most : (present : Version) (past future : List Version) (low high : ℕ)
-    → IfSome (slice_get past 0) (λ version. low ≤ high + (13 * element_count version.document + 2 * element_count present.document)) → (past ≡ [] → low ≡ high)
+    → IfSome (slice_get past 0) (λ version. low ≤ high + (12 * element_count version.document + 2 * element_count present.document)) → (past ≡ [] → low ≡ high)
     → low ≤ high + led_steps present (stepped_back present past future)
 back_most present [] future low high most none = let same = none refl in omega (arith, same)
 back_most present (version ∷ past) future low high most none = most
 
 pub forth_most : (present : Version) (past future : List Version) (low high : ℕ)
-    → IfSome (slice_get future 0) (λ version. low ≤ high + (13 * element_count version.document + 2 * element_count present.document)) → (future ≡ [] → low ≡ high)
+    → IfSome (slice_get future 0) (λ version. low ≤ high + (12 * element_count version.document + 2 * element_count present.document)) → (future ≡ [] → low ≡ high)
     → low ≤ high + led_steps present (stepped_forth present past future)
 forth_most present past [] low high most none = let same = none refl in omega (arith, same)
 forth_most present past (version ∷ future) low high most none = most
@@ -130,7 +130,7 @@ count_same (Tree label children after) (Tree other inside beside) same =
 
 change_same : (version other changed left : Version) → IsSameVersion version other → IsSameVersion changed left → change_steps version changed ≡ change_steps other left
 change_same version other changed left old new =
-    λ i. 13 * count_same changed.document left.document new.document i + 2 * count_same version.document other.document old.document i
+    λ i. 12 * count_same changed.document left.document new.document i + 2 * count_same version.document other.document old.document i
 
 placed_same : (edit : Edit) (version other : Version) (place : Option PlaceFault) → IsSameVersion version other → placed_steps version edit place ≡ placed_steps other edit place
 placed_same edit version other None same = change_same version other (version_after edit version) (version_after edit other) same (after_same edit version other same)

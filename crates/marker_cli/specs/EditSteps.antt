@@ -32,7 +32,7 @@ show_steps version = element_count version.document
 
 -- from one version to the one that an edit makes of it
 abbrev pub change_steps : Version → Version → ℕ
-change_steps version changed = 13 * element_count changed.document + 2 * element_count version.document
+change_steps version changed = 12 * element_count changed.document + 2 * element_count version.document
 
 -- an edit that has its place, and one that is refused
 abbrev pub placed_steps : Version → Edit → Option PlaceFault → ℕ

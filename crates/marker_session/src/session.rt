@@ -135,7 +135,7 @@ impl Session {
         ensures fault { IfErr result (IsEditFault edit.now self.old.styled) }
         ensures failed { OnErr result (self.new ≡ self.old) }
         ensures within_work { OnOk result (IsWithinWork edit.now (keyed_source self.old.styled) (keyed_source self.new.styled) steps.old steps.new) }
-        ensures steps { OnOk result (steps.new ≤ steps.old + (14 * element_count (source_of self.new.styled).tree + 3 * element_count (source_of self.old.styled).tree)) }
+        ensures steps { OnOk result (steps.new ≤ steps.old + (13 * element_count (source_of self.new.styled).tree + 2 * element_count (source_of self.old.styled).tree)) }
         ensures no_steps { IfErr result (λ fault. fault ≢ edit_faults.Memory → steps.new ≡ steps.old) }
     {
         let told = self.engine.apply_and_tell(alloc, edit, steps)?;
@@ -160,7 +160,7 @@ impl Session {
         ensures fault { IfErr result (IsLineFault (chars line.now) self.old.styled) }
         ensures failed { OnErr result (self.new ≡ self.old) }
         ensures within_work { OnOk result (TakesStepsOfLine (chars line.now) self.old.styled self.new.styled steps.old steps.new) }
-        ensures steps { OnOk result (steps.new ≤ steps.old + (14 * element_count (source_of self.new.styled).tree + 3 * element_count (source_of self.old.styled).tree)) }
+        ensures steps { OnOk result (steps.new ≤ steps.old + (13 * element_count (source_of self.new.styled).tree + 2 * element_count (source_of self.old.styled).tree)) }
         ensures no_steps { IfErr result (λ fault. fault ≢ faults.Memory → steps.new ≡ steps.old) }
     {
         one_reading();
@@ -183,7 +183,7 @@ impl Session {
         ensures shown { self.new.shown ≡ self.old.shown }
         ensures failed { OnErr result (self.new ≡ self.old) }
         ensures within_work { OnOk result (IsWithinWork (ReplaceSheet (chars css.now)) (keyed_source self.old.styled) (keyed_source self.new.styled) steps.old steps.new) }
-        ensures steps { OnOk result (steps.new ≤ steps.old + (14 * element_count (source_of self.new.styled).tree + 3 * element_count (source_of self.old.styled).tree)) }
+        ensures steps { OnOk result (steps.new ≤ steps.old + (13 * element_count (source_of self.new.styled).tree + 2 * element_count (source_of self.old.styled).tree)) }
     {
         let edit = Edit::ReplaceSheet {
             text: Text::from_str(alloc, css)?,
@@ -194,7 +194,7 @@ impl Session {
         }
     }
 
-    /// Lists all lines of the document, in the order in which changed ones are listed.
+    /// Lists all lines of the document, in the order in which changed ones are listed: those of its dump, each once.
     ///
     /// After `Memory` the session is as before. It takes time linear in the document, and for each line in the depth of its
     /// element and in its text, and memory for the lines.

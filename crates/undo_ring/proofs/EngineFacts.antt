@@ -32,10 +32,10 @@ done_is edit old new allowed is =
     ap version same
 
 pub steps_are : (edit : Edit) (old : StyledDocument) (low high : ℕ) → edits.place_fault edit (version_of old).document ≡ None
-    → IfOk (edited (source_of old) edit) (λ source. low ≤ high + (13 * element_count source.tree + 2 * element_count (source_of old).tree))
+    → IfOk (edited (source_of old) edit) (λ source. low ≤ high + (12 * element_count source.tree + 2 * element_count (source_of old).tree))
     → low ≤ high + most_steps edit (version_of old)
 steps_are edit old low high allowed bound =
-    subst (λ (outcome : Result Source PlaceFault). IfOk outcome (λ source. low ≤ high + (13 * element_count source.tree + 2 * element_count (source_of old).tree)))
+    subst (λ (outcome : Result Source PlaceFault). IfOk outcome (λ source. low ≤ high + (12 * element_count source.tree + 2 * element_count (source_of old).tree)))
     (allowed_ok edit (source_of old) allowed) bound
 
 abbrev pub refusal : EditFault → Result (Unit {0}) EditFault

@@ -213,7 +213,7 @@ first_place edits edit version is places =
 
 -- the steps of the first edit, told of the first version
 steps_told : (edits : List Edit) (version : Version) (low high : ℕ) → IfSome (slice_get edits 0) (λ edit. low ≤ high + most_steps edit version)
-    → IfSome (slice_get (versions_after edits version) 0) (λ first. low ≤ high + (13 * element_count first.document + 2 * element_count version.document))
+    → IfSome (slice_get (versions_after edits version) 0) (λ first. low ≤ high + (12 * element_count first.document + 2 * element_count version.document))
 steps_told [] version low high bound = tt
 steps_told (edit ∷ edits) version low high bound = bound
 
@@ -256,15 +256,15 @@ pub told_none : {P : Type 0} (edits : List Edit) (version : Version) → (P → 
 told_none edits version both = ((λ p. no_versions edits version (both.0 p)), (λ none. both.1 (no_edits edits version none)))
 
 pub told_steps : (history told : EditHistory) (low high : ℕ) → history ≡ told → IfSome (slice_get history.undos 0) (λ edit. low ≤ high + most_steps edit (present history))
-    → IfSome (slice_get (past told) 0) (λ version. low ≤ high + (13 * element_count version.document + 2 * element_count (present told).document))
+    → IfSome (slice_get (past told) 0) (λ version. low ≤ high + (12 * element_count version.document + 2 * element_count (present told).document))
 told_steps history told low high view bound =
-    subst (λ (t : EditHistory). IfSome (slice_get (past t) 0) (λ version. low ≤ high + (13 * element_count version.document + 2 * element_count (present t).document))) view
+    subst (λ (t : EditHistory). IfSome (slice_get (past t) 0) (λ version. low ≤ high + (12 * element_count version.document + 2 * element_count (present t).document))) view
     (steps_told history.undos (present history) low high bound)
 
 pub told_steps_forth : (history told : EditHistory) (low high : ℕ) → history ≡ told → IfSome (slice_get history.redos 0) (λ edit. low ≤ high + most_steps edit (present history))
-    → IfSome (slice_get (future told) 0) (λ version. low ≤ high + (13 * element_count version.document + 2 * element_count (present told).document))
+    → IfSome (slice_get (future told) 0) (λ version. low ≤ high + (12 * element_count version.document + 2 * element_count (present told).document))
 told_steps_forth history told low high view bound =
-    subst (λ (t : EditHistory). IfSome (slice_get (future t) 0) (λ version. low ≤ high + (13 * element_count version.document + 2 * element_count (present t).document))) view
+    subst (λ (t : EditHistory). IfSome (slice_get (future t) 0) (λ version. low ≤ high + (12 * element_count version.document + 2 * element_count (present t).document))) view
     (steps_told history.redos (present history) low high bound)
 
 -- want of memory is not want of edits

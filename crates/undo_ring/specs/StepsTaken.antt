@@ -17,4 +17,4 @@ pub record TakesStep (edit : Edit) (old new : StyledDocument) (from rest to more
 
 -- how many evaluations and records an edit of a version takes at most, whatever its work is
 abbrev pub most_steps : Edit → Version → ℕ
-most_steps edit version = 13 * element_count (version_after edit version).document + 2 * element_count version.document
+most_steps edit version = 12 * element_count (version_after edit version).document + 2 * element_count version.document

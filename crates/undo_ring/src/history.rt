@@ -109,7 +109,7 @@ impl History {
         ensures depth { self.new.depth ≡ self.old.depth }
         ensures within_work { OnOk result (IsWithinWork edit.now (keyed_source self.old.book) (keyed_source self.new.book) steps.old steps.new) }
         ensures stops_within_work { OnErr result (StopsWithinWork edit.now (keyed_source self.old.book) steps.old steps.new) }
-        ensures steps { IfOk (edited (source_of self.old.book) edit.now) (λ source. steps.new ≤ steps.old + (13 * element_count source.tree + 2 * element_count (source_of self.old.book).tree)) }
+        ensures steps { IfOk (edited (source_of self.old.book) edit.now) (λ source. steps.new ≤ steps.old + (12 * element_count source.tree + 2 * element_count (source_of self.old.book).tree)) }
         ensures no_steps { IfErr (edited (source_of self.old.book) edit.now) (λ _. steps.new ≡ steps.old) }
     {
         if let Some(fault) = self.engine.can_apply(edit) {
@@ -135,7 +135,7 @@ impl History {
         ensures depth { self.new.depth ≡ self.old.depth }
         ensures within_work { OnOk result (IfSome (slice_get self.old.undos 0) (λ edit. IsWithinWork edit (keyed_source self.old.book) (keyed_source self.new.book) steps.old steps.new)) }
         ensures stops_within_work { OnErr result (IfSome (slice_get self.old.undos 0) (λ edit. StopsWithinWork edit (keyed_source self.old.book) steps.old steps.new)) }
-        ensures steps { IfSome (slice_get (past self.old) 0) (λ version. steps.new ≤ steps.old + (13 * element_count version.document + 2 * element_count (present self.old).document)) }
+        ensures steps { IfSome (slice_get (past self.old) 0) (λ version. steps.new ≤ steps.old + (12 * element_count version.document + 2 * element_count (present self.old).document)) }
         ensures no_steps { past self.old ≡ [] → steps.new ≡ steps.old }
     {
         take_step(
@@ -160,7 +160,7 @@ impl History {
         ensures depth { self.new.depth ≡ self.old.depth }
         ensures within_work { OnOk result (IfSome (slice_get self.old.redos 0) (λ edit. IsWithinWork edit (keyed_source self.old.book) (keyed_source self.new.book) steps.old steps.new)) }
         ensures stops_within_work { OnErr result (IfSome (slice_get self.old.redos 0) (λ edit. StopsWithinWork edit (keyed_source self.old.book) steps.old steps.new)) }
-        ensures steps { IfSome (slice_get (future self.old) 0) (λ version. steps.new ≤ steps.old + (13 * element_count version.document + 2 * element_count (present self.old).document)) }
+        ensures steps { IfSome (slice_get (future self.old) 0) (λ version. steps.new ≤ steps.old + (12 * element_count version.document + 2 * element_count (present self.old).document)) }
         ensures no_steps { future self.old ≡ [] → steps.new ≡ steps.old }
     {
         take_step(

@@ -34,7 +34,7 @@ pub returns-clause-steps : goal.returns-clause-steps
 returns-clause-steps g c =
     let there = is_there c.self.inside.chapters.items c.args.self.now c.args.place c.index_mut-chapter.result.now c.self.view_is c.requires.within c.index_mut-chapter.ensures.value in
     of_chapter
-    (λ chapter. IfOk (edited (source_of chapter) c.args.edit.now) (λ source. c.apply.new.steps ≤ c.args.steps.now + (13 * element_count source.tree + 2 * element_count (source_of chapter).tree)))
+    (λ chapter. IfOk (edited (source_of chapter) c.args.edit.now) (λ source. c.apply.new.steps ≤ c.args.steps.now + (12 * element_count source.tree + 2 * element_count (source_of chapter).tree)))
     (slice_get c.args.self.now c.args.place) c.index_mut-chapter.result.now there c.apply.ensures.steps
 
 pub returns-clause-no_steps : goal.returns-clause-no_steps

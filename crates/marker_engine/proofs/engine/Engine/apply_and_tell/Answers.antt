@@ -19,15 +19,15 @@ returns-in_err-plan-clause-keeps g c = (same_evaluated c.self.inside.book c.plan
 
 pub returns-in_err-plan-clause-steps : goal.returns-in_err-plan-clause-steps
 returns-in_err-plan-clause-steps g c =
-    allowed_by c.args.edit.now c.self.inside.book c.args.self.now (λ after before. c.plan.new.steps ≤ c.args.steps.now + (14 * after + 3 * before))
+    allowed_by c.args.edit.now c.self.inside.book c.args.self.now (λ after before. c.plan.new.steps ≤ c.args.steps.now + (13 * after + 2 * before))
     (no_fault c.args.edit.now c.arena.result.now.tree c.self.inside.book c.args.self.now c.allows.result c.allows.ensures.fault c.arena.ensures.tree c.self.view_is c.in_default.is)
     c.self.view_is (omega (arith, c.plan.ensures.steps))
 
 pub returns-clause-steps : goal.returns-clause-steps
 returns-clause-steps g c =
-    allowed_by c.args.edit.now c.self.inside.book c.args.self.now (λ after before. c.commit.new.steps ≤ c.args.steps.now + (14 * after + 3 * before))
+    allowed_by c.args.edit.now c.self.inside.book c.args.self.now (λ after before. c.commit.new.steps ≤ c.args.steps.now + (13 * after + 2 * before))
     (no_fault c.args.edit.now c.arena.result.now.tree c.self.inside.book c.args.self.now c.allows.result c.allows.ensures.fault c.arena.ensures.tree c.self.view_is c.in_default.is)
-    c.self.view_is (let size = c.in_ok-plan.ensures.size in omega (arith, size, c.plan.ensures.steps, c.changed_lines-told.ensures.steps, c.commit.ensures.steps))
+    c.self.view_is (let size = c.in_ok-plan.ensures.size in let puts = c.in_ok-plan.ensures.puts in omega (arith, size, puts, c.plan.ensures.steps, c.changed_lines-told.ensures.steps, c.commit.ensures.steps))
 
 pub invariant_of-self-2 : goal.invariant_of-self-2
 unfolding settled_after

@@ -84,7 +84,7 @@ returns-in_err-apply-clause-failed g c =
 
 pub returns-in_err-apply-clause-steps : goal.returns-in_err-apply-clause-steps
 returns-in_err-apply-clause-steps g c =
-    subst (λ (told : EditHistory). IfOk (edited (source_of told.book) c.args.edit.now) (λ source. c.apply.new.steps ≤ c.args.steps.now + (13 * element_count source.tree + 2 * element_count (source_of told.book).tree))) c.self.view_is c.apply.ensures.steps
+    subst (λ (told : EditHistory). IfOk (edited (source_of told.book) c.args.edit.now) (λ source. c.apply.new.steps ≤ c.args.steps.now + (12 * element_count source.tree + 2 * element_count (source_of told.book).tree))) c.self.view_is c.apply.ensures.steps
 
 pub returns-in_err-apply-clause-no_steps : goal.returns-in_err-apply-clause-no_steps
 returns-in_err-apply-clause-no_steps g c =
@@ -129,7 +129,7 @@ returns-clause-refused g c =
 
 pub returns-clause-steps : goal.returns-clause-steps
 returns-clause-steps g c =
-    subst (λ (told : EditHistory). IfOk (edited (source_of told.book) c.args.edit.now) (λ source. c.apply.new.steps ≤ c.args.steps.now + (13 * element_count source.tree + 2 * element_count (source_of told.book).tree))) c.self.view_is c.apply.ensures.steps
+    subst (λ (told : EditHistory). IfOk (edited (source_of told.book) c.args.edit.now) (λ source. c.apply.new.steps ≤ c.args.steps.now + (12 * element_count source.tree + 2 * element_count (source_of told.book).tree))) c.self.view_is c.apply.ensures.steps
 
 pub returns-clause-no_steps : goal.returns-clause-no_steps
 returns-clause-no_steps g c =
