@@ -1,3 +1,4 @@
 pub mod Lines
 pub mod Machinery
 pub mod Sessions
+pub mod Laws

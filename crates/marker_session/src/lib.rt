@@ -20,6 +20,7 @@
 #![tactic(auto)]
 
 mod heap_sink;
+pub mod laws;
 mod line;
 pub mod line_fault;
 mod lines;
