@@ -1,7 +1,7 @@
 -- What an answer of a call says (our own). A document of C is an open one, or none where it is closed.
 use Rattle.std.specs.Prelude.{◌≡◌, ◌-◌, ◌++◌, ℕ, List, [], Option, Some, None, length, take, drop, min, slice_get, encode_utf8_all, is_none}
 use Rattle.std.specs.Option.{option_map_or}
-use Rattle.std.specs.Str.{IsUtf8, chars}
+use Rattle.std.specs.Str.{IsUtf8}
 use Rattle.std.specs.Str.Lossy.{utf8_valid_len}
 use Rattle.changed_lines.specs.Changes.{changed_lines}
 use Rattle.changed_lines.specs.declared.changed_line.ChangedLine.{ChangedLine}
