@@ -15,7 +15,7 @@ use Rattle.box_eval.specs.Starts.{no_starts}
 use Rattle.generated_texts.specs.Documents.{counter_styles}
 use Rattle.generated_texts.specs.References.{kept_at}
 use Rattle.generated_texts.specs.StyleElements.{author_sheet}
-use Rattle.merged_walk.specs.Counts.{budget, gone_count}
+use Rattle.merged_walk.specs.Counts.{budget, gone_count, led_count}
 use Rattle.merged_walk.specs.Evaluators.{count_of_elements}
 use Rattle.merged_walk.specs.Merges.{Merge}
 use Rattle.surroundings.specs.StyledEvaluators.{root_surroundings, styled_evaluator}
@@ -58,9 +58,9 @@ use Rattle.dirty_walk.proofs.PlaceLemmas.{stands_there}
 whole : (was is was_count is_count work before now : ℕ) → was_count ≡ was → is_count ≡ is → (was_count + is_count) ≤ work → now ≤ before + (14 * is + 3 * was) → now ≤ before + 24 * (work + 1)
 whole was is was_count is_count work before now same_was same touched few = omega arith
 
-place : (budget other gone going takes taken walk its_work work before now total : ℕ) → budget ≡ other → gone ≡ going → its_work ≡ work → (2 * budget + gone) ≤ 24 * (walk + 1) → going ≤ walk → walk ≤ work
+place : (budget led other gone going takes taken walk its_work work before now total : ℕ) → budget ≡ other → gone ≡ going → its_work ≡ work → (2 * (budget + 2 * led) + gone) ≤ 24 * (walk + 1) → going ≤ walk → walk ≤ work
     → now ≤ before + (other + (takes + 4 * its_work)) → takes ≤ going → taken ≤ going → total ≤ now + taken → total ≤ before + 24 * (work + 1)
-place budget other gone going takes taken walk its_work work before now total same same_gone same_work paid gone_paid within few goes took sum = omega arith
+place budget led other gone going takes taken walk its_work work before now total same same_gone same_work paid gone_paid within few goes took sum = omega arith
 
 -- An edit makes one document of another, and the text of its sheet.
 module _ (edit : Edit) (text next : List ℕ) (old new : Forest (Keyed Node)) (done : IsDone edit old new) (next_is : next ≡ edited_sheet edit text) where
@@ -114,7 +114,7 @@ module _ (edit : Edit) (text next : List ℕ) (old new : Forest (Keyed Node)) (d
       → total ≤ from + 24 * (work edit before after + 1)
   at_place from now takes taken total other few goes took sum =
       let paid : PaysForReachedWalks edit before after = nodes_reached_are_paid edit before after leads other in
-      place (merge_budget next) (place_budget edit text old new) (gone_count is_styled_element (styled_with next)) (gone_count is_element whole_merge) takes taken (walk_work edit before after)
+      place (merge_budget next) (led_count (styled_with next)) (place_budget edit text old new) (gone_count is_styled_element (styled_with next)) (gone_count is_element whole_merge) takes taken (walk_work edit before after)
       (place_work edit text old new) (work edit before after) from now total
       (ap merge_budget (same_sheet other)) shape.gone (same_work other) paid.plain paid.gone walk_within few
       (goes_where_reached takes goes) (goes_where_reached taken took) sum

@@ -1,5 +1,5 @@
 -- The laws, from their lemmas.
-use Rattle.std.proofs.Common.{◌≡◌, ◌+◌, ◌*◌, ◌≤◌, ◌||◌, ℕ, ℤ, Bool, true, false, List, Option, Some, None, length, refl, sym, ap, subst, ◌∙◌, arith}
+use Rattle.std.proofs.Common.{◌≡◌, ◌+◌, ◌*◌, ◌≤◌, ◌||◌, ℕ, ℤ, Bool, true, false, List, Option, Some, None, refl, sym, ap, subst, ◌∙◌, arith}
 use Rattle.std.specs.Prelude.{sum_by}
 use Rattle.forest.specs.Forest.{Forest, Empty, Tree}
 use Rattle.forest.specs.Keys.{Keyed, HasDistinctKeys}
@@ -18,10 +18,8 @@ use Rattle.merged_walk.specs.Counts.{anew_count, budget, come_count, gone_count,
 use Rattle.merged_walk.specs.Evaluators.{count_of_elements, inputs, weigh_elements}
 use Rattle.merged_walk.specs.Laws.{Merges}
 use Rattle.merged_walk.specs.Merges.{Merge, all_come, new_of, old_of}
-use Rattle.merged_walk.specs.Stops.{stops_of}
 use Rattle.merged_walk.proofs.CountLaws.{anew-within}
 use Rattle.merged_walk.proofs.LawLemmas.{whole_documents_cost}
-use Rattle.merged_walk.proofs.StopLaws.{length-stops_of}
 use Rattle.surroundings.specs.declared.surroundings.Surroundings.{Surroundings}
 use Rattle.surroundings.specs.declared.told.Told.{Told}
 use Rattle.surroundings.specs.Laws.{AreItsInputs, OfEachDocument}
@@ -58,9 +56,9 @@ pub test_tells_inputs : TestTellsInputs
 test_tells_inputs one other = inputs-Decides one other
 
 -- the sum, in numbers
-pays : (anew led other come gone places stops at above differing around work : ℕ) → anew ≤ led + other → stops ≡ led + places → places ≤ 2 → (led + come + gone) ≤ at + above → other ≤ differing → above ≤ around
-    → (at + differing + around) ≤ work → (2 * (9 * anew + 6 * come + 2 * stops + 2) + gone) ≤ 24 * (work + 1)
-pays anew led other come gone places stops at above differing around work h1 h2 h3 h4 h5 h6 h7 = omega arith
+pays : (anew led other come gone places at above differing around work : ℕ) → anew ≤ led + other → places ≤ 2 → (led + come + gone) ≤ at + above → other ≤ differing → above ≤ around
+    → (at + differing + around) ≤ work → (2 * ((9 * anew + 6 * come + 2 * places + 2) + 2 * led) + gone) ≤ 24 * (work + 1)
+pays anew led other come gone places at above differing around work h1 h2 h3 h4 h5 h6 = omega arith
 
 pub heavy : (before after : KeyedSource) (k : ℕ) → 1 ≤ weight before after k
 heavy before after k = omega arith
@@ -146,10 +144,9 @@ module _ (told : OfEachDocument AreItsInputs) (edit : Edit) (before after : Keye
       let count : AreCounted w doc edit before.tree after.tree = counted w (heavy before after) edit before.tree after.tree leads.done in
       let at : sum_by w (placed edit before after) ≡ sum_by w (own_placed edit before.tree after.tree) = ap (sum_by w) (placed-own edit before after own) in
       pays (anew_count e root_surroundings root_surroundings m) (led_count m) (other_count e root_surroundings root_surroundings m) (come_count is_styled_element m) (gone_count is_styled_element m) (place_count m)
-      (length (stops_of is_styled_element 0 m)) (sum_by w (placed edit before after)) (sum_by w (own_ancestors edit before.tree after.tree)) (sum_by w (differing edit before after)) (sum_by w (around_places edit before after))
+      (sum_by w (placed edit before after)) (sum_by w (own_ancestors edit before.tree after.tree)) (sum_by w (differing edit before after)) (sum_by w (around_places edit before after))
       (walk_work edit before after)
       (anew-within e m root_surroundings root_surroundings)
-      (length-stops_of is_styled_element 0 m)
       (omega (arith, shape.places, count.places))
       (omega (arith, shape.led, shape.come, shape.gone, count.few, at))
       (others-pay was_start start too forests)

@@ -1,5 +1,5 @@
 -- The law of work where what an edit reaches goes and comes, from its lemmas.
-use Rattle.std.proofs.Common.{◌≡◌, ◌≢◌, ◌+◌, ◌*◌, ◌≤◌, ◌||◌, ℕ, ℤ, Bool, true, false, List, None, length, refl, sym, ap, subst, ◌∙◌, arith}
+use Rattle.std.proofs.Common.{◌≡◌, ◌≢◌, ◌+◌, ◌*◌, ◌≤◌, ◌||◌, ℕ, ℤ, Bool, true, false, List, None, refl, sym, ap, subst, ◌∙◌, arith}
 use Rattle.std.specs.Prelude.{sum_by}
 use Rattle.plain_types.specs.declared.box_id.BoxId.{BoxId}
 use Rattle.plain_types.specs.declared.edit.Edit.{Edit}
@@ -13,9 +13,7 @@ use Rattle.merged_walk.specs.Counts.{anew_count, come_count, gone_count, led_cou
 use Rattle.merged_walk.specs.Evaluators.{weigh_elements}
 use Rattle.merged_walk.specs.Laws.{Merges}
 use Rattle.merged_walk.specs.Merges.{Merge, new_of, old_of}
-use Rattle.merged_walk.specs.Stops.{stops_of}
 use Rattle.merged_walk.proofs.CountLaws.{anew-within}
-use Rattle.merged_walk.proofs.StopLaws.{length-stops_of}
 use Rattle.surroundings.specs.Laws.{AreItsInputs, OfEachDocument}
 use Rattle.surroundings.proofs.InputLaws.{inputs-document}
 use Rattle.surroundings.specs.StyledEvaluators.{root_surroundings, styled_evaluator}
@@ -46,9 +44,9 @@ use Rattle.edit_work.proofs.Sums.{other_weight}
 use Rattle.edit_work.proofs.Touched.{counted}
 
 -- the sum, in numbers
-pays : (anew led other come gone places stops placed differing around work : ℕ) → anew ≤ led + other → stops ≡ led + places → 4 * places ≤ 20 + 2 * (placed + around) → (led + come + gone) ≤ placed + around
-    → other ≤ differing → (placed + differing + around) ≤ work → (2 * (9 * anew + 6 * come + 2 * stops + 2) + gone) ≤ 24 * (work + 1)
-pays anew led other come gone places stops placed differing around work h1 h2 h3 h4 h5 h6 = omega arith
+pays : (anew led other come gone places placed differing around work : ℕ) → anew ≤ led + other → 4 * places ≤ 20 + 2 * (placed + around) → (led + come + gone) ≤ placed + around
+    → other ≤ differing → (placed + differing + around) ≤ work → (2 * ((9 * anew + 6 * come + 2 * places + 2) + 2 * led) + gone) ≤ 24 * (work + 1)
+pays anew led other come gone places placed differing around work h1 h2 h3 h4 h5 = omega arith
 
 or-left : (a b : Bool) → a ≡ true → (a || b) ≡ true
 or-left true b h = refl
@@ -121,10 +119,9 @@ module _ (told : OfEachDocument AreItsInputs) (edit : Edit) (before after : Keye
       let m = reached_with edit before after was_start start in
       let shape : HasShape m whole = has-shape (document_style (author before) before.tree) (document_style (author after) after.tree) was_start start None whole in
       pays (anew_count e root_surroundings root_surroundings m) (led_count m) (other_count e root_surroundings root_surroundings m) (come_count is_styled_element m) (gone_count is_styled_element m) (place_count m)
-      (length (stops_of is_styled_element 0 m)) (sum_by w (placed edit before after)) (sum_by w (differing edit before after)) (sum_by w (around_places edit before after))
+      (sum_by w (placed edit before after)) (sum_by w (differing edit before after)) (sum_by w (around_places edit before after))
       (walk_work edit before after)
       (anew-within e m root_surroundings root_surroundings)
-      (length-stops_of is_styled_element 0 m)
       (omega (arith, shape.places, paid.places))
       (omega (arith, shape.led, shape.come, shape.gone, paid.few))
       (others-pay was_start start too forests)

@@ -7,7 +7,7 @@ use Rattle.box_eval.specs.declared.inputs.Inputs.{Inputs}
 use Rattle.box_eval.specs.Evaluation.{StyledNode}
 use Rattle.box_eval.specs.Starts.{no_starts}
 use Rattle.generated_texts.specs.Documents.{document_style}
-use Rattle.merged_walk.specs.Counts.{budget, gone_count}
+use Rattle.merged_walk.specs.Counts.{budget, gone_count, led_count}
 use Rattle.merged_walk.specs.Evaluators.{count_of_elements}
 use Rattle.merged_walk.specs.Laws.{Merges}
 use Rattle.merged_walk.specs.Merges.{Merge, all_come}
@@ -40,12 +40,13 @@ module _ (edit : Edit) (before after : KeyedSource) where
       styled_merge (document_style (author before) before.tree) (document_style (author after) after.tree) was_start start None
       (edit_merge edit before.tree after.tree)
 
-  -- The work pays for one walk over this merge, and one reading of what is kept for each change that it found, which are
-  -- no more than its budget; and for taking out what was kept of elements that go.
+  -- The work pays twice for a walk over this merge and for 2 steps at each node that it is led into, so that it pays for one
+  -- reading of what is kept for each change that it found, which are no more than its budget; and for taking out what was kept
+  -- of elements that go.
   abbrev pub PaysForWalk : (was_start start : BoxId → List ℕ → ℤ) → Type 0
   PaysForWalk was_start start =
       let merge : Merge StyledNode = merge_with was_start start in
-      (2 * budget (styled_evaluator (table after)) root_surroundings root_surroundings merge + gone_count is_styled_element merge)
+      (2 * (budget (styled_evaluator (table after)) root_surroundings root_surroundings merge + 2 * led_count merge) + gone_count is_styled_element merge)
       ≤ 24 * (walk_work edit before after + 1)
 
   -- it is a merge of the two documents as they are evaluated with these starts

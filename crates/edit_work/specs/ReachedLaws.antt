@@ -5,7 +5,7 @@ use Rattle.plain_types.specs.declared.edit.Edit.{Edit}
 use Rattle.box_eval.specs.Evaluation.{StyledNode}
 use Rattle.box_eval.specs.Starts.{no_starts}
 use Rattle.generated_texts.specs.Documents.{agent_sheet, document_style}
-use Rattle.merged_walk.specs.Counts.{budget, gone_count}
+use Rattle.merged_walk.specs.Counts.{budget, gone_count, led_count}
 use Rattle.merged_walk.specs.Laws.{Merges}
 use Rattle.merged_walk.specs.Merges.{Merge}
 use Rattle.surroundings.specs.StyledEvaluators.{root_surroundings, styled_evaluator}
@@ -26,12 +26,13 @@ module _ (edit : Edit) (before after : KeyedSource) where
       styled_merge (document_style (author before) before.tree) (document_style (author after) after.tree) was_start start None
       (reached_merge (all_features agent_sheet (author before)) edit before.tree after.tree)
 
-  -- The work pays for one walk over this merge, and one reading of what is kept for each change that it found; and for
-  -- taking out what was kept of elements that go.
+  -- The work pays twice for a walk over this merge and for 2 steps at each node that it is led into, so that it pays for one
+  -- reading of what is kept for each change that it found; and for taking out what was kept of elements that go.
   abbrev pub PaysForReachedWalk : (was_start start : BoxId → List ℕ → ℤ) → Type 0
   PaysForReachedWalk was_start start =
       let merge : Merge StyledNode = reached_with was_start start in
-      (2 * budget (styled_evaluator (table after)) root_surroundings root_surroundings merge + gone_count is_styled_element merge) ≤ 24 * (walk_work edit before after + 1)
+      (2 * (budget (styled_evaluator (table after)) root_surroundings root_surroundings merge + 2 * led_count merge) + gone_count is_styled_element merge)
+      ≤ 24 * (walk_work edit before after + 1)
 
   -- it is a merge of the two documents as they are evaluated with these starts
   abbrev pub ReachedMergesWith : (was_start start : BoxId → List ℕ → ℤ) → Type 0

@@ -8,7 +8,7 @@ use Rattle.forest.proofs.SpotLaws.{distinct-parts}
 use Rattle.merged_walk.specs.declared.stop.Stop.{Stop}
 use Rattle.merged_walk.specs.declared.stop.Way.TheVariants.{Inside, Anew}
 use Rattle.merged_walk.specs.Merges.{Merge, Kept, Turned, Come, old_of, new_of, all_come, has_place}
-use Rattle.merged_walk.specs.Stops.{stop_at, stops_of}
+use Rattle.merged_walk.specs.Stops.{places_ahead, stop_at, stops_of}
 use Rattle.merged_walk.specs.Evaluators.{Evaluator, told, past_all, told_all}
 use Rattle.merged_walk.specs.Entries.{Holds}
 use Rattle.merged_walk.specs.Counts.{anew_count}
@@ -17,7 +17,7 @@ use Rattle.merged_walk.specs.WalkTurns.{IsTaken}
 use Rattle.merged_walk.proofs.MergeLaws.{all_come-new, from_place-fresh, new-all_come, old-all_come}
 use Rattle.merged_walk.proofs.StopLaws.{stops-none}
 use Rattle.merged_walk.proofs.CountLaws.{anew-all_come, come-all_come}
-use Rattle.merged_walk.proofs.TurnLists.{fewer, regroup, rest_is, take_fresh, take_inside}
+use Rattle.merged_walk.proofs.TurnLists.{fewer, fewer_places, regroup, rest_is, take_fresh, take_inside}
 
 -- a walk stands here
 abbrev pub standing : {L K H : Type 0} → List (Open L H) → (i j : H) → Merge L → List Stop → List (ℕ × K) → ℕ → State L K H
@@ -51,7 +51,8 @@ module _ {L K H : Type 0} (e : Evaluator L K H) (held : ℕ → Option K) (all :
         let some : cond {A = ℕ} (e.is_element n.label) (cond (has_place c || not (e.is_same i j)) 1 0) 0 ≡ 1 = rw (element, one) refl in
         let level : level_stops e.is_element bs (Kept n c r) ≡ stops_of e.is_element (length bs) (Kept n c r) = rw stays refl in
         let beside : level_stops e.is_element bs r ≡ stops_of e.is_element (length bs) r = rw stays refl in
-        let fewer_stops = fewer (has_place c) (stop_at e.is_element (length bs) Inside (Kept n c r)) stops later taken in (
+        let stop = stop_at e.is_element (length bs) Inside (Kept n c r) in
+        let fewer_stops = fewer (has_place c) stop stops later taken in (
           record {
             done = w.done;
             split = w.split ∙ ap (λ rest. w.done ++ rest) (regroup (told_all e (e.within n i) (new_of c)) (told e n i x) _ _);
@@ -59,7 +60,7 @@ module _ {L K H : Type 0} (e : Evaluator L K H) (held : ℕ → Option K) (all :
             among = w.among;
             holds = subst (Holds held) (regroup (told_all e (e.within n j) (old_of c)) (told e n j y) _ _) w.holds;
             waits =
-                take_inside (has_place c) (stop_at e.is_element (length bs) Inside (Kept n c r)) stops later (stops_of e.is_element (suc (length bs)) c) (stops_of e.is_element (length bs) r) (stops_behind e.is_element bs)
+                take_inside (has_place c) stop stops later (stops_of e.is_element (suc (length bs)) c) (stops_of e.is_element (length bs) r) (stops_behind e.is_element bs)
                 (stops-none e.is_element (suc (length bs)) c) taken (w.waits ∙ ap (λ level. level ++ stops_behind e.is_element bs) level)
                 ∙ ap (λ level. stops_of e.is_element (suc (length bs)) c ++ (level ++ stops_behind e.is_element bs)) (sym beside);
             fresh = tt;
@@ -69,7 +70,7 @@ module _ {L K H : Type 0} (e : Evaluator L K H) (held : ℕ → Option K) (all :
             elements = (element, element, refl, w.elements);
             credit = 2;
             rested = inl refl;
-            few = omega (arith, w.few, some, few, fewer_stops);
+            few = omega (arith, w.few, some, few, fewer_places (has_place c) stop stops later taken);
           },
           omega (arith, fewer_stops),
         )
@@ -109,7 +110,7 @@ module _ {L K H : Type 0} (e : Evaluator L K H) (held : ℕ → Option K) (all :
             elements = (element, element_was, one_key, w.elements);
             credit = 2;
             rested = inl refl;
-            few = omega (arith, w.few, few, count);
+            few = omega (arith, w.few, few, ap places_ahead taken);
           },
           omega (arith, count),
         )
@@ -126,7 +127,8 @@ module _ {L K H : Type 0} (e : Evaluator L K H) (held : ℕ → Option K) (all :
         let new = new-all_come c in
         let old = old-all_come c in
         let parts = distinct-parts n c (new_of r) w.distinct in
-        let fewer_stops = fewer (not (is_fresh bs)) (stop_at e.is_element (length bs) Anew (Come n c r)) stops later taken in
+        let stop = stop_at e.is_element (length bs) Anew (Come n c r) in
+        let fewer_stops = fewer (not (is_fresh bs)) stop stops later taken in
         let its_past = λ (g : Forest (Keyed L)). e.past n i (past_all e (e.within n i) g) in
         let news_are : news e bs i (Come n c r) ≡ news e (b ∷ bs) (e.within n i) (all_come c) =
         regroup (told_all e (e.within n i) c) (told e n i (past_all e (e.within n i) c)) _ _
@@ -142,7 +144,7 @@ module _ {L K H : Type 0} (e : Evaluator L K H) (held : ℕ → Option K) (all :
             covered = w.covered;
             among = w.among;
             holds = subst (Holds held) olds_are w.holds;
-            waits = take_fresh (is_fresh bs) (stop_at e.is_element (length bs) Anew (Come n c r)) stops later (stops_of e.is_element (length bs) r) (stops_behind e.is_element bs) taken w.waits;
+            waits = take_fresh (is_fresh bs) stop stops later (stops_of e.is_element (length bs) r) (stops_behind e.is_element bs) taken w.waits;
             fresh = all_come-new c;
             fresh_behind = (fresh-after (is_fresh bs) n c r w.fresh, w.fresh_behind);
             distinct = subst HasDistinctKeys (sym new) parts.0;
@@ -150,7 +152,7 @@ module _ {L K H : Type 0} (e : Evaluator L K H) (held : ℕ → Option K) (all :
             elements = (element, element, refl, w.elements);
             credit = w.credit;
             rested = inr (from_place-fresh (all_come c) (all_come-new c));
-            few = omega (arith, w.few, counted, anew-all_come e c (e.within n i) j, come-all_come e.is_element c, own, few, fewer_stops);
+            few = omega (arith, w.few, counted, anew-all_come e c (e.within n i) j, come-all_come e.is_element c, own, few, fewer_places (not (is_fresh bs)) stop stops later taken);
           },
           let same_size : size (new_of (all_come c)) ≡ size c = ap (λ (g : Forest (Keyed L)). size g) new in omega (arith, same_size, fewer_stops),
         )

@@ -12,8 +12,8 @@ use Rattle.forest.proofs.SpotLaws.{distinct-parts, root-once}
 use Rattle.merged_walk.specs.declared.stop.Stop.{Stop}
 use Rattle.merged_walk.specs.declared.stop.Way.TheVariants.{Past, Inside, Anew}
 use Rattle.merged_walk.specs.Merges.{Merge, End, Kept, Turned, Gone, Come, all_kept, old_of, new_of, has_place}
-use Rattle.merged_walk.specs.Stops.{first_element, stop_at, stops_of}
-use Rattle.merged_walk.specs.EditStops.{is_common, is_inside, joined}
+use Rattle.merged_walk.specs.Stops.{first_element, is_inside, stop_at, stops_of}
+use Rattle.merged_walk.specs.EditStops.{is_common, joined}
 use Rattle.merged_walk.proofs.MergeLaws.{has_place-all_kept}
 use Rattle.merged_walk.proofs.StopLaws.{stops-beside, stops-kept, stops-none, stops-under}
 use Rattle.merged_walk.proofs.ShallowStops.{first_stop}

@@ -10,7 +10,7 @@ use Rattle.forest.proofs.SpotLaws.{distinct-parts}
 use Rattle.merged_walk.specs.declared.stop.Stop.{Stop}
 use Rattle.merged_walk.specs.declared.stop.Way.TheVariants.{Past, Anew}
 use Rattle.merged_walk.specs.Merges.{Merge, End, Kept, Turned, Gone, Come, old_of, new_of, has_place, from_place}
-use Rattle.merged_walk.specs.Stops.{stop_at, stops_of}
+use Rattle.merged_walk.specs.Stops.{is_inside, places_ahead, stop_at, stops_of}
 use Rattle.merged_walk.specs.Evaluators.{Evaluator, IsSound, told, past_all, told_all}
 use Rattle.merged_walk.specs.Entries.{Holds}
 use Rattle.merged_walk.specs.Counts.{anew_count}
@@ -39,11 +39,11 @@ module _ {L : Type 0} where
   full n c r credit none (inl two) = two
   full n c r credit none (inr at) = absurd (not_at_place n c r none at)
 
-  -- on a fresh level there are steps for none, and elsewhere the stop that was taken has them
-  pays : (fresh : Bool) (stop : Stop) (stops later : List Stop) (credit : ℕ) (r : Merge L) → IsFresh fresh r → IsTaken (not fresh) stop stops later
-      → (now : ℕ) × (2 * length later + now ≤ 2 * length stops + credit) × ((now ≡ 2) ⊎ (from_place r ≡ r))
-  pays true stop stops later credit r h taken = (credit, rw taken (omega arith), inr (from_place-fresh r h))
-  pays false stop stops later credit r h taken = (2, rw taken (omega arith), inl refl)
+  -- on a fresh level there are steps for none, and elsewhere the place whose stop was taken has them
+  pays : (fresh : Bool) (stop : Stop) (stops later : List Stop) (credit : ℕ) (r : Merge L) → is_inside stop.way ≡ false → IsFresh fresh r → IsTaken (not fresh) stop stops later
+      → (now : ℕ) × (2 * places_ahead later + now ≤ 2 * places_ahead stops + credit) × ((now ≡ 2) ⊎ (from_place r ≡ r))
+  pays true stop stops later credit r place h taken = (credit, rw taken (omega arith), inr (from_place-fresh r h))
+  pays false stop stops later credit r place h taken = (2, rw (taken, place) (omega arith), inl refl)
 
 module _ {L K H : Type 0} (e : Evaluator L K H) (held : ℕ → Option K) (all : List (ℕ × K)) (most : ℕ) where
   module _ (bs : List (Open L H)) (i j : H) (stops later : List Stop) (changes : List (ℕ × K)) (spent more : ℕ) where
@@ -56,6 +56,11 @@ module _ {L K H : Type 0} (e : Evaluator L K H) (held : ℕ → Option K) (all :
         let level : level_stops e.is_element bs (Gone n c r) ≡ stops_of e.is_element (length bs) (Gone n c r) = rw stays refl in
         let beside : level_stops e.is_element bs r ≡ stops_of e.is_element (length bs) r = rw stays refl in
         let count : length stops ≡ suc (length later) = ap (λ (stops : List Stop). length stops) taken in
+        let place = stop_at e.is_element (length bs) Past (Gone n c r) in
+        let behind = stops_of e.is_element (length bs) r ++ stops_behind e.is_element bs in
+        let waits : stops ≡ place ∷ behind = w.waits ∙ ap (λ level. level ++ stops_behind e.is_element bs) level in
+        let rest : later ≡ behind = rest_is stop place later behind (sym taken ∙ waits) in
+        let places : places_ahead stops ≡ 1 + places_ahead later = omega (arith, ap places_ahead waits, ap places_ahead rest) in
         let gone = told_all e (e.within n j) c in
         let its = told e n j (past_all e (e.within n j) c) in
         let has = λ (x : ℕ × K). held x.0 ≡ Some x.1 in (
@@ -66,8 +71,7 @@ module _ {L K H : Type 0} (e : Evaluator L K H) (held : ℕ → Option K) (all :
             among = w.among;
             holds = all-right has its _ (all-right has gone _ (subst (Holds held) (regroup gone its _ _) w.holds));
             waits =
-                rest_is stop (stop_at e.is_element (length bs) Past (Gone n c r)) later (stops_of e.is_element (length bs) r ++ stops_behind e.is_element bs) (sym taken ∙ w.waits ∙ ap (λ level. level ++ stops_behind e.is_element bs) level)
-                ∙ ap (λ level. level ++ stops_behind e.is_element bs) (sym beside);
+                rest ∙ ap (λ level. level ++ stops_behind e.is_element bs) (sym beside);
             fresh = subst (λ b. IsFresh b r) (sym stays) tt;
             fresh_behind = w.fresh_behind;
             distinct = w.distinct;
@@ -75,7 +79,7 @@ module _ {L K H : Type 0} (e : Evaluator L K H) (held : ℕ → Option K) (all :
             elements = w.elements;
             credit = 2;
             rested = inl refl;
-            few = omega (arith, w.few, count);
+            few = omega (arith, w.few, places);
           },
           omega (arith, count),
         )
@@ -136,7 +140,7 @@ module _ {L K H : Type 0} (e : Evaluator L K H) (held : ℕ → Option K) (all :
           ∙ ap (λ x. told_all e x (new_of r) ++ news_behind e bs (past_all e x (new_of r))) same in
           let level = fresh-after (is_fresh bs) n Empty r w.fresh in
           let stop = stop_at e.is_element (length bs) Anew (Come n Empty r) in
-          let paid = pays (is_fresh bs) stop stops later w.credit r level taken in (
+          let paid = pays (is_fresh bs) stop stops later w.credit r refl level taken in (
             record {
               done = w.done;
               split = w.split ∙ ap (λ rest. w.done ++ rest) news_are;

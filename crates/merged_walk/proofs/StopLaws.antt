@@ -1,15 +1,14 @@
 -- The stops of a merge: none without a place, and else one for each place and each node that is entered to get there.
 -- Throughout, d is a depth, n a node, c what is under it, r what is after it, and m a merge.
-use Rattle.std.proofs.Common.{◌≡◌, ◌+◌, ◌++◌, ◌∷◌, ℕ, suc, Bool, true, false, cond, List, [], length, refl, ap, ◌∙◌, arith, append-nil}
+use Rattle.std.proofs.Common.{◌≡◌, ◌+◌, ◌++◌, ◌∷◌, ℕ, suc, Bool, true, false, cond, List, [], refl, ap, ◌∙◌, arith, append-nil}
 use Rattle.std.proofs.lemmas.Bool.{or_parts}
-use Rattle.std.proofs.lemmas.List.{length-append}
 use Rattle.forest.specs.Forest.{Forest}
 use Rattle.forest.specs.Keys.{Keyed}
 use Rattle.merged_walk.specs.declared.stop.Stop.{Stop}
 use Rattle.merged_walk.specs.declared.stop.Way.TheVariants.{Inside}
 use Rattle.merged_walk.specs.Merges.{Merge, End, Kept, Turned, Gone, Come, all_kept, has_place}
-use Rattle.merged_walk.specs.Stops.{stop_at, stops_of}
-use Rattle.merged_walk.specs.Counts.{led_count, place_count}
+use Rattle.merged_walk.specs.Stops.{places_ahead, stop_at, stops_of}
+use Rattle.merged_walk.specs.Counts.{place_count}
 use Rattle.merged_walk.proofs.MergeLaws.{has_place-all_kept}
 
 module _ {L : Type 0} (is_element : L → Bool) where
@@ -25,22 +24,25 @@ module _ {L : Type 0} (is_element : L → Bool) where
   pub stops-all_kept : (d : ℕ) (g : Forest (Keyed L)) → stops_of is_element d (all_kept g) ≡ []
   stops-all_kept d g = stops-none d (all_kept g) (has_place-all_kept g)
 
-  length-kept : (d : ℕ) (n : Keyed L) (c r : Merge L) (b : Bool) → has_place c ≡ b
-      → length (stops_of is_element (suc d) c) ≡ led_count c + place_count c → length (stops_of is_element d r) ≡ led_count r + place_count r
-      → length (cond b (stop_at is_element d Inside (Kept n c r) ∷ stops_of is_element (suc d) c) [] ++ stops_of is_element d r)
-      ≡ cond b 1 0 + (led_count c + led_count r) + (place_count c + place_count r)
-  length-kept d n c r true is below beside = omega (arith, length-append (stops_of is_element (suc d) c) (stops_of is_element d r), below, beside)
-  length-kept d n c r false is below beside =
-      let none : length (stops_of is_element (suc d) c) ≡ 0 = ap (λ (stops : List Stop). length stops) (stops-none (suc d) c is) in
+  places-append : (stops later : List Stop) → places_ahead (stops ++ later) ≡ places_ahead stops + places_ahead later
+  places-append [] later = omega arith
+  places-append (stop ∷ stops) later = omega (arith, places-append stops later)
+
+  places-kept : (d : ℕ) (n : Keyed L) (c r : Merge L) (b : Bool) → has_place c ≡ b
+      → places_ahead (stops_of is_element (suc d) c) ≡ place_count c → places_ahead (stops_of is_element d r) ≡ place_count r
+      → places_ahead (cond b (stop_at is_element d Inside (Kept n c r) ∷ stops_of is_element (suc d) c) [] ++ stops_of is_element d r) ≡ place_count c + place_count r
+  places-kept d n c r true is below beside = omega (arith, places-append (stops_of is_element (suc d) c) (stops_of is_element d r), below, beside)
+  places-kept d n c r false is below beside =
+      let none : places_ahead (stops_of is_element (suc d) c) ≡ 0 = ap places_ahead (stops-none (suc d) c is) in
       omega (arith, none, below, beside)
 
-  pub length-stops_of : (d : ℕ) (m : Merge L) → length (stops_of is_element d m) ≡ led_count m + place_count m
-  length-stops_of d End = refl
-  length-stops_of d (Kept n c r) = length-kept d n c r (has_place c) refl (length-stops_of (suc d) c) (length-stops_of d r)
-  length-stops_of d (Turned was n c r) =
-      omega (arith, length-append (stops_of is_element (suc d) c) (stops_of is_element d r), length-stops_of (suc d) c, length-stops_of d r)
-  length-stops_of d (Gone n c r) = omega (arith, length-stops_of d r)
-  length-stops_of d (Come n c r) = omega (arith, length-stops_of d r)
+  pub places-stops_of : (d : ℕ) (m : Merge L) → places_ahead (stops_of is_element d m) ≡ place_count m
+  places-stops_of d End = refl
+  places-stops_of d (Kept n c r) = places-kept d n c r (has_place c) refl (places-stops_of (suc d) c) (places-stops_of d r)
+  places-stops_of d (Turned was n c r) =
+      omega (arith, places-append (stops_of is_element (suc d) c) (stops_of is_element d r), places-stops_of (suc d) c, places-stops_of d r)
+  places-stops_of d (Gone n c r) = omega (arith, places-stops_of d r)
+  places-stops_of d (Come n c r) = omega (arith, places-stops_of d r)
 
   -- the stops of a level whose first tree is kept, by whether there is a place under it, and behind it
 

@@ -2,6 +2,7 @@
 use Rattle.std.proofs.Common.{◌≡◌, ◌≤◌, Bool, true, false, cond, List, [], ◌∷◌, ◌++◌, length, refl, sym, ap, ◌∙◌, arith, append_assoc}
 use Rattle.std.specs.Prelude.{not}
 use Rattle.merged_walk.specs.declared.stop.Stop.{Stop}
+use Rattle.merged_walk.specs.Stops.{places_ahead}
 use Rattle.merged_walk.specs.WalkTurns.{IsTaken}
 
 -- what is told below a node, of it, beside it and behind its level
@@ -31,3 +32,7 @@ take_fresh false stop stops later beside behind taken is = rest_is stop stop lat
 pub fewer : (b : Bool) (stop : Stop) (stops later : List Stop) → IsTaken b stop stops later → length later ≤ length stops
 fewer true stop stops later taken = rw taken (omega arith)
 fewer false stop stops later taken = rw taken (omega arith)
+
+pub fewer_places : (b : Bool) (stop : Stop) (stops later : List Stop) → IsTaken b stop stops later → places_ahead later ≤ places_ahead stops
+fewer_places true stop stops later taken = rw taken (omega arith)
+fewer_places false stop stops later taken = rw taken (omega arith)

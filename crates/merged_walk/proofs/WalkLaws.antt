@@ -12,6 +12,7 @@ use Rattle.merged_walk.specs.Counts.{budget}
 use Rattle.merged_walk.specs.Walks.{GoesOn, Open, State, Walks, level_stops, news, new_past, old_past, old_told, stops_behind}
 use Rattle.merged_walk.specs.WalkTurns.{IsEnded, Run, WalkTurn, begun, entering, entering_turned, entering_fresh, leaving, missing, no_turn, passing, passing_fresh, skipping, then_turn}
 use Rattle.merged_walk.proofs.EntryLaws.{all-right, contains-first, covers-more, covers-new}
+use Rattle.merged_walk.proofs.StopLaws.{places-stops_of}
 use Rattle.merged_walk.proofs.TurnLists.{none_either}
 use Rattle.merged_walk.proofs.EnterTurns.{keeps-entering, keeps-entering_turned, keeps-entering_fresh, standing}
 use Rattle.merged_walk.proofs.PassTurns.{keeps-missing, keeps-passing, keeps-passing_fresh, keeps-skipping}
@@ -115,5 +116,5 @@ module _ {L K H : Type 0} (e : Evaluator L K H) where
     elements = tt;
     credit = 2;
     rested = inl refl;
-    few = omega arith;
+    few = omega (arith, places-stops_of e.is_element 0 m);
   }

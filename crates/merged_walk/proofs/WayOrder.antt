@@ -9,8 +9,8 @@ use Rattle.merged_walk.specs.declared.stop.Stop.{Stop}
 use Rattle.merged_walk.specs.declared.stop.Way.{Way}
 use Rattle.merged_walk.specs.declared.stop.Way.TheVariants.{Past, Inside, Anew}
 use Rattle.merged_walk.specs.Merges.{Merge, End, Kept, Turned, Gone, Come, has_place, new_of, old_of}
-use Rattle.merged_walk.specs.Stops.{first_element, stop_at, stops_of}
-use Rattle.merged_walk.specs.EditStops.{is_inside, stop_inside}
+use Rattle.merged_walk.specs.Stops.{first_element, is_inside, stop_at, stops_of}
+use Rattle.merged_walk.specs.EditStops.{stop_inside}
 use Rattle.merged_walk.specs.TurnedNodes.{AreLater, IsLater, Reaches, is_link_before, is_stop_before, is_stop_into, stops_after, stops_before, with_way}
 use Rattle.merged_walk.proofs.ShallowStops.{IsShallow, by_test}
 

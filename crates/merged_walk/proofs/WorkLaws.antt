@@ -24,7 +24,6 @@ use Rattle.merged_walk.specs.EditStops.{HasRoom, NamesNode, on_way}
 use Rattle.merged_walk.specs.Work.{IsPaid, Touched, insertion_touches, moving_touches, relabelling_touches, removal_touches, weigh_differing}
 use Rattle.merged_walk.proofs.EntryLaws.{all-left, all-right}
 use Rattle.merged_walk.proofs.MergeLaws.{has_place-all_kept, new-all_kept}
-use Rattle.merged_walk.proofs.StopLaws.{length-stops_of}
 use Rattle.merged_walk.proofs.CountLaws.{anew-within, weigh-all_kept}
 use Rattle.merged_walk.proofs.EditLaws.{new-insertion, new-moving, new-relabelling, new-removal, old-insertion, old-moving, old-relabelling, old-removal}
 use Rattle.merged_walk.proofs.PutLaws.{OnlyGoes, led-puts, one_at_most, only-all_kept, only-removal, puts-put_at, weigh-puts}
@@ -336,7 +335,7 @@ module _ {L K H : Type 0} (e : Evaluator L K H) (weight : ℕ → ℕ) (heavy : 
       let others : other_count e i j m ≤ weigh_differing e weight before (inputs e i new) =
       subst (λ g. other_count e i j m ≤ weigh_differing e weight before (inputs e i g)) new_is
       (others-within before m i j (subst (λ g. Holds (first_at before) (inputs e j g)) (sym old_is) h)) in
-      omega (arith, others, its.places, its.few, anew-within e m i j, length-stops_of e.is_element 0 m)
+      omega (arith, others, its.places, its.few, anew-within e m i j)
 
   pub paid-removal : (path : List ℕ) (tree : Forest (Keyed L)) (i j : H) (before : List (ℕ × H)) → Holds (first_at before) (inputs e j tree)
       → IsPaid e weight i j (removal path tree) (removal_touches path tree) before (inputs e i (removed_at path tree))

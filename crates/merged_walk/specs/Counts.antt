@@ -1,9 +1,8 @@
 -- How much of two merged forests a walk evaluates, and how many steps are set aside for it (our own).
-use Rattle.std.specs.Prelude.{ℕ, ◌+◌, ◌*◌, Bool, not, ◌||◌, if◌then◌else◌, length}
+use Rattle.std.specs.Prelude.{ℕ, ◌+◌, ◌*◌, Bool, not, ◌||◌, if◌then◌else◌}
 use Rattle.forest.specs.Forest.{Forest, Empty, Tree}
 use Rattle.forest.specs.Keys.{Keyed}
 use Rattle.merged_walk.specs.Merges.{Merge, End, Kept, Turned, Gone, Come, old_of, new_of, has_place}
-use Rattle.merged_walk.specs.Stops.{stops_of}
 use Rattle.merged_walk.specs.Evaluators.{Evaluator, past_all, count_of_elements}
 
 module _ {L : Type 0} where
@@ -80,8 +79,8 @@ abbrev pub set_aside : (stay come : ℕ) → ℕ
 set_aside stay come = 9 * stay + 6 * come
 
 -- The most steps that a walk over two merged forests takes, each put counted as one: also 2 for trees skipped behind
--- each stop, and 2 for those skipped before the first.
+-- each place, and 2 for those skipped before the first stop.
 abbrev pub budget : {L K H : Type 0} → Evaluator L K H → (handed was_handed : H) → Merge L → ℕ
 budget evaluator handed was_handed merge =
     set_aside (anew_count evaluator handed was_handed merge) (come_count evaluator.is_element merge)
-    + 2 * length (stops_of evaluator.is_element 0 merge) + 2
+    + 2 * place_count merge + 2

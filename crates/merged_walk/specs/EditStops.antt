@@ -8,9 +8,8 @@ use Rattle.forest.specs.Paths.{on_path, trees_from}
 use Rattle.forest.specs.Spots.{first_key}
 use Rattle.node_arena.specs.AtPaths.{child_count_at}
 use Rattle.merged_walk.specs.declared.stop.Stop.{Stop}
-use Rattle.merged_walk.specs.declared.stop.Way.{Way}
 use Rattle.merged_walk.specs.declared.stop.Way.TheVariants.{Past, Inside, Anew}
-use Rattle.merged_walk.specs.Stops.{first_element}
+use Rattle.merged_walk.specs.Stops.{first_element, is_inside}
 
 -- the stop into a node
 abbrev pub stop_inside : ℕ → ℕ → Stop
@@ -73,11 +72,6 @@ module _ {L : Type 0} where
     insertion_stops path key tree = stops_into 0 (on_way path tree) ++ (come_stop (length (on_way path tree)) key (on_path path tree) ∷ [])
 
 -- The stops of a move: those of its two places, of which common first ones stand once.
-
-abbrev pub is_inside : Way → Bool
-is_inside Past = false
-is_inside Inside = true
-is_inside Anew = false
 
 abbrev pub is_common : Stop → Stop → Bool
 is_common one other = is_inside one.way && (is_inside other.way && option_eq nat_eq one.link other.link)

@@ -1,5 +1,5 @@
 -- Where a walk over two merged forests has to go (our own): to each place, and into each node that has one under it.
-use Rattle.std.specs.Prelude.{◌==◌, ℕ, suc, nat_eq, Bool, false, ◌&&◌, if◌then◌else◌, List, [], ◌∷◌, ◌++◌, Option, Some, None}
+use Rattle.std.specs.Prelude.{◌==◌, ◌+◌, ℕ, suc, nat_eq, Bool, true, false, ◌&&◌, if◌then◌else◌, List, [], ◌∷◌, ◌++◌, Option, Some, None}
 use Rattle.std.specs.Option.{option_eq}
 use Rattle.forest.specs.Forest.{Forest, Empty, Tree}
 use Rattle.forest.specs.Keys.{Keyed}
@@ -8,6 +8,16 @@ use Rattle.merged_walk.specs.declared.stop.Stop.{Stop}
 use Rattle.merged_walk.specs.declared.stop.Way.{Way}
 use Rattle.merged_walk.specs.declared.stop.Way.TheVariants.{Past, Inside, Anew}
 use Rattle.merged_walk.specs.Merges.{Merge, End, Kept, Turned, Gone, Come, old_of, new_of, has_place}
+
+abbrev pub is_inside : Way → Bool
+is_inside Past = false
+is_inside Inside = true
+is_inside Anew = false
+
+-- how many of these stops are at places
+abbrev pub places_ahead : List Stop → ℕ
+places_ahead [] = 0
+places_ahead (stop ∷ stops) = (if is_inside stop.way then 0 else 1) + places_ahead stops
 
 -- the next stop is at this depth and this link
 abbrev pub is_at : List Stop → ℕ → Option ℕ → Bool

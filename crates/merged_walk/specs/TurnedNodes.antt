@@ -5,7 +5,8 @@ use Rattle.std.specs.Option.{option_map_or}
 use Rattle.forest.specs.Keys.{Keyed}
 use Rattle.merged_walk.specs.declared.stop.Stop.{Stop}
 use Rattle.merged_walk.specs.Merges.{Merge, End, Kept, Turned, Gone, Come}
-use Rattle.merged_walk.specs.EditStops.{is_inside, stop_inside}
+use Rattle.merged_walk.specs.Stops.{is_inside}
+use Rattle.merged_walk.specs.EditStops.{stop_inside}
 
 -- A way is the keys of a node and of those above it, from the root. `earlier` tells which of two siblings comes first.
 module _ (earlier : ℕ → ℕ → Bool) where

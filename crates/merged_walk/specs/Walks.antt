@@ -4,7 +4,7 @@ use Rattle.forest.specs.Forest.{size}
 use Rattle.forest.specs.Keys.{Keyed, HasDistinctKeys}
 use Rattle.merged_walk.specs.declared.stop.Stop.{Stop}
 use Rattle.merged_walk.specs.Merges.{Merge, End, Kept, Turned, Gone, Come, old_of, new_of, all_come, has_place, from_place}
-use Rattle.merged_walk.specs.Stops.{stops_of}
+use Rattle.merged_walk.specs.Stops.{places_ahead, stops_of}
 use Rattle.merged_walk.specs.Evaluators.{Asks, Evaluator, told, past_all, told_all, AllFit}
 use Rattle.merged_walk.specs.Entries.{AreAmong, Covers, Holds}
 use Rattle.merged_walk.specs.Counts.{anew_count, come_count, set_aside}
@@ -175,11 +175,11 @@ module _ {L K H : Type 0} (evaluator : Evaluator L K H) where
     -- steps for trees that are skipped next; there are none right behind such trees, where the walk stands at a place
     pub credit : ℕ
     pub rested : (credit ≡ 2) ⊎ (from_place state.here ≡ state.here)
-    -- each open node has its steps to be left and put, and those for trees skipped behind it; each stop those behind it
+    -- each open node has its steps to be left and put, and those for trees skipped behind it; each place those behind it
     pub few :
         state.spent
         + set_aside (anew_left state.above state.handed state.was_handed state.here) (come_left state.above state.here)
-        + 4 * length state.above + 2 * length state.stops + credit
+        + 4 * length state.above + 2 * places_ahead state.stops + credit
         ≤ most
 
   -- a walk goes on: so much is known of it again, and less is left to walk

@@ -10,7 +10,7 @@ use Rattle.node_arena.specs.Changes.{alone}
 use Rattle.merged_walk.specs.Merges.{Merge}
 use Rattle.merged_walk.specs.Evaluators.{Evaluator, weigh_elements}
 use Rattle.merged_walk.specs.Entries.{first_at}
-use Rattle.merged_walk.specs.Counts.{budget, gone_count}
+use Rattle.merged_walk.specs.Counts.{budget, gone_count, led_count}
 use Rattle.merged_walk.specs.EditStops.{on_way}
 
 -- The trees that an edit puts in, takes out, moves or changes, each as it stands in the tree before the edit or after
@@ -54,8 +54,8 @@ module _ {L K H : Type 0} (evaluator : Evaluator L K H) (weight : ℕ → ℕ) w
       + weigh_differing before now
       + sum_by (λ way. sum_by (λ (node : Keyed L). weight node.key) way) touched.ways
 
-  -- The work pays twice for a walk over a merge, and for taking out what was kept of the trees that go: what a walk has
-  -- found may be read once more.
+  -- The work pays twice for a walk over a merge and for 2 steps at each node that it is led into, and for taking out what
+  -- was kept of the trees that go: what a walk has found may be read once more.
   abbrev pub IsPaid : (handed was_handed : H) → Merge L → Touched L → (before now : List (ℕ × H)) → Type 0
   IsPaid handed was_handed merge touched before now =
-      (2 * budget evaluator handed was_handed merge + gone_count evaluator.is_element merge) ≤ 24 * (work touched before now + 1)
+      (2 * (budget evaluator handed was_handed merge + 2 * led_count merge) + gone_count evaluator.is_element merge) ≤ 24 * (work touched before now + 1)

@@ -67,8 +67,8 @@
 //! Item 5 counts 2 now and counted 3, so it is evaluated anew. Then the list is left. The changes are what is kept
 //! of item 5 and of the list, and the entry of item 3 is taken out.
 //!
-//! Two elements that stay are evaluated anew and none comes, and there are two stops, so the budget of the walk is
-//! `9 * 2 + 6 * 0 + 2 * 2 + 2`, which is 24 steps. It takes 11: 4 for the list, which is styled, evaluated, closed
+//! Two elements that stay are evaluated anew and none comes, and there is one place, so the budget of the walk is
+//! `9 * 2 + 6 * 0 + 2 * 1 + 2`, which is 22 steps. It takes 11: 4 for the list, which is styled, evaluated, closed
 //! and put, 5 for item 5, which is read before, and 2 for the skip. The edit touches one element in the tree that
 //! goes, the list above it, and item 5, which is handed something else. Where each key weighs 1 the work is 3, and
 //! pays for `24 * (3 + 1)` steps.

@@ -1,5 +1,5 @@
 -- The work of an edit pays for both of its walks.
-use Rattle.std.proofs.Common.{◌≡◌, ◌≢◌, ◌+◌, ◌*◌, ◌≤◌, ◌&&◌, ℕ, Bool, true, false, cond, List, [], ◌∷◌, ◌++◌, length, Option, Some, None, refl, sym, ap, subst, ◌∙◌, arith}
+use Rattle.std.proofs.Common.{◌≡◌, ◌≢◌, ◌+◌, ◌*◌, ◌≤◌, ◌&&◌, ℕ, Bool, true, false, cond, List, [], ◌∷◌, ◌++◌, Option, Some, None, refl, sym, ap, subst, ◌∙◌, arith}
 use Rattle.std.specs.Prelude.{filter, flat_map, not, option_map, sum_by}
 use Rattle.std.proofs.lemmas.Bool.{or_left, or_right}
 use Rattle.std.proofs.lemmas.List.Elements.{filter-append}
@@ -17,8 +17,6 @@ use Rattle.merged_walk.specs.Counts.{anew_count, come_count, gone_count, led_cou
 use Rattle.merged_walk.specs.Evaluators.{count_of_elements, inputs, weigh_elements}
 use Rattle.merged_walk.specs.Laws.{Merges}
 use Rattle.merged_walk.specs.Merges.{Merge, End, Kept, Turned, Gone, Come, new_of, old_of}
-use Rattle.merged_walk.specs.Stops.{stops_of}
-use Rattle.merged_walk.proofs.StopLaws.{length-stops_of}
 use Rattle.surroundings.specs.declared.surroundings.Surroundings.{Surroundings}
 use Rattle.surroundings.specs.Surroundings.{is_same, surroundings_in}
 use Rattle.surroundings.specs.StyledEvaluators.{root_surroundings, styled_evaluator}
@@ -266,10 +264,10 @@ pub second_walks_are_few : SecondWalksAreFew
 second_walks_are_few edit before after leads somewhere keys turned = are-few edit before after leads somewhere keys turned
 
 -- the sum, in numbers
-pays : (anew led stops later_anew later_led later_stops come gone places placed differing around work : ℕ) → anew ≤ led + differing → stops ≡ led + places
-    → later_anew ≤ led + differing → later_led ≤ led + differing → later_stops ≡ later_led + places → (led + come + gone) ≤ placed + around → 4 * places ≤ 20 + 2 * (placed + around)
-    → (placed + differing + around) ≤ work → ((9 * anew + 6 * come + 2 * stops + 2) + (9 * later_anew + 6 * come + 2 * later_stops + 2) + gone) ≤ 24 * (work + 1)
-pays anew led stops later_anew later_led later_stops come gone places placed differing around work h1 h2 h3 h4 h5 h6 h7 h8 = omega arith
+pays : (anew led later_anew later_led come gone places placed differing around work : ℕ) → anew ≤ led + differing
+    → later_anew ≤ led + differing → later_led ≤ led + differing → (led + come + gone) ≤ placed + around → 4 * places ≤ 20 + 2 * (placed + around) → (placed + differing + around) ≤ work
+    → (((9 * anew + 6 * come + 2 * places + 2) + 2 * led) + ((9 * later_anew + 6 * come + 2 * places + 2) + 2 * later_led) + gone) ≤ 24 * (work + 1)
+pays anew led later_anew later_led come gone places placed differing around work h1 h2 h3 h4 h5 h6 = omega arith
 
 pub both_walks_are_paid : BothWalksArePaid
 both_walks_are_paid edit before after leads somewhere keys turned paid =
@@ -281,11 +279,10 @@ both_walks_are_paid edit before after leads somewhere keys turned paid =
     let shape = plain-shape edit before after leads somewhere keys turned in
     let anew : anew_count e root_surroundings root_surroundings plain ≤ led_count plain + sum_by w (differing edit before after) =
     omega (arith, plain-anew edit before after leads somewhere, few-differ edit before after leads somewhere, shape.led) in
-    let stops : length (stops_of is_styled_element 0 second) ≡ led_count second + place_count plain = omega (arith, length-stops_of is_styled_element 0 second, few.places) in
     let sum =
-    pays (anew_count e root_surroundings root_surroundings plain) (led_count plain) (length (stops_of is_styled_element 0 plain)) (anew_count e root_surroundings root_surroundings second) (led_count second)
-    (length (stops_of is_styled_element 0 second)) (come_count is_styled_element plain) (gone_count is_styled_element plain) (place_count plain) (sum_by w (placed edit before after))
+    pays (anew_count e root_surroundings root_surroundings plain) (led_count plain) (anew_count e root_surroundings root_surroundings second) (led_count second)
+    (come_count is_styled_element plain) (gone_count is_styled_element plain) (place_count plain) (sum_by w (placed edit before after))
     (sum_by w (differing edit before after)) (sum_by w (around_places edit before after)) (walk_work edit before after)
-    anew (length-stops_of is_styled_element 0 plain) few.anew few.led stops
+    anew few.anew few.led
     (omega (arith, shape.led, shape.come, shape.gone, paid.few)) (omega (arith, shape.places, paid.places)) (walk-least edit before after) in
-    omega (arith, sum, few.come)
+    omega (arith, sum, few.come, few.places)

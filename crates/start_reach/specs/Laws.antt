@@ -197,10 +197,11 @@ pub record ArePlacesPaid (edit : Edit) (before after : KeyedSource) : Type 0 whe
       4 * place_count (first_merge edit before after)
       ≤ 20 + 2 * (sum_by (weight before after) (placed edit before after) + sum_by (weight before after) (around_places edit before after))
 
--- So the work of an edit pays for both walks, and for taking out what was kept of elements that go.
+-- So the work of an edit pays for both walks and for 2 steps at each node that one of them is led into, and for taking out
+-- what was kept of elements that go.
 abbrev pub BothWalksArePaid : Type 0
 BothWalksArePaid =
     OfTurned (λ edit before after keys. ArePlacesPaid edit before after
-    → let steps : Merge StyledNode → ℕ = budget (styled_evaluator (table after)) root_surroundings root_surroundings in
+    → let steps : Merge StyledNode → ℕ = λ merge. budget (styled_evaluator (table after)) root_surroundings root_surroundings merge + 2 * led_count merge in
     (steps (plain_merge edit before after) + steps (started_merge edit before after keys) + gone_count is_styled_element (plain_merge edit before after))
     ≤ 24 * (walk_work edit before after + 1))

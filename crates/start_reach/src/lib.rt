@@ -74,7 +74,7 @@
 //! The second walk goes into 0, 1 and 2, which now has the number 1. Element 4 is handed the first heading's counter with 1, as
 //! before, so it is skipped. The work of this edit is 10: element 3 is placed, the inputs of 1, 2 and 4 differ, 1, 2, 3 and 4
 //! are in the scope of the first heading's counter, and 0 and 2 are around the place. Without the four in a scope it is 6,
-//! which pays for 168 steps: the budgets of the two walks are 24 and 35, and one element goes.
+//! which pays for 168 steps: the budgets of the two walks are 22 and 31, and one element goes.
 //! The stops are computed in `proofs/Examples.antt`.
 //!
 //! # What the layers above cite

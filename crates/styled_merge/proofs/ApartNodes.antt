@@ -15,8 +15,8 @@ use Rattle.node_arena.specs.AtPaths.{leads_into}
 use Rattle.merged_walk.specs.declared.stop.Stop.{Stop}
 use Rattle.merged_walk.specs.declared.stop.Way.TheVariants.{Inside}
 use Rattle.merged_walk.specs.Merges.{Kept, Gone, Come, all_kept, has_place, new_of, old_of}
-use Rattle.merged_walk.specs.Stops.{first_element, stops_of}
-use Rattle.merged_walk.specs.EditStops.{is_before, is_common, is_inside, joined}
+use Rattle.merged_walk.specs.Stops.{first_element, is_inside, stops_of}
+use Rattle.merged_walk.specs.EditStops.{is_before, is_common, joined}
 use Rattle.merged_walk.proofs.MergeLaws.{has_place-all_kept}
 use Rattle.merged_walk.proofs.StopLaws.{stops-all_kept}
 use Rattle.edit_merge.specs.Joining.{parted}
