@@ -110,6 +110,15 @@ impl Model for Book {
     ghost invariant = { λ book. IsBook book.arena book.agent book.styles book.board book.index book.is_unstarted book.planned (record { tree = book.arena.tree; sheet = book.styles.sheet; settled = is_none book.planned; kept = book.board.held }) };
 }
 
+/// An arena that stands for a document, whose tree is let go.
+fn arena_of(alloc: Global, document: Tree) -> Result<Arena, Memory>
+    requires element { HasElementRoot document }
+    ensures tree { IfOk result (λ arena. without_keys arena.tree ≡ document) }
+    ensures settled { IfOk result (λ arena. IsSettled arena) }
+{
+    Arena::from_tree(alloc, &document)
+}
+
 /// The styles of a document under the sheet of this text, read.
 fn first_styles(alloc: Global, arena: &Arena, sheet: &str) -> Result<DocumentStyles, Memory>
     ensures styles { IfOk result (λ styles. styles ≡ document_styles (chars sheet.now) arena.now.tree) }
@@ -156,18 +165,18 @@ impl Book {
     /// memory is wanting.
     pub fn begin<L: Ledger>(
         alloc: Global,
-        document: &Tree,
+        document: Tree,
         sheet: &str,
         steps: &mut Steps<L>,
     ) -> Result<Book, Memory>
-        requires element { HasElementRoot document.now }
-        ensures tree { IfOk result (λ book. without_keys book.tree ≡ document.now) }
+        requires element { HasElementRoot document }
+        ensures tree { IfOk result (λ book. without_keys book.tree ≡ document) }
         ensures sheet { IfOk result (λ book. book.sheet ≡ chars sheet.now) }
         ensures settled { IfOk result (λ book. book.settled ≡ true) }
         ensures keeps { IfOk result (λ book. Keeps book) }
-        ensures steps { steps.new ≤ steps.old + 7 * element_count document.now }
+        ensures steps { steps.new ≤ steps.old + 7 * element_count document }
     {
-        let arena = Arena::from_tree(alloc, document)?;
+        let arena = arena_of(alloc, document)?;
         let styles = first_styles(alloc, &arena, sheet)?;
         let agent = agent_sheet(alloc)?;
         arena_holds_document(&arena);

@@ -41,7 +41,7 @@
 //! of an id, and by `fresh_pieces` of `specs/FreshPieces.antt` the pieces of a box where one of them has a url.
 //!
 //! ```text
-//! let mut book = Book::begin(alloc, &tree, "h1 { counter-increment: section }", steps)?;
+//! let mut book = Book::begin(alloc, tree, "h1 { counter-increment: section }", steps)?;
 //! let plan = book.plan(alloc, &edit, steps)?;      // where `book.arena().allows(&edit)` was None
 //! book.commit(plan, steps);
 //! let entry = book.entry(book.arena().root(), steps);

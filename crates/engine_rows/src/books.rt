@@ -499,7 +499,7 @@ fn first_wrong<L: Ledger>(
     let Some(tree) = tree_of(alloc, row.document)? else {
         return Err(Fail::from("no document"));
     };
-    let mut book = Book::begin(alloc, &tree, row.sheet, &mut steps)?;
+    let mut book = Book::begin(alloc, tree, row.sheet, &mut steps)?;
     first_wrong_entry(alloc, &mut book, row, &mut steps)
 }
 
@@ -548,7 +548,7 @@ fn edited_book<L: Ledger>(rt: &HostRuntime, blank: Blank, row: &Row) -> Result<B
     let Some(tree) = tree_of(alloc, row.document)? else {
         return Err(Fail::from("no document"));
     };
-    let mut book = Book::begin(alloc, &tree, row.sheet, &mut steps)?;
+    let mut book = Book::begin(alloc, tree, row.sheet, &mut steps)?;
     edit_by_lines(alloc, &mut book, row.edits, &mut steps)?;
     Ok(book)
 }

@@ -79,7 +79,7 @@ impl Engine {
         ensures keeps { IfOk result (λ engine. Keeps engine) }
         ensures steps { steps.new ≤ steps.old + 7 * element_count document }
     {
-        let book = Book::begin(alloc, &document, sheet, steps)?;
+        let book = Book::begin(alloc, document, sheet, steps)?;
         Ok(Engine { book })
     }
 

@@ -13,7 +13,7 @@ fresh_board-requires-clause-styles g c = under_its_text c.in_ok-styles.styles (c
 
 pub returns-in_err-board-clause-steps : goal.returns-in_err-board-clause-steps
 returns-in_err-board-clause-steps g c =
-    let same : element_count (without_keys c.in_ok-arena.arena.tree) ≡ element_count c.args.document.now = ap element_count c.in_ok-arena.ensures.tree in
+    let same : element_count (without_keys c.in_ok-arena.arena.tree) ≡ element_count c.args.document = ap element_count c.in_ok-arena.ensures.tree in
     omega (arith, same, c.fresh_board.ensures.steps)
 
 pub invariant_of-result : goal.invariant_of-result
@@ -41,5 +41,5 @@ returns-clause-keeps g c =
 
 pub returns-clause-steps : goal.returns-clause-steps
 returns-clause-steps g c =
-    let same : element_count (without_keys c.in_ok-arena.arena.tree) ≡ element_count c.args.document.now = ap element_count c.in_ok-arena.ensures.tree in
+    let same : element_count (without_keys c.in_ok-arena.arena.tree) ≡ element_count c.args.document = ap element_count c.in_ok-arena.ensures.tree in
     omega (arith, same, c.fresh_board.ensures.steps)
