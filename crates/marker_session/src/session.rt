@@ -1,8 +1,9 @@
 //! A document that is open.
 
-ghost use Rattle.std.specs.Prelude.{◌≡◌, ◌≢◌, ◌≤◌, ◌+◌, ◌*◌, [], length, IfErr, IfOk, OnErr, OnOk};
+ghost use Rattle.std.specs.Prelude.{◌≡◌, ◌≢◌, ◌≤◌, ◌+◌, ◌*◌, [], length, map, IfErr, IfOk, IsPermutation, OnErr, OnOk};
 ghost use Rattle.std.specs.Str.{chars};
 ghost use Rattle.changed_lines.specs.Changes.{changed_lines};
+ghost use Rattle.changed_lines.specs.Listings.{shown_line};
 ghost use Rattle.dirty_walk.specs.WorkBounds.{IsWithinWork, keyed_source};
 ghost use Rattle.document_walk.specs.Elements.{element_count};
 ghost use Rattle.generated_texts.specs.Lines.{document_lines, fresh_dump};
@@ -21,6 +22,7 @@ ghost use Rattle.marker_session.specs.Machinery.{IsEditFault};
 ghost use Rattle.marker_session.specs.Sessions.{Does, all_lines, listed_after};
 
 use crate::heap_sink::HeapSink;
+use crate::laws::listed_lines_are_the_dump;
 use crate::line::only_edit;
 use crate::line_fault::LineFault;
 use crate::lines::all_lines;
@@ -200,11 +202,14 @@ impl Session {
     /// element and in its text, and memory for the lines.
     pub fn list_all<L: Ledger>(&mut self, alloc: Global, steps: &mut Steps<L>) -> Result<(), Memory>
         ensures listed { OnOk result (self.new.listed ≡ all_lines self.old.styled) }
+        ensures dump { OnOk result (IsPermutation self.new.listed (map shown_line (document_lines self.old.styled.sheet (source_of self.old.styled).tree))) }
         ensures styled { self.new.styled ≡ self.old.styled }
         ensures shown { self.new.shown ≡ self.old.shown }
         ensures failed { OnErr result (self.new ≡ self.old) }
         ensures steps { steps.new ≤ steps.old + element_count (source_of self.old.styled).tree }
     {
+        arena_holds_document(self.engine.book().arena());
+        listed_lines_are_the_dump();
         self.listed = all_lines(alloc, self.engine.book(), steps)?;
         Ok(())
     }
