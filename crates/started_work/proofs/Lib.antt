@@ -1,0 +1,4 @@
+mod HandedLemmas
+mod EnteredLemmas
+mod ToldLemmas
+pub mod LawLemmas
