@@ -1,32 +1,33 @@
 //! The work of an edit pays for what the second of its two walks finds.
 //!
-//! Where a document has reversed counters that are given no number (CSS Lists 3, 4.4), an edit is walked twice: with all starts 0,
-//! and with the starts of each document, where the elements are turned that have other ones (`start_reach`). The work of the edit
-//! pays for both walks. What the second one tells is put on the board, and the texts of elements that refer to what it touched are
-//! made again (CSS Generated Content 3, 2.6). This crate holds that the work pays for these texts as well. It has no code. Its
-//! function is a law.
+//! Where a document has reversed counters that are given no number (CSS Lists 3, 4.4), an edit is walked twice: with all starts
+//! 0, and with the starts of each document, where the elements are turned that have other ones (`start_reach`). The work of the
+//! edit pays for both walks. What the second one tells is put on the board, and the texts of elements that refer to what it
+//! touched are made again (CSS Generated Content 3, 2.6). This crate holds that the work pays for these texts as well.
+//! It has no code. Its function is a law.
 //!
 //! | In | Out |
 //! |---|---|
-//! | the merge of an edit where these elements are turned: `turned_merge edit before after (is_among keys)` | the elements that it enters, `entered_elements`, fall under points of the edit's work |
-//! | what is told of an element after the edit, each document with the starts that it has: `told_of after` | it was told before, or the element falls under such a point |
+//! | the merge of an edit where these elements are turned: `turned_merge edit before after (is_among keys)` | the elements that it enters: `entered_elements` |
+//! | what is told of the elements of both documents, each with the starts that it has: `told_of before`, `told_of after` | the elements that are told otherwise |
 //! | of what the second walk tells, that which is enough: `news` | the weight of the texts to be made again: `renewal_weight before after merge news` |
 //!
-//! A merge *enters* an element that comes, is turned or has a place under it. The work of an edit has five points: elements that are
-//! placed, that differ, that are in the scope of a counter which is touched, that are around a place, and those that refer to
-//! these. What is known, where the edit does not reach everywhere:
+//! A merge *enters* an element that comes, is turned or has a place under it. The work of an edit has five points: elements that
+//! are placed, that differ, that are in the scope of a counter which is touched, that are around a place, and those that refer
+//! to these. What is known, where the edit does not reach everywhere:
 //!
-//! * Each element that is entered falls under one of the first four points. One that is entered without the turned elements is placed
-//!   or around a place. One that is turned has other starts, so its inputs differ. And one that has a turned element under it, and
-//!   no place, is handed something else by the first walk, which goes into all that are above another start: so its inputs differ too.
+//! * Each element that is entered falls under one of the first four points. One that is entered where no element is turned is
+//!   placed or around a place. One that is turned has other starts, so its inputs differ. And one that has a turned element under
+//!   it, and no place, is handed something else by the first walk, which goes into all that are above another start: so its
+//!   inputs differ too.
 //! * So does each element that is told otherwise than before. One that is not entered has the same under it, and where its inputs
 //!   are the same it is handed the same in both documents: then the same is told of it.
-//! * So the work pays for the texts that are made again: those of the elements in the news, of those that refer to what is entered or
-//!   in the news, and of those that refer to these. What refers to a point is the fifth point.
+//! * So the work pays for the texts that are made again: those of the elements in the news, of those that refer to what is entered
+//!   or in the news, and of those that refer to these. What refers to a point is the fifth point.
 //!   [`laws::work_pays_for_second_news`]
 //!
-//! Two things are asked of the elements that are turned (`AreTurned` of `start_reach`): each of them has another start and other inputs,
-//! and each element that is not turned has the starts that it had.
+//! Of the elements that are turned it is asked that each has another start and other inputs, and that each element which is not
+//! turned has the starts that it had (`AreTurned` of `start_reach`).
 //!
 //! # An example
 //!
@@ -59,9 +60,9 @@
 //! | 4 | no | as before: it is handed the first heading's counter with 1, as it was | |
 //! | 5 | no | as before | |
 //!
-//! The news are what is told of 0, 1 and 2. Element 5 is told as before, and refers to 2: its text is made again, and shows 1. It is
-//! under the point of references. It weighs 3, since it holds a reference before the edit and after it; the others weigh 1: so the
-//! weight of the texts that are made again is 6. The work is 13: 10 as in `start_reach`, and 3 for the element that refers.
+//! The news are what is told of 0, 1 and 2. Element 5 is told as before, and refers to 2: its text is made again, and shows 1. It
+//! is under the point of references. It weighs 3, since it holds a reference before the edit and after it; the others weigh 1: so
+//! the weight of the texts that are made again is 6. The work is 13: 10 as in `start_reach`, and 3 for the element that refers.
 //!
 //! # What the layers above cite
 //!
