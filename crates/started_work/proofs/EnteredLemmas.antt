@@ -1,10 +1,9 @@
 -- What a merge with turned elements enters: what it enters without them, and elements that differ. Throughout, i is what a level is
 -- handed, j what it was handed, n a node, c what is under it, r what is after it, g trees, m a merge, and k a key.
-use Rattle.std.proofs.Common.{◌≡◌, ◌==◌, ◌<◌, ◌||◌, ◌&&◌, ◌⊎◌, ◌++◌, ◌∙◌, ℕ, Bool, true, false, cond, List, [], ◌∷◌, Option, Some, None, refl, sym, ap, subst, inl, inr, arith, eq-eqb, eqb-true}
+use Rattle.std.proofs.Common.{◌≡◌, ◌==◌, ◌<◌, ◌||◌, ◌&&◌, ◌⊎◌, ◌++◌, ◌∙◌, ℕ, Bool, true, false, cond, List, [], ◌∷◌, Option, Some, refl, sym, ap, subst, inl, inr, arith, eq-eqb, eqb-true}
 use Rattle.std.specs.Prelude.{is_some, not}
 use Rattle.std.specs.Option.{option_eq}
 use Rattle.std.proofs.lemmas.Bool.{and_parts, cases_Bool, or_cases, or_from, or_parts, true≢false}
-use Rattle.std.proofs.lemmas.List.Elements.{All-head}
 use Rattle.forest.specs.Forest.{Forest, Empty, Tree}
 use Rattle.forest.specs.Keys.{Keyed, times}
 use Rattle.plain_types.specs.declared.counter_style.CounterStyle.{CounterStyle}
@@ -18,7 +17,6 @@ use Rattle.surroundings.specs.declared.surroundings.Surroundings.{Surroundings}
 use Rattle.surroundings.specs.declared.told.Told.{Told}
 use Rattle.surroundings.specs.MergedLevels.{HasLeaves}
 use Rattle.surroundings.specs.StyledEvaluators.{inside_node, past_styled, styled_evaluator}
-use Rattle.surroundings.specs.StyledEvaluators.{is_element as is_styled_element}
 use Rattle.surroundings.specs.Surroundings.{is_same}
 use Rattle.surroundings.proofs.Asking.{past-some}
 use Rattle.edit_merge.specs.EditMerges.{is_element}
@@ -31,7 +29,7 @@ use Rattle.start_reach.specs.CounterChanges.{OfEachSkipped, is_entered}
 use Rattle.start_reach.specs.TurnedElements.{turned_where}
 use Rattle.start_reach.proofs.TurnedLaws.{at_node}
 use Rattle.kept_elements.proofs.KeptTold.{left_among, right_among}
-use Rattle.started_work.proofs.HandedLemmas.{Entry, Has, either-part, kept-some, styled-element}
+use Rattle.started_work.proofs.HandedLemmas.{Entry, Has, either-part, handed-other, kept-some, styled-element}
 
 -- Styles change no key.
 module _ (k : ℕ) where
@@ -146,17 +144,6 @@ module _ (differs : ℕ → Bool) (p : ℕ → Bool) (table : List CounterStyle)
   abbrev inner : Option Style → Keyed Node → Option Style
   inner parent n = style_within old was_start parent n.key n.label
 
-  -- an element that is handed two things has both under its key, so it differs where these are not the same
-  own-entry : (held : ℕ → Option Surroundings) (n : Keyed StyledNode) (a : Surroundings) → is_styled_element n.label ≡ true → Has held (input e n (Some a)) → held n.key ≡ Some a
-  own-entry held n a is h = All-head (Entry held) (n.key, Some a) [] (subst (λ b. Has held (cond b ((n.key, Some a) ∷ []) [])) is h) a refl
-
-  handed-other : (n : Keyed StyledNode) (i j : Option Surroundings) → is_styled_element n.label ≡ true → is_some i ≡ is_some j → Has now (input e n i) → Has before (input e n j)
-      → option_eq is_same i j ≡ false → differs n.key ≡ true
-  handed-other n None None element some hi hj apart = absurd (cc apart)
-  handed-other n None (Some b) element some hi hj apart = absurd (cc some)
-  handed-other n (Some a) None element some hi hj apart = absurd (cc some)
-  handed-other n (Some a) (Some b) element some hi hj apart = other n.key a b (own-entry now n a element hi) (own-entry before n b element hj) apart
-
   -- only elements have something under them
   above-element : (n : Keyed Node) (c : Merge Node) → (is_element n.label ≡ false → c ≡ End) → has_place (turned_where is_element p c) ≡ true → is_element n.label ≡ true
   above-element n c text there = elim (cases_Bool (is_element n.label)) [
@@ -176,7 +163,7 @@ module _ (differs : ℕ → Bool) (p : ℕ → Bool) (table : List CounterStyle)
         let passed : is_entered i j (styled_of (inner parent n) c) ≡ false = or_from (has_place (styled_of (inner parent n) c)) (not (option_eq is_same i j)) place (ap not same) in
         let counted : 0 < times one.0 (new_of (styled_of (inner parent n) c)) = omega (arith, times-new one.0 old new was_start start c (inner parent n), one.2) in
         absurd (never one.0 one.1 (skipped passed one.0 counted))
-    | inr apart ↦ handed-other (styled_by old was_start parent n) i j (styled-element old was_start parent n.key n.label ∙ element) some hi hj apart
+    | inr apart ↦ handed-other differs table now before other (styled_by old was_start parent n) i j (styled-element old was_start parent n.key n.label ∙ element) some hi hj apart
   ]
 
   pub entered-turned : (m : Merge Node) (parent : Option Style) (i j : Option Surroundings) → IsUnturned m → HasLeaves is_element m → is_some i ≡ is_some j

@@ -1,7 +1,8 @@
 -- What elements are handed before an edit and after it, as their inputs tell. Throughout, i is what a level is handed, j what it
 -- was handed, n a node, p the style of its parent, and k a key.
-use Rattle.std.proofs.Common.{◌≡◌, ◌&&◌, ◌==◌, ◌⊎◌, ◌++◌, ◌∙◌, ℕ, Bool, true, false, List, [], ◌∷◌, Option, Some, None, refl, sym, ap, subst, inl, inr, eqb-true}
+use Rattle.std.proofs.Common.{◌≡◌, ◌&&◌, ◌==◌, ◌⊎◌, ◌++◌, ◌∙◌, ℕ, Bool, true, false, List, [], ◌∷◌, Option, Some, None, refl, sym, ap, subst, inl, inr, eqb-true, cond}
 use Rattle.std.specs.Prelude.{All, is_some, not, option_map}
+use Rattle.std.specs.Option.{option_eq}
 use Rattle.std.proofs.lemmas.Bool.{cases_Bool, or_cases, or_parts, true≢false}
 use Rattle.std.proofs.lemmas.List.Elements.{All-head, All-tail}
 use Rattle.std.proofs.lemmas.List.Folds.{list_any-append}
@@ -14,8 +15,9 @@ use Rattle.plain_types.specs.declared.style.Style.{Style}
 use Rattle.box_eval.specs.Boxes.{generates_box}
 use Rattle.box_eval.specs.declared.inputs.Inputs.{Inputs}
 use Rattle.box_eval.specs.Evaluation.{StyledNode, is_boxed, styled_node}
+use Rattle.merged_walk.specs.Evaluators.{input}
 use Rattle.surroundings.specs.declared.surroundings.Surroundings.{Surroundings}
-use Rattle.surroundings.specs.StyledEvaluators.{inside_node}
+use Rattle.surroundings.specs.StyledEvaluators.{inside_node, styled_evaluator}
 use Rattle.surroundings.specs.StyledEvaluators.{is_element as is_styled_element}
 use Rattle.surroundings.specs.Surroundings.{is_same, surroundings_in}
 use Rattle.surroundings.proofs.Asking.{inside-some}
@@ -97,3 +99,16 @@ module _ (table : List CounterStyle) where
 pub styled-element : (style : Styling) (given : Starting) (p : Option Style) (k : ℕ) (l : Node) → is_styled_element (styled_node style given p k l) ≡ is_element l
 styled-element style given p k (node.Element name attrs) = refl
 styled-element style given p k (node.Text characters) = refl
+
+module _ (differs : ℕ → Bool) (table : List CounterStyle) (now before : ℕ → Option Surroundings)
+    (other : (k : ℕ) (a b : Surroundings) → now k ≡ Some a → before k ≡ Some b → is_same a b ≡ false → differs k ≡ true) where
+  -- an element that is handed two things has both under its key, so it differs where these are not the same
+  own-entry : (held : ℕ → Option Surroundings) (n : Keyed StyledNode) (a : Surroundings) → is_styled_element n.label ≡ true → Has held (input (styled_evaluator table) n (Some a)) → held n.key ≡ Some a
+  own-entry held n a is h = All-head (Entry held) (n.key, Some a) [] (subst (λ b. Has held (cond b ((n.key, Some a) ∷ []) [])) is h) a refl
+
+  pub handed-other : (n : Keyed StyledNode) (i j : Option Surroundings) → is_styled_element n.label ≡ true → is_some i ≡ is_some j → Has now (input (styled_evaluator table) n i) → Has before (input (styled_evaluator table) n j)
+      → option_eq is_same i j ≡ false → differs n.key ≡ true
+  handed-other n None None element some hi hj apart = absurd (cc apart)
+  handed-other n None (Some b) element some hi hj apart = absurd (cc some)
+  handed-other n (Some a) None element some hi hj apart = absurd (cc some)
+  handed-other n (Some a) (Some b) element some hi hj apart = other n.key a b (own-entry now n a element hi) (own-entry before n b element hj) apart

@@ -1,6 +1,6 @@
 -- The laws, from their lemmas.
-use Rattle.std.proofs.Common.{◌≡◌, ◌≢◌, ◌==◌, ◌≤◌, ◌||◌, ◌++◌, ◌∙◌, ◌⊎◌, ℕ, true, false, List, [], ◌∷◌, Option, Some, None, refl, sym, ap, subst, inl, inr}
-use Rattle.std.specs.Prelude.{All, Contains, filter, flat_map, option_map}
+use Rattle.std.proofs.Common.{◌≡◌, ◌≢◌, ◌==◌, ◌≤◌, ◌||◌, ◌++◌, ◌∙◌, ◌⊎◌, ℕ, true, false, List, [], ◌∷◌, Option, Some, None, refl, sym, ap, subst, inl, inr, ◌+◌, ◌*◌, arith}
+use Rattle.std.specs.Prelude.{All, Contains, filter, flat_map, option_map, sum_by}
 use Rattle.std.proofs.lemmas.Bool.{cases_Bool, or_cases, or_left, or_right}
 use Rattle.std.proofs.lemmas.List.Elements.{All-contains, All-contains_itself, All-weaker}
 use Rattle.forest.specs.Forest.{Forest}
@@ -13,35 +13,41 @@ use Rattle.box_eval.specs.Evaluation.{StyledNode}
 use Rattle.box_eval.specs.Starts.{no_starts}
 use Rattle.generated_texts.specs.Documents.{agent_sheet, counter_styles, document_style}
 use Rattle.generated_texts.specs.References.{kept_at}
+use Rattle.merged_walk.specs.Counts.{anew_count, come_count, gone_count, led_count, place_count}
 use Rattle.merged_walk.specs.Entries.{Holds}
 use Rattle.merged_walk.specs.Evaluators.{inputs, told_all}
 use Rattle.merged_walk.specs.Laws.{Merges}
 use Rattle.merged_walk.specs.Merges.{Merge, new_of, old_of}
+use Rattle.merged_walk.proofs.CountLaws.{anew-within}
 use Rattle.surroundings.specs.declared.surroundings.Surroundings.{Surroundings}
 use Rattle.surroundings.specs.declared.told.Told.{Told}
 use Rattle.surroundings.specs.Surroundings.{is_same, surroundings_in}
 use Rattle.surroundings.specs.StyledEvaluators.{root_surroundings, styled_evaluator}
+use Rattle.surroundings.specs.StyledEvaluators.{is_element as is_styled_element}
 use Rattle.surroundings.proofs.InputLaws.{inputs-document}
 use Rattle.document_walk.proofs.StyledKeys.{styled_distinct}
 use Rattle.style_reach.specs.Reaches.{all_features}
 use Rattle.style_reach.specs.declared.extent.Reach.TheVariants.{All as Everywhere}
 use Rattle.styled_merge.specs.Stays.{HasSameBoxStarts, IsUnturned}
 use Rattle.styled_merge.specs.StyledMerges.{Starting, Styling}
+use Rattle.styled_merge.specs.Laws.{HasShape}
 use Rattle.styled_merge.proofs.KeptLaws.{new-whole, unturned-whole}
+use Rattle.styled_merge.proofs.ShapeLaws.{has-shape}
 use Rattle.styled_merge.proofs.StopLemmas.{reaches_are_walkable}
 use Rattle.edit_work.specs.Inputs.{differ_at, differs, inputs_at}
-use Rattle.edit_work.specs.KeyedSources.{KeyedSource, author, child_elements, either, elements_in, inputs_with, is_among, own_starts, styled_with, table}
+use Rattle.edit_work.specs.KeyedSources.{KeyedSource, author, child_elements, either, elements_in, inputs_with, is_among, own_starts, styled_with, table, weight}
 use Rattle.edit_work.specs.Laws.{Leads}
-use Rattle.edit_work.specs.Work.{around_places, differing, edit_reach, in_scopes, placed, work}
-use Rattle.edit_work.proofs.LawLemmas.{has-its}
+use Rattle.edit_work.specs.Work.{around_places, differing, edit_reach, in_scopes, placed, walk_work, work}
+use Rattle.edit_work.proofs.LawLemmas.{has-its, heavy}
 use Rattle.reference_reach.specs.ChangedTargets.{Evaluated}
 use Rattle.reference_reach.specs.Laws.{evaluated, other_points}
 use Rattle.reference_reach.specs.MergedNodes.{entered_elements}
 use Rattle.reference_reach.specs.ToldLaws.{HasChangesInPoints, keys_of, told_of}
 use Rattle.reference_reach.proofs.LawLemmas.{entered_are_placed}
-use Rattle.start_reach.specs.Laws.{AreTurned, plain_merge, started_merge}
+use Rattle.start_reach.specs.Laws.{ArePlacesPaid, AreTurned, plain_merge, started_merge}
 use Rattle.start_reach.specs.SecondMerges.{first_merge, turned_merge}
 use Rattle.start_reach.proofs.LawLemmas.{author-stays, edits, edits_keep_starts, merges, plain-merges, same-styles, second_merges_are_started}
+use Rattle.start_reach.proofs.WorkLemmas.{second_walks_are_few}
 use Rattle.kept_elements.specs.RenewalSteps.{renewal_weight}
 use Rattle.kept_elements.specs.Renewals.{evaluated_as}
 use Rattle.kept_elements.proofs.ChangeLemmas.{some-kept, some_of}
@@ -52,9 +58,10 @@ use Rattle.kept_elements.proofs.RenewalLemmas.{kept_there, once_there}
 use Rattle.kept_elements.proofs.RenewedLemmas.{caught_there}
 use Rattle.kept_elements.proofs.StepLemmas.{keys_told}
 use Rattle.kept_elements.proofs.ToldLemmas.{said_is, told_once}
-use Rattle.started_work.specs.Laws.{StartedChangesAreTold, StartedNewsArePaid, TurnedEnterPoints}
+use Rattle.started_work.specs.Laws.{StartedChangesAreTold, StartedEditsArePaid, StartedNewsArePaid, TurnedEnterPoints, walk_cost}
 use Rattle.started_work.proofs.EnteredLemmas.{OtherIn, entered-turned}
 use Rattle.started_work.proofs.HandedLemmas.{Has, either-part, listed, other-handed, same-handed}
+use Rattle.started_work.proofs.SumLemmas.{differing-few, others, others-few, pays, walk-least, walk-within}
 use Rattle.started_work.proofs.ToldLemmas.{all-held, steady-turned, told-listed}
 
 -- Points of an edit's work.
@@ -147,6 +154,27 @@ module _ (edit : Edit) (before after : KeyedSource) (leads : Leads edit before a
   plain : Merges (plain_merge edit before after) (styled_with before no_starts) (styled_with after no_starts)
   plain = plain-merges edit before after leads
 
+  -- The first walk goes into no more elements than are led to and differ.
+  shape : HasShape (plain_merge edit before after) first
+  shape = has-shape old new no_starts no_starts None first
+
+  first-anew :
+      anew_count (styled_evaluator (table after)) root_surroundings root_surroundings (plain_merge edit before after)
+      ≤ led_count (plain_merge edit before after) + sum_by (weight before after) (differing edit before after)
+  first-anew =
+      let w = weight before after in
+      let e = styled_evaluator (table after) in
+      let here : others w (heavy before after) (differs before after) (new_of first) ≡ others w (heavy before after) (differs before after) after.tree =
+      ap (others w (heavy before after) (differs before after)) new-first in
+      omega (
+        arith,
+        anew-within e (plain_merge edit before after) root_surroundings root_surroundings,
+        others-few w (heavy before after) (differs before after) (table after) old new no_starts no_starts (handed after no_starts) (handed before no_starts) plain-other first None root_surroundings
+            root_surroundings unturned refl (has-now no_starts (new_of (plain_merge edit before after)) plain.new) (has-before no_starts (old_of (plain_merge edit before after)) plain.old),
+        here,
+        differing-few edit before after,
+      )
+
   module _ (keys : List ℕ) (turned : AreTurned edit before after keys) where
     abbrev whole : Merge Node
     whole = turned_merge edit before after (is_among keys)
@@ -209,6 +237,25 @@ module _ (edit : Edit) (before after : KeyedSource) (leads : Leads edit before a
       ]
     ]
 
+    -- what both walks cost, and what is made again
+    pub edits-paid : (paid : ArePlacesPaid edit before after) (renewal total : ℕ) → renewal ≤ work edit before after
+        → total
+        ≤ walk_cost (table after) (plain_merge edit before after)
+        + walk_cost (table after) second
+        + 3 * gone_count is_styled_element (plain_merge edit before after)
+        + 4 * renewal
+        → total ≤ 24 * (work edit before after + 1)
+    edits-paid paid renewal total least within =
+        let w = weight before after in
+        let e = styled_evaluator (table after) in
+        let merge = plain_merge edit before after in
+        let few = second_walks_are_few edit before after leads somewhere keys turned in
+        pays (anew_count e root_surroundings root_surroundings merge) (led_count merge) (anew_count e root_surroundings root_surroundings second) (come_count is_styled_element merge)
+        (gone_count is_styled_element merge) (place_count merge) (sum_by w (placed edit before after)) (sum_by w (differing edit before after)) (sum_by w (around_places edit before after))
+        (walk_work edit before after) (work edit before after) renewal (walk_cost (table after) merge) (walk_cost (table after) second) total
+        first-anew few.anew (omega (arith, shape.led, shape.come, shape.gone, paid.few)) (omega (arith, shape.places, paid.places)) (walk-least edit before after) (walk-within edit before after) least
+        (omega arith) (omega (arith, few.come, few.places)) within
+
 pub turned_enter_points : TurnedEnterPoints
 turned_enter_points edit before after leads somewhere keys turned = entered-points edit before after leads somewhere keys turned
 
@@ -236,3 +283,6 @@ started_news_are_paid edit before after leads somewhere keys turned styles news 
     ]) in
     subst (λ (was : Evaluated). renewal_weight was (evaluated_as after.tree (told_of after)) merge news ≤ work edit before after) (told-so before tells.tells.distinct_before)
     (subst (λ (is : Evaluated). renewal_weight (evaluated before) is merge news ≤ work edit before after) (told-so after tells.tells.distinct_after) paid)
+
+pub started_edits_are_paid : StartedEditsArePaid
+started_edits_are_paid edit before after leads somewhere keys turned paid renewal total least within = edits-paid edit before after leads somewhere keys turned paid renewal total least within

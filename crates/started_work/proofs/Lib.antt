@@ -1,4 +1,5 @@
 mod HandedLemmas
 mod EnteredLemmas
 mod ToldLemmas
+mod SumLemmas
 pub mod LawLemmas

@@ -3,14 +3,15 @@
 //! Where a document has reversed counters that are given no number (CSS Lists 3, 4.4), an edit is walked twice: with all starts
 //! 0, and with the starts of each document, where the elements are turned that have other ones (`start_reach`). The work of the
 //! edit pays for both walks. What the second one tells is put on the board, and the texts of elements that refer to what it
-//! touched are made again (CSS Generated Content 3, 2.6). This crate holds that the work pays for these texts as well.
-//! It has no code. Its function is a law.
+//! touched are made again (CSS Generated Content 3, 2.6). This crate holds that the work pays for these texts as well, and for all
+//! of it together. It has no code. Its functions are laws.
 //!
 //! | In | Out |
 //! |---|---|
 //! | the merge of an edit where these elements are turned: `turned_merge edit before after (is_among keys)` | the elements that it enters: `entered_elements` |
 //! | what is told of the elements of both documents, each with the starts that it has: `told_of before`, `told_of after` | the elements that are told otherwise |
 //! | of what the second walk tells, that which is enough: `news` | the weight of the texts to be made again: `renewal_weight before after merge news` |
+//! | the merges of both walks | what they cost together: `walk_cost table merge` |
 //!
 //! A merge *enters* an element that comes, is turned or has a place under it. The work of an edit has five points: elements that
 //! are placed, that differ, that are in the scope of a counter which is touched, that are around a place, and those that refer
@@ -25,6 +26,9 @@
 //! * So the work pays for the texts that are made again: those of the elements in the news, of those that refer to what is entered
 //!   or in the news, and of those that refer to these. What refers to a point is the fifth point.
 //!   [`laws::work_pays_for_second_news`]
+//! * It pays for all of it together, where it pays for the places and what is above them (`ArePlacesPaid` of `start_reach`): both
+//!   walks, 3 steps for each element that goes, and 4 for each unit of weight of those texts: one for the news, one for what is
+//!   read of references, one for the texts, and one where they are put. [`laws::work_pays_for_started_edits`]
 //!
 //! Of the elements that are turned it is asked that each has another start and other inputs, and that each element which is not
 //! turned has the starts that it had (`AreTurned` of `start_reach`).
@@ -63,11 +67,12 @@
 //! The news are what is told of 0, 1 and 2. Element 5 is told as before, and refers to 2: its text is made again, and shows 1. It
 //! is under the point of references. It weighs 3, since it holds a reference before the edit and after it; the others weigh 1: so
 //! the weight of the texts that are made again is 6. The work is 13: 10 as in `start_reach`, and 3 for the element that refers.
+//! The walks cost 22 and 31, one element goes, and 4 times 6 is 24: that is 80, and the work pays for 336.
 //!
 //! # What the layers above cite
 //!
-//! `TurnedEnterPoints`, `StartedChangesAreTold` and `StartedNewsArePaid` (`specs/Laws.antt`), by the lemmas of
-//! `proofs/LawLemmas.antt`.
+//! `walk_cost`, and the laws `TurnedEnterPoints`, `StartedChangesAreTold`, `StartedNewsArePaid` and `StartedEditsArePaid`
+//! (`specs/Laws.antt`), by the lemmas of `proofs/LawLemmas.antt`.
 #![tactic(auto)]
 
 pub mod laws;
