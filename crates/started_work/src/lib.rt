@@ -27,8 +27,8 @@
 //!   or in the news, and of those that refer to these. What refers to a point is the fifth point.
 //!   [`laws::work_pays_for_second_news`]
 //! * It pays for all of it together, where it pays for the places and what is above them (`ArePlacesPaid` of `start_reach`): both
-//!   walks, 3 steps for each element that goes, and 4 for each unit of weight of those texts: one for the news, one for what is
-//!   read of references, one for the texts, and one where they are put. [`laws::work_pays_for_started_edits`]
+//!   walks, 3 steps for each element that goes, and 4 for each unit of weight of those texts.
+//!   [`laws::work_pays_for_started_edits`]
 //!
 //! Of the elements that are turned it is asked that each has another start and other inputs, and that each element which is not
 //! turned has the starts that it had (`AreTurned` of `start_reach`).
