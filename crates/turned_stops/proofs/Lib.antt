@@ -1,0 +1,6 @@
+mod WayLemmas
+mod StopLemmas
+mod ElementCounts
+mod ComingLemmas
+mod StayLemmas
+pub mod LawLemmas
