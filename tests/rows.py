@@ -5,9 +5,9 @@ import re
 import subprocess
 from collections import namedtuple
 
-# A run of the program in a folder in which these files are, beside examples/: its words, and the status, the standard
-# output and the standard error that are wanted.
-Case = namedtuple("Case", "name words status output line files", defaults=(0, "", "", {}))
+# A run of the program in a folder in which these files are, beside examples/: its words, the status, the standard
+# output and the standard error that are wanted, and the most seconds that it may take over the proved program, if there is a most.
+Case = namedtuple("Case", "name words status output line files seconds", defaults=(0, "", "", {}, None))
 
 USAGE = "marker: usage: dump DOC SHEET | edit DOC SHEET SCRIPT | table SHEET STYLE FROM TO | gen SEED COUNT | history DOC SHEET SCRIPT DEPTH | text DOC SHEET | why DOC SHEET PATH | bake DOC SHEET | book SHEET SCRIPT DOC...\n"
 LIST = '/0 marker "1. "\n/1 marker "2. "\n'
@@ -227,6 +227,12 @@ def items():
     return one_file("16 MiB of one list", "flat.xhtml", "<ol>" + "<li>a</li>" * count + "</ol>", output="".join(lines))
 
 
+def made_up(name, count, elements, boxes, accepted, lines):
+    """A long run that is made up. What it counts was counted by another program, over one evaluation after the last edit."""
+    output = f"elements {elements}\nboxes {boxes}\naccepted {accepted}\nrefused {count - accepted}\nlines {lines}\n"
+    return Case(name, ["gen", "1", f"{count}"], output=output, seconds=60)
+
+
 def too_long(file, text):
     return one_file(f"{file} is too long", file, text, 4, line=f"marker: {file}: larger than 16777216 bytes\n")
 
@@ -236,6 +242,9 @@ LARGE = (
     lambda: Case("an empty name of a document", ["book", "empty.css", "show.txt", "a", ""], 2, "", USAGE),
     nested,
     items,
+    lambda: made_up("10,000 edits", 10_000, 9_333, 19_989, 8_318, 10_656),
+    lambda: made_up("10,000 edits once more", 10_000, 9_333, 19_989, 8_318, 10_656),
+    lambda: made_up("20,000 edits", 20_000, 18_542, 39_616, 16_586, 21_074),
     lambda: too_long("long.xhtml", "<p>" + "a" * (16_777_217 - 7) + "</p>"),
     lambda: too_long("long.css", " " * 16_777_217),
     lambda: one_file("a sheet that is not too long", "full.css", " " * 16_777_216, output=LIST),
