@@ -30,10 +30,14 @@ COUNTERS = (
 REFERENCES = 'a::after{content:"("target-counter(attr(href),s)") "target-text(attr(href))}'
 
 
-def sections(count, link):
+ITEMS = "<li/>" * 3
+NESTED_ITEMS = "<li><ol><li/></ol></li>"
+
+
+def sections(count, link, items):
     """A document of so many sections of eight elements; `link` gives the link of the k-th of them."""
     whole = "".join(
-        f'<section id="s{k}"><h2>{k}</h2><ol><li/><li/><li/></ol><p>{link(k, count)}</p></section>' for k in range(count)
+        f'<section id="s{k}"><h2>{k}</h2><ol>{items}</ol><p>{link(k, count)}</p></section>' for k in range(count)
     )
     return f"<body><style/>{whole}</body>"
 
@@ -50,9 +54,19 @@ def nothing(k, count):
     return "<a/>"
 
 
+def holder(k, count):
+    """A link to the id that it has itself, as all others have."""
+    return '<a href="#all" id="all"/>'
+
+
 def items(place):
     """An item comes and goes, in sections all over the document."""
     return f"insert /{place}/1 1 <li/>", f"remove /{place}/1/1"
+
+
+def inner_items(place):
+    """An item of the list in a list."""
+    return f"insert /{place}/1/0/0 1 <li/>", f"remove /{place}/1/0/0/1"
 
 
 def values(place):
@@ -60,6 +74,7 @@ def values(place):
 
 
 def hidden(place):
+    """A list comes under `display: none`, and comes back."""
     return f"set /{place}/1 class hidden", f"unset /{place}/1 class"
 
 
@@ -77,26 +92,51 @@ def ids(place):
     return f"set /{place}/0 id s{place}", f"unset /{place}/0 id"
 
 
+def holders(place):
+    """A paragraph that has that id too comes behind the link, and goes: it is never the first that has it."""
+    return f'insert /{place} 3 <p id="all"/>', f"remove /{place}/3"
+
+
+def first_holders(place):
+    """The element before all sections gets that id, and loses it: so all references lead elsewhere."""
+    return "set /0 id all", "unset /0 id"
+
+
 def styles(place):
     return "insert /0 0 p{color:red}", "remove /0/0"
+
+
+def counting_styles(place):
+    """A rule that numbers something comes and goes."""
+    return "insert /0 0 p{counter-increment:s}", "remove /0/0"
 
 
 SIBLINGS = 'li+li::after{content:"."}li:nth-child(2n)::after{content:"!"}'
 EMPTY = 'ol:empty::after{content:"none"}'
 REVERSED = "ol{counter-reset:reversed(i)}"
+HIDDEN = ".hidden{display:none}"
+# What is edited, the sheet, what each section refers to, the edits, and the items of each list.
 KINDS = (
-    ("an item", COUNTERS, nothing, items),
-    ("an item, and selectors of siblings and positions", COUNTERS + SIBLINGS, nothing, items),
-    ("an item, and a selector of emptiness", COUNTERS + EMPTY, nothing, items),
-    ("a list comes under display: none", COUNTERS + ".hidden{display:none}", nothing, hidden),
-    ("an attribute that nothing asks for", COUNTERS, nothing, titles),
-    ("an item, each section with a reference", COUNTERS + REFERENCES, own, items),
-    ("an attribute, each section with a reference to one element", COUNTERS + REFERENCES, shared, values),
-    ("a paragraph with a reference", COUNTERS + REFERENCES, own, paragraphs),
-    ("an id that names another element then", COUNTERS + REFERENCES, own, ids),
-    ("the target of all references", COUNTERS + REFERENCES, shared, lambda place: titles(1)),
-    ("an item of lists that count down", COUNTERS + REVERSED, nothing, items),
-    ("a rule in a style element", COUNTERS, nothing, styles),
+    ("an item", COUNTERS, nothing, items, ITEMS),
+    ("an item, and selectors of siblings and positions", COUNTERS + SIBLINGS, nothing, items, ITEMS),
+    ("an item, and a selector of emptiness", COUNTERS + EMPTY, nothing, items, ITEMS),
+    ("an item, and selectors of siblings and of emptiness", COUNTERS + SIBLINGS + EMPTY, nothing, items, ITEMS),
+    ("an attribute, and selectors of siblings and positions", COUNTERS + SIBLINGS, nothing, values, ITEMS),
+    ("a list comes under display: none", COUNTERS + HIDDEN, nothing, hidden, ITEMS),
+    ("an attribute that nothing asks for", COUNTERS, nothing, titles, ITEMS),
+    ("an item, each section with a reference", COUNTERS + REFERENCES, own, items, ITEMS),
+    ("an attribute, each section with a reference to one element", COUNTERS + REFERENCES, shared, values, ITEMS),
+    ("a paragraph with a reference", COUNTERS + REFERENCES, own, paragraphs, ITEMS),
+    ("an id that names another element then", COUNTERS + REFERENCES, own, ids, ITEMS),
+    ("an item, where all sections have one id and refer to it", COUNTERS + REFERENCES, holder, items, ITEMS),
+    ("one more that has that id", COUNTERS + REFERENCES, holder, holders, ITEMS),
+    ("one more that has that id, before all others", COUNTERS + REFERENCES, holder, first_holders, ITEMS),
+    ("the target of all references", COUNTERS + REFERENCES, shared, lambda place: titles(1), ITEMS),
+    ("an item of lists that count down", COUNTERS + REVERSED, nothing, items, ITEMS),
+    ("an item of lists that count down, in lists that do", COUNTERS + REVERSED, nothing, inner_items, NESTED_ITEMS),
+    ("a list that counts down comes under display: none", COUNTERS + REVERSED + HIDDEN, nothing, hidden, ITEMS),
+    ("a rule in a style element", COUNTERS, nothing, styles, ITEMS),
+    ("a rule in a style element that changes numbers", COUNTERS, nothing, counting_styles, ITEMS),
 )
 
 
@@ -109,8 +149,8 @@ def an_edit(count, edits):
     """The mean time of an edit, of as many as take some tenths of a second."""
     all_edits = 20
     while True:
-        # The first child of the body is its style element, so that sections begin at 1.
-        lines = [line for k in range(all_edits // 2) for line in edits(1 + k * 7919 % count)]
+        # The first child of the body is its style element, and the section after that is the one to which all links may lead.
+        lines = [line for k in range(all_edits // 2) for line in edits(2 + k * 7919 % (count - 1))]
         put("edits.txt", "\n".join([*lines, "show"]) + "\n")
         words = (program, "edit", "document.xhtml", "sheet.css")
         taken = seconds(*words, "edits.txt") - seconds(*words, "none.txt")
@@ -120,11 +160,11 @@ def an_edit(count, edits):
 
 
 put("none.txt", "show\n")
-for kind, sheet, link, edits in KINDS:
+for kind, sheet, link, edits, list_items in KINDS:
     before = None
     for size in sizes:
         count = max(2, size // 8)
-        put("document.xhtml", sections(count, link))
+        put("document.xhtml", sections(count, link, list_items))
         put("sheet.css", sheet)
         taken = an_edit(count, edits)
         line = f"{kind}, {size} elements: {taken * 1e6:.0f} µs an edit"
