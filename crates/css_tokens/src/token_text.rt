@@ -32,6 +32,7 @@ impl TokenText {
         })
     }
 
+    /// The text that the pointer leads to.
     pub fn as_text(&self) -> &Text
         ensures characters { result.now ≡ self.now }
     {
