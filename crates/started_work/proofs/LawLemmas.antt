@@ -58,7 +58,7 @@ use Rattle.kept_elements.proofs.RenewalLemmas.{kept_there, once_there}
 use Rattle.kept_elements.proofs.RenewedLemmas.{caught_there}
 use Rattle.kept_elements.proofs.StepLemmas.{keys_told}
 use Rattle.kept_elements.proofs.ToldLemmas.{said_is, told_once}
-use Rattle.started_work.specs.Laws.{StartedChangesAreTold, StartedEditsArePaid, StartedNewsArePaid, TurnedEnterPoints, walk_cost}
+use Rattle.started_work.specs.Laws.{StartedChangesAreTold, StartedEditsArePaid, StartedNewsArePaid, TurnedEnterPoints, walk_budget}
 use Rattle.started_work.proofs.EnteredLemmas.{OtherIn, entered-turned}
 use Rattle.started_work.proofs.HandedLemmas.{Has, either-part, listed, other-handed, same-handed}
 use Rattle.started_work.proofs.SumLemmas.{differing-few, others, others-few, pays, walk-least, walk-within}
@@ -237,24 +237,23 @@ module _ (edit : Edit) (before after : KeyedSource) (leads : Leads edit before a
       ]
     ]
 
-    -- what both walks cost, and what is made again
-    pub edits-paid : (paid : ArePlacesPaid edit before after) (renewal total : ℕ) → renewal ≤ work edit before after
-        → total
-        ≤ walk_cost (table after) (plain_merge edit before after)
-        + walk_cost (table after) second
+    -- both walks, what goes, and what is made again
+    pub edits-paid : (paid : ArePlacesPaid edit before after)
+        → (walk_budget (table after) (plain_merge edit before after)
+        + walk_budget (table after) second
         + 3 * gone_count is_styled_element (plain_merge edit before after)
-        + 4 * renewal
-        → total ≤ 24 * (work edit before after + 1)
-    edits-paid paid renewal total least within =
+        + 4 * work edit before after)
+        ≤ 24 * (work edit before after + 1)
+    edits-paid paid =
         let w = weight before after in
         let e = styled_evaluator (table after) in
         let merge = plain_merge edit before after in
         let few = second_walks_are_few edit before after leads somewhere keys turned in
         pays (anew_count e root_surroundings root_surroundings merge) (led_count merge) (anew_count e root_surroundings root_surroundings second) (come_count is_styled_element merge)
         (gone_count is_styled_element merge) (place_count merge) (sum_by w (placed edit before after)) (sum_by w (differing edit before after)) (sum_by w (around_places edit before after))
-        (walk_work edit before after) (work edit before after) renewal (walk_cost (table after) merge) (walk_cost (table after) second) total
-        first-anew few.anew (omega (arith, shape.led, shape.come, shape.gone, paid.few)) (omega (arith, shape.places, paid.places)) (walk-least edit before after) (walk-within edit before after) least
-        (omega arith) (omega (arith, few.come, few.places)) within
+        (walk_work edit before after) (work edit before after) (walk_budget (table after) merge) (walk_budget (table after) second)
+        first-anew few.anew (omega (arith, shape.led, shape.come, shape.gone, paid.few)) (omega (arith, shape.places, paid.places)) (walk-least edit before after) (walk-within edit before after)
+        (omega arith) (omega (arith, few.come, few.places))
 
 pub turned_enter_points : TurnedEnterPoints
 turned_enter_points edit before after leads somewhere keys turned = entered-points edit before after leads somewhere keys turned
@@ -285,4 +284,4 @@ started_news_are_paid edit before after leads somewhere keys turned styles news 
     (subst (λ (is : Evaluated). renewal_weight (evaluated before) is merge news ≤ work edit before after) (told-so after tells.tells.distinct_after) paid)
 
 pub started_edits_are_paid : StartedEditsArePaid
-started_edits_are_paid edit before after leads somewhere keys turned paid renewal total least within = edits-paid edit before after leads somewhere keys turned paid renewal total least within
+started_edits_are_paid edit before after leads somewhere keys turned paid = edits-paid edit before after leads somewhere keys turned paid

@@ -1,4 +1,4 @@
--- How many elements the first of two walks goes into, and the sum of what an edit costs. Throughout, i is what a level is handed, j what
+-- How many elements the first of two walks goes into, and the sum of the steps of an edit. Throughout, i is what a level is handed, j what
 -- it was handed, n a node, c what is under it, r what is after it, g trees, m a merge, w a weight, and k a key.
 use Rattle.std.proofs.Common.{◌≡◌, ◌+◌, ◌*◌, ◌≤◌, ◌++◌, ◌∙◌, ℕ, Bool, true, false, cond, List, [], ◌∷◌, Option, Some, refl, sym, ap, arith}
 use Rattle.std.specs.Prelude.{filter, flat_map, is_some, sum_by}
@@ -32,11 +32,11 @@ use Rattle.edit_work.specs.Work.{around_places, differing, placed, walk_work, wo
 use Rattle.started_work.proofs.HandedLemmas.{Entry, Has, handed-other, kept-some, styled-element}
 
 -- the sum, in numbers
-pub pays : (anew led later_anew come gone places placed differing around walk work renewal first second total : ℕ)
+pub pays : (anew led later_anew come gone places placed differing around walk work first second : ℕ)
     → anew ≤ led + differing → later_anew ≤ led + differing → (led + come + gone) ≤ placed + around → 4 * places ≤ 20 + 2 * (placed + around)
-    → (placed + differing + around) ≤ walk → walk ≤ work → renewal ≤ work → first ≤ 9 * anew + 6 * come + 2 * places + 2 → second ≤ 9 * later_anew + 6 * come + 2 * places + 2
-    → total ≤ first + second + 3 * gone + 4 * renewal → total ≤ 24 * (work + 1)
-pays anew led later_anew come gone places placed differing around walk work renewal first second total h1 h2 h3 h4 h5 h6 h7 h8 h9 h10 = omega arith
+    → (placed + differing + around) ≤ walk → walk ≤ work → first ≤ 9 * anew + 6 * come + 2 * places + 2 → second ≤ 9 * later_anew + 6 * come + 2 * places + 2
+    → (first + second + 3 * gone + 4 * work) ≤ 24 * (work + 1)
+pays anew led later_anew come gone places placed differing around walk work first second h1 h2 h3 h4 h5 h6 h7 h8 = omega arith
 
 module _ (w : ℕ → ℕ) (heavy : (k : ℕ) → 1 ≤ w k) (differs : ℕ → Bool) where
   -- the elements of trees that differ, weighed

@@ -10,7 +10,8 @@ pub fn work_pays_for_second_news()
     ensures news { StartedNewsArePaid }
 {}
 
-/// And it pays for all that an edit costs which is walked twice, where it pays for its places and what is above them.
+/// And it pays for all steps of an edit that is walked twice, where it pays for the edit's places: for what a walk is led into
+/// there, and for what goes and comes. To read the scopes of touched counters takes none.
 pub fn work_pays_for_started_edits()
     ensures paid { StartedEditsArePaid }
 {}
