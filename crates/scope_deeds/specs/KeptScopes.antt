@@ -27,7 +27,8 @@ module _ (kept : ℕ → Option Counting) where
   kept_own key = option_and_then (λ (its : Counting). its.own) (kept key)
 
   module _ {L : Type 0} where
-    -- what trees side by side do, in tree order
+    -- What trees side by side do, in tree order. Elements that are under one without a box are read too: nothing is found there, so
+    -- code may leave them out.
     abbrev pub kept_changes : Forest (Keyed L) → List Change
     kept_changes Empty = []
     kept_changes (Tree node children after) = kept_before node.key ++ (kept_changes children ++ (kept_after node.key ++ kept_changes after))
@@ -49,7 +50,7 @@ module _ (kept : ℕ → Option Counting) where
       kept_from kind.After key children after = kept_after key
       kept_from _ key children after = kept_before key ++ (kept_changes children ++ (kept_after key ++ kept_row after))
 
-      -- That, and behind it the after box of the element's parent, which is the last sibling box.
+      -- That, and behind it, whichever box it is, the after box of the element's parent, which is the last sibling box.
       abbrev pub kept_scope : Forest (Keyed L) → List Change
       kept_scope Empty = []
       kept_scope (Tree node children after) =

@@ -1,9 +1,9 @@
 //! The start of a reversed counter, told by what is kept of elements under their keys.
 //!
 //! A reversed counter that is given no number starts with one that is told by all that boxes do to it in its scope (CSS Lists
-//! 3, 4.4). `scope_reading` says which elements are read for it, in a document whose evaluation is at hand. An index of elements
-//! has no evaluation at hand: it has what was kept of each element under its key, and the tree of keys. This crate says what is
-//! to be kept of an element, and that the start is told by it. It has no code. Its functions are laws.
+//! 3, 4.4). `scope_reading` says which elements are read for it, in a document whose evaluation is at hand. When an edit is planned
+//! none is at hand: there is the tree of keys, and what was kept of each element under its key, of an evaluation with all starts 0.
+//! This crate says what is to be kept of an element, and that the start is told by it. It has no code. Its functions are laws.
 //!
 //! | Of an element is kept | It tells |
 //! |---|---|
@@ -17,14 +17,16 @@
 //!
 //! | The counter is created by | What is read |
 //! |---|---|
-//! | the element's own box | all that is kept in the element; its later siblings up to the first whose own set lacks the counter; `after_children` of its parent |
+//! | the element's own box, or its marker | all that is kept in the element; its later siblings up to the first whose own set lacks the counter |
 //! | its before box | `before_children` of the element; its children up to the first whose own set lacks the counter; its `after_children` |
 //! | its after box | its `after_children` |
+//! | any of these | and last `after_children` of its parent |
 //!
-//! A sibling that has no own set is passed with all that is in it. What was done to other counters is read along with the rest,
-//! as what the own box of an element does before its before box creates the counter: it is no event of this one. So what is
-//! read is not compared list by list with what `scope_reading` reads, but by the events of the counter.
-//! [`laws::kept_scopes_tell_starts`]
+//! A sibling that has no own set is passed with all that is in it. Further in, `kept_changes` reads the elements in one without a box
+//! too: nothing is found there, and code may leave them out. What was done to other counters is read along with the rest, as what the
+//! own box of an element does before its before box creates the counter, or what the after box of the parent does where the counter
+//! does not reach it: it is no event of this one. So what is read is not compared list by list with what `scope_reading` reads, but
+//! by the events of the counter. [`laws::kept_scopes_tell_starts`]
 //!
 //! # An example
 //!
@@ -47,13 +49,13 @@
 //! | 5 | that of 4 | -1 to that of 4 |
 //!
 //! For the counter of the first heading 1 is read, then 2 and 3, whose own sets have it. That of 4 lacks it, so there the row
-//! ends. Two events of -1 are read, and the counter starts with 3. Where 3 goes, nothing else is to be done but to read 1, 2 and the
-//! own set of 4 again: the counter starts with 2.
+//! ends, and last comes what the after box of 0 does: there is none. Two events of -1 are read, and the counter starts with 3. Where
+//! 3 goes, nothing else is to be done but to read 1, 2, the own set of 4 and `after_children` of 0 again: the counter starts with 2.
 //!
 //! An element with a before box that creates the counter, a text, and a child without a box:
 //!
 //! ```text
-//! 1 div        div::before { counter-reset: reversed(c) }  div::after { counter-increment: c -1 }
+//! 1 div        div::before { content: ""; counter-reset: reversed(c) }  div::after { content: ""; counter-increment: c -1 }
 //! 2   p        counter-increment: c -1
 //! 3   (a text)
 //! 4   p        display: none
@@ -63,7 +65,7 @@
 //!
 //! What is read is that of 1 before its children, of 2, of 6, and of 1 after its children: the counter starts with 4. Nothing is
 //! kept of 3, and 4 has no own set, so both are passed, and 5 with them. Were the counter created by the after box, that would be
-//! read alone. Each of these readings is computed in `proofs/Examples.antt`.
+//! read alone, since 1 has no parent. Each of these readings is computed in `proofs/Examples.antt`.
 //!
 //! # What the layers above cite
 //!
