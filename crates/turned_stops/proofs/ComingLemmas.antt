@@ -25,7 +25,8 @@ use Rattle.referring_elements.proofs.NodesLeft.{told_of}
 use Rattle.start_reach.specs.TurnedElements.{way_in, way_to}
 use Rattle.start_reach.proofs.ClimbLaws.{ways_are_climbed}
 use Rattle.start_reach.proofs.TurnedLaws.{absent-way, key-flipped}
-use Rattle.turned_stops.specs.Coming.{coming_at_stops, coming_by, comes_at, is_anew}
+use Rattle.turned_stops.specs.Coming.{coming_at_stops, coming_by}
+use Rattle.turned_stops.specs.Machinery.ComingAt.{comes_at, is_anew}
 use Rattle.turned_stops.proofs.ElementCounts.{Says, elements-count, one, one-false, one-true, says-there}
 
 some-or-not : {A : Type 0} (o : Option A) → (o ≡ None) ⊎ ((x : A) × (o ≡ Some x))

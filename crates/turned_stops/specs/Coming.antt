@@ -1,6 +1,5 @@
 -- The elements that come with an edit, told by its stops (our own).
-use Rattle.std.specs.Prelude.{ℕ, nat_eq, Bool, true, false, ◌&&◌, List, [], Option, Some, flat_map}
-use Rattle.std.specs.Option.{option_eq}
+use Rattle.std.specs.Prelude.{ℕ, List, [], Option, flat_map}
 use Rattle.forest.specs.Forest.{Forest}
 use Rattle.forest.specs.Keys.{Keyed}
 use Rattle.forest.specs.Spots.{on_link}
@@ -20,12 +19,3 @@ coming_by new Anew link = elements_in (alone (on_link new link))
 -- those that come at stops, in their order and each tree's in tree order
 abbrev pub coming_at_stops : Forest (Keyed Node) → List Stop → List ℕ
 coming_at_stops new stops = flat_map (λ (stop : Stop). coming_by new stop.way stop.link) stops
-
-abbrev pub is_anew : Way → Bool
-is_anew Past = false
-is_anew Inside = false
-is_anew Anew = true
-
--- the tree of the node of this key comes at the stop
-abbrev pub comes_at : ℕ → Stop → Bool
-comes_at key stop = is_anew stop.way && option_eq nat_eq stop.link (Some key)

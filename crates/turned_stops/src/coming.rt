@@ -9,7 +9,8 @@ ghost use Rattle.node_arena.specs.Nodes.{name_of};
 ghost use Rattle.merged_walk.specs.declared.stop.Stop.{Stop};
 ghost use Rattle.edit_work.specs.KeyedSources.{element_key, elements_in, is_among};
 ghost use Rattle.start_reach.specs.TurnedElements.{way_to};
-ghost use Rattle.turned_stops.specs.Coming.{coming_at_stops, coming_by, comes_at};
+ghost use Rattle.turned_stops.specs.Coming.{coming_at_stops, coming_by};
+ghost use Rattle.turned_stops.specs.Machinery.ComingAt.{comes_at};
 
 use merged_walk::stop::{Stop, Way};
 use node_arena::arena::Arena;

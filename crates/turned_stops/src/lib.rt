@@ -1,8 +1,9 @@
-//! The stops of a walk that goes also to turned elements, and which elements come with an edit.
+//! The stops that lead a walk into turned elements too, and which elements come with an edit.
 //!
-//! An edit of a document with reversed counters is walked twice: with all starts 0, and with the starts that this gives. The second
-//! walk goes also to the elements whose starts are other than before: they are turned. What is to be known of the two walks is said
-//! in the crate `start_reach`; this one makes the stops of the second, and tells which elements may be turned.
+//! An edit of a document with reversed counters is walked twice: with all starts 0, and with the starts that this gives. A walk is
+//! *led into* an element that stays by a stop: the element has a place of the edit under it, or is turned. The second walk is led
+//! into the elements whose starts are other than before too: they are turned. What is to be known of the two walks is said in the
+//! crate `start_reach`; this one makes the stops of the second, and tells which elements may be turned.
 //!
 //! | In | Out |
 //! |---|---|
@@ -10,9 +11,10 @@
 //! | the document after an edit, the edit's stops, and a key | [`coming::is_coming`]: whether it is an element that comes |
 //! | the document after an edit, and the edit's stops | [`coming::coming_keys`]: all elements that come |
 //!
-//! An element *comes* where it is in a tree that a stop evaluates anew: one that was inserted or moved, or that stood where the edit
-//! reaches, and goes and comes again. Each other element of the document after the edit stays ([`laws::elements_stay_or_come`]), and
-//! may be turned. What comes is evaluated anew in either walk, whatever its starts are.
+//! An element *comes* where it is in a tree that a stop evaluates anew: one that was inserted or moved, one whose root had an
+//! attribute set or taken away, or one that the edit reaches; the last two go and come again. Each other element of the document after
+//! the edit stays ([`laws::elements_stay_or_come`]), and may be turned. What comes is evaluated anew in either walk, whatever its
+//! starts are.
 //!
 //! The way to an element is found by its parents. It is put in among the stops in one pass over them: the ways of several elements
 //! share what they have in common, since a stop that stands already is not put in again.
@@ -39,7 +41,7 @@
 //!
 //! ```text
 //! let keys = coming_keys(alloc, &arena, &stops)?;              // no element comes
-//! let turned = is_coming(&arena, &stops, 1);                   // false: the heading stays
+//! let comes = is_coming(&arena, &stops, 1);                    // false: the heading stays, so it may be turned
 //! let stops = with_ways(alloc, &arena, &[1], &stops)?;
 //! ```
 //!

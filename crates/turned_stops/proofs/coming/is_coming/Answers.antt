@@ -1,7 +1,7 @@
 use Rattle.std.proofs.Common.{◌&&◌, sym, ap, ◌∙◌}
 use Rattle.std.specs.List.{list_any}
 use Rattle.start_reach.specs.TurnedElements.{way_to}
-use Rattle.turned_stops.specs.Coming.{comes_at}
+use Rattle.turned_stops.specs.Machinery.ComingAt.{comes_at}
 use Rattle.turned_stops.proofs.ComingLemmas.{coming-is}
 use Rattle.turned_stops.proofs.coming.is_coming.Goals as goal
 

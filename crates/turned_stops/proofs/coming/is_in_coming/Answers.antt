@@ -1,6 +1,6 @@
 use Rattle.std.proofs.Common.{Some, None, sym, ◌∙◌}
 use Rattle.std.specs.List.{list_any}
-use Rattle.turned_stops.specs.Coming.{comes_at}
+use Rattle.turned_stops.specs.Machinery.ComingAt.{comes_at}
 use Rattle.turned_stops.proofs.WayLemmas.{step-up, test-above, test-here}
 use Rattle.turned_stops.proofs.coming.is_in_coming.Goals as goal
 

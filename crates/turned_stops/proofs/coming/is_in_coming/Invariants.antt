@@ -2,7 +2,7 @@ use Rattle.std.proofs.Common.{◌≡◌, length}
 use Rattle.std.specs.List.{list_any}
 use Rattle.forest.specs.Spots.{IsLive}
 use Rattle.start_reach.specs.TurnedElements.{way_to}
-use Rattle.turned_stops.specs.Coming.{comes_at}
+use Rattle.turned_stops.specs.Machinery.ComingAt.{comes_at}
 use Rattle.turned_stops.proofs.coming.is_in_coming.Given as goal
 
 abbrev pub invariant-climb : goal.invariant-climb
