@@ -28,7 +28,7 @@
 //! * So does each element that is told otherwise than before. One that is not entered has the same under it, and where its inputs
 //!   are the same it is handed the same in both documents: then the same is told of it.
 //! * So the work pays for the texts that are made again: those of the elements in the news, of those that refer to what is entered
-//!   or in the news, and of those that refer to these. What refers to a point is the fifth point.
+//!   or in the news, and of those that refer to these. What refers to a point is under that of references.
 //!   [`laws::work_pays_for_second_news`]
 //! * It pays for all steps of the edit together, where it pays for the places (`ArePlacesPaid` of `start_reach`): the most that both
 //!   walks take, 3 for each element that goes, and 4 for each unit of weight of those texts, which weigh no more than the work.
