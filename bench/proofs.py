@@ -1,5 +1,6 @@
 """Times the proofs of crates for proofs.sh, in the folder of its first argument."""
 
+import bisect
 import os
 import re
 import shutil
@@ -43,7 +44,9 @@ def processor_seconds(session):
 
 
 # What rattle keeps of a function stands in modules of these names below its own.
-OF_A_FUNCTION = re.compile(r"\.(?:Statement|Met|Symbol|Key|Kinds|Proof|Code|Named|Goals|Given|Answers|Invariants|Laws)\b")
+OF_A_FUNCTION = re.compile(
+    r"\.(?:Statement|Met|Symbol|Key|Kinds|Proof|Code|Named|Goals|Given|Answers|Invariants|Laws|Lts|Tie|TheLinks?|Reads|Layout|Carried|Instances)\b"
+)
 
 
 def part_of(crate, file):
@@ -55,23 +58,32 @@ def part_of(crate, file):
     return function if function != name and re.fullmatch(r"[+a-z_][\w+]*", function.rpartition(".")[2]) else ""
 
 
+def at_time(polls, moment):
+    """The processor time that was spent at a moment, between those at which it was read."""
+    later = bisect.bisect_right([time for time, _ in polls], moment)
+    if later == len(polls):
+        return polls[-1][1]
+    (start, spent), (end, more) = polls[later - 1], polls[later]
+    return spent + (more - spent) * (moment - start) / (end - start)
+
+
 def check(crate, folder, *options):
-    """The processor time of a crate's check at one job, and how much of it belongs to each part."""
-    parts, seen, spent = Counter(), set(), 0.0
+    """The processor time of a crate's check at one job, and how much of it belongs to each part: what was spent until a
+    file of the part was written, since the file before that."""
+    parts, polls, last = Counter(), [(time.time(), 0.0)], 0.0
     with tempfile.TemporaryFile("w+") as log:
         process = subprocess.Popen(["rt", "check", "--jobs", "1", *options], cwd=folder, start_new_session=True, stdout=log, stderr=log)
         while process.poll() is None:
             time.sleep(0.2)
-            files = {file.name for file in folder.glob("out/incremental/*/*.oantt")}
-            now = max(spent, processor_seconds(process.pid))
-            for file in (new := files - seen):
-                parts[part_of(crate, file)] += (now - spent) / len(new)
-            if new:
-                seen, spent = files, now
+            polls.append((time.time(), max(processor_seconds(process.pid), polls[-1][1])))
         if process.returncode:
             log.seek(0)
             raise SystemExit(f"{crate} is not proved:\n{log.read()[-2000:]}")
-    return spent, parts
+    for moment, name in sorted((file.stat().st_mtime, file.name) for file in folder.glob("out/incremental/*/*.oantt")):
+        spent = at_time(polls, moment)
+        parts[part_of(crate, name)] += spent - last
+        last = spent
+    return polls[-1][1], parts
 
 
 def check_with_tests(crate, folder):
@@ -85,19 +97,38 @@ def check_with_tests(crate, folder):
         first.rename(second)
 
 
+def prove_below(work, crate):
+    for below in crates_below(work, crate):
+        subprocess.run(["rt", "lib"], cwd=work / "crates" / below, check=True, stdout=subprocess.DEVNULL, stderr=subprocess.DEVNULL)
+
+
 def has_tests(folder):
     return any("#[test]" in file.read_text() for file in folder.glob("src/**/*.rt"))
 
 
+def tell_tests(work, crate):
+    """Prints what each function costs in the proof of a crate with its tests, from the slowest down to a second."""
+    prove_below(work, crate)
+    taken, parts = check(crate, work / "crates" / crate, "--test")
+    print(f"| `{crate}` with its tests | {taken:.0f} |\n|---|---|")
+    for function, seconds in parts.most_common():
+        if seconds >= 1:
+            print(f"| {f'`{function.replace(chr(46), chr(58) * 2)}`' if function else 'all else'} | {seconds:.0f} |")
+    print(flush=True)
+
+
 def main():
     work, names = Path(sys.argv[1]), sys.argv[2:]
+    if names[:1] == ["--tests"]:
+        for crate in names[1:]:
+            tell_tests(work, crate)
+        return
     print("| Crate | Seconds | Again, with its tests | The slowest function | Seconds |\n|---|---|---|---|---|")
     for crate in crates_from_the_bottom_up((work / "crates.txt").read_text()):
         if names and crate not in names:
             continue
         folder = work / "crates" / crate
-        for below in crates_below(work, crate):
-            subprocess.run(["rt", "lib"], cwd=work / "crates" / below, check=True, stdout=subprocess.DEVNULL, stderr=subprocess.DEVNULL)
+        prove_below(work, crate)
         taken, parts = check(crate, folder)
         again = ""
         if has_tests(folder):

@@ -5,6 +5,7 @@
 # kit's folder of what was kept, and needs root.
 #   bench/proofs.sh            every crate; over an hour
 #   bench/proofs.sh CRATE..    these alone; those below them are proved, and not timed
+#   bench/proofs.sh --tests CRATE..    each function of these and of their tests, in the proof that has the tests
 set -eu
 here=$(cd "$(dirname "$0")/.." && pwd)
 kept=$(dirname "$(dirname "$(rt doc)")")/rattle-kept
