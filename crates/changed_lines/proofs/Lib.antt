@@ -1,4 +1,5 @@
 pub mod SameLemmas
+pub mod OtherLemmas
 pub mod PathLemmas
 pub mod PutLemmas
 pub mod DumpLemmas

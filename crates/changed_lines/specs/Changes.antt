@@ -1,5 +1,5 @@
 -- Which lines of a dump an edit changes (our own).
-use Rattle.std.specs.Prelude.{ℕ, Bool, true, false, List, [], ◌∷◌, ◌++◌, Option, Some, None, cond, flat_map}
+use Rattle.std.specs.Prelude.{ℕ, Bool, true, false, not, ◌||◌, List, [], ◌∷◌, ◌++◌, Option, Some, None, cond, flat_map}
 use Rattle.std.specs.Str.{bytes_eq}
 use Rattle.forest.specs.Forest.{Forest}
 use Rattle.forest.specs.Keys.{Keyed, keys}
@@ -31,6 +31,16 @@ module _ (path : List ℕ) (before after : Option NodeEntry) where
   -- those of its marker, its before box and its after box
   abbrev pub element_lines : List ChangedLine
   element_lines = changed_line Marker ++ (changed_line Before ++ changed_line After)
+
+-- Such an element, wherever it stands.
+module _ (before after : Option NodeEntry) where
+  -- a box of this kind shows another text than before
+  abbrev pub shows_other_text : BoxKind → Bool
+  shows_other_text kind = not (is_same_text (shown_text kind before) (shown_text kind after))
+
+  -- one of its boxes does
+  abbrev pub shows_other : Bool
+  shows_other = shows_other_text Marker || (shows_other_text Before || shows_other_text After)
 
 -- The document after the edit, and what is kept of the elements before it and after it, by their keys.
 module _ (document : Forest (Keyed Node)) (before after : ℕ → Option NodeEntry) where

@@ -3,7 +3,7 @@
 ghost use Rattle.std.specs.Prelude.{◌≡◌, ◌↔◌, ◌++◌, IsTrue, IfOk, OnOk, OnErr, option_copied, take, length};
 ghost use Rattle.forest.specs.Paths.{path_of};
 ghost use Rattle.forest.specs.Spots.{IsLive};
-ghost use Rattle.changed_lines.specs.Changes.{changed_line, element_lines};
+ghost use Rattle.changed_lines.specs.Changes.{changed_line, element_lines, shows_other, shows_other_text};
 ghost use Rattle.changed_lines.specs.ShownTexts.{shown_text};
 
 use crate::changed_line::ChangedLine;
@@ -37,6 +37,23 @@ fn is_same_text(first: Option<&Text>, second: Option<&Text>) -> bool
         (None, None) => true,
         _ => false,
     }
+}
+
+/// Whether a box of an element shows another text than before.
+fn shows_other_text(before: Option<&NodeEntry>, after: Option<&NodeEntry>, kind: BoxKind) -> bool
+    ensures test { result ≡ shows_other_text (option_copied before.entry) (option_copied after.entry) kind }
+{
+    !is_same_text(shown_text(before, kind), shown_text(after, kind))
+}
+
+/// Whether an element, of which this was kept before an edit and is kept after it, shows another text in one of its boxes:
+/// just such elements have changed lines. It takes no memory, and time linear in the texts of its boxes.
+pub fn shows_other(before: Option<&NodeEntry>, after: Option<&NodeEntry>) -> bool
+    ensures test { result ≡ shows_other (option_copied before.entry) (option_copied after.entry) }
+{
+    shows_other_text(before, after, BoxKind::Marker)
+        || shows_other_text(before, after, BoxKind::Before)
+        || shows_other_text(before, after, BoxKind::After)
 }
 
 /// A text of the same characters, where there is one.
