@@ -10,9 +10,10 @@ use Rattle.std.proofs.lemmas.Bool.{cases_Bool}
 use Rattle.std.proofs.lemmas.List.{map-append, take_more}
 use Rattle.merged_walk.specs.Entries.{last_at}
 use Rattle.kept_elements.specs.declared.kept.Kept.{Kept}
+use Rattle.kept_elements.specs.declared.kept_change.KeptChange.{KeptChange}
 use Rattle.generated_texts.specs.References.{kept_at}
 use Rattle.snapshot_board.specs.Records.{put_all, take_all}
-use Rattle.kept_elements.specs.Changes.{AreBelow, AreChanges}
+use Rattle.kept_elements.specs.Changes.{AreBelow, AreChanges, change_from}
 
 module _ {V : Type 0} where
   -- What is kept under keys.
@@ -168,7 +169,7 @@ module _ {V : Type 0} where
 module _ (held : FinMap nat_cmp Kept) where
   -- Entries of a list that a map does not hold.
 
-  pub changes-append : (some more : List (ℕ × Kept)) (changes others : List (ℕ × Kept)) → AreChanges held some changes → AreChanges held more others
+  pub changes-append : (some more : List (ℕ × Kept)) (changes others : List (ℕ × KeptChange)) → AreChanges held some changes → AreChanges held more others
       → AreChanges held (some ++ more) (changes ++ others)
   changes-append [] more changes others are behind = subst (λ c. AreChanges held more (c ++ others)) (sym are) behind
   changes-append (entry ∷ some) more changes others are behind = elim are [
@@ -207,11 +208,11 @@ module _ {V W : Type 0} (f : V → W) (kept : List (ℕ × V)) (place : ℕ) (en
   put_more held = ap (λ puts. put_all puts held) one_more ∙ put_all-append (made (take place kept)) ((entry.0, f entry.1) ∷ []) held
 
 module _ {V : Type 0} (f : V → Kept) (kept : List (ℕ × V)) (place : ℕ) (entry : ℕ × V) (within : place < length kept) (is : entry ≡ get_or kept place entry) (held : FinMap nat_cmp Kept)
-    (changes : List (ℕ × Kept)) (are : AreChanges held (map (λ (one : ℕ × V). (one.0, f one.1)) (take place kept)) changes) where
-  pub change_more : (get held entry.0 ≡ Some (f entry.1) → ⊥) → AreChanges held (map (λ (one : ℕ × V). (one.0, f one.1)) (take (place + 1) kept)) (changes ++ (entry.0, f entry.1) ∷ [])
+    (changes : List (ℕ × KeptChange)) (are : AreChanges held (map (λ (one : ℕ × V). (one.0, f one.1)) (take place kept)) changes) where
+  pub change_more : (get held entry.0 ≡ Some (f entry.1) → ⊥) → AreChanges held (map (λ (one : ℕ × V). (one.0, f one.1)) (take (place + 1) kept)) (changes ++ (entry.0, change_from held entry.0 (f entry.1)) ∷ [])
   change_more absent =
-      subst (λ all. AreChanges held all (changes ++ (entry.0, f entry.1) ∷ [])) (sym (one_more f kept place entry within is))
-      (changes-append held (map (λ (one : ℕ × V). (one.0, f one.1)) (take place kept)) ((entry.0, f entry.1) ∷ []) changes ((entry.0, f entry.1) ∷ []) are (inr (absent, ([], refl, refl))))
+      subst (λ all. AreChanges held all (changes ++ (entry.0, change_from held entry.0 (f entry.1)) ∷ [])) (sym (one_more f kept place entry within is))
+      (changes-append held (map (λ (one : ℕ × V). (one.0, f one.1)) (take place kept)) ((entry.0, f entry.1) ∷ []) changes ((entry.0, change_from held entry.0 (f entry.1)) ∷ []) are (inr (absent, ([], refl, refl))))
 
   pub none_more : get held entry.0 ≡ Some (f entry.1) → AreChanges held (map (λ (one : ℕ × V). (one.0, f one.1)) (take (place + 1) kept)) changes
   none_more there =

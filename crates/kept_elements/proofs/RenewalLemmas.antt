@@ -15,7 +15,8 @@ use Rattle.merged_walk.specs.Entries.{AgreeByKeys, first_at, last_at, put_over}
 use Rattle.merged_walk.proofs.EntryLaws.{contains-first}
 use Rattle.merged_walk.proofs.LawLemmas.{changes_are_enough}
 use Rattle.kept_elements.specs.declared.kept.Kept.{Kept}
-use Rattle.kept_elements.specs.Changes.{AreBelow, AreChanges, Renews}
+use Rattle.kept_elements.specs.declared.kept_change.KeptChange.{KeptChange}
+use Rattle.kept_elements.specs.Changes.{AreBelow, AreChanges, Renews, change_from, puts_of}
 use Rattle.kept_elements.proofs.ChangeLemmas.{HasKeysOnce, get-put_all, get-take_all, has_key}
 
 module _ {A : Type 0} where
@@ -102,32 +103,34 @@ module _ {V : Type 0} where
 
 module _ (held : FinMap nat_cmp Kept) where
   -- the entries of a list that a map does not hold bring all of the list
-  pub renews : (all changes : List (ℕ × Kept)) → AreChanges held all changes → Renews held all changes
-  renews [] changes are = subst (Renews held []) (sym are) (record { among = All-nil (Contains []); covers = All-nil (λ (one : ℕ × Kept). Contains [] one ⊎ (get held one.0 ≡ Some one.1)); others = tt; few = omega arith })
+  pub renews : (all : List (ℕ × Kept)) (changes : List (ℕ × KeptChange)) → AreChanges held all changes → Renews held all changes
+  renews [] changes are = subst (Renews held []) (sym are) (record { among = All-nil (Contains []); covers = All-nil (λ (one : ℕ × Kept). Contains [] one ⊎ (get held one.0 ≡ Some one.1)); others = tt; shown = tt; few = omega arith })
   renews (entry ∷ all) changes are = elim are [
     | inl h ↦
         let rest = renews all changes h.1 in
         record {
-          among = All-weaker (Contains all) (Contains (entry ∷ all)) (λ one there. later entry one all there) changes rest.among;
-          covers = All-cons (λ (one : ℕ × Kept). Contains changes one ⊎ (get held one.0 ≡ Some one.1)) entry all (inr h.0) rest.covers;
+          among = All-weaker (Contains all) (Contains (entry ∷ all)) (λ one there. later entry one all there) (puts_of changes) rest.among;
+          covers = All-cons (λ (one : ℕ × Kept). Contains (puts_of changes) one ⊎ (get held one.0 ≡ Some one.1)) entry all (inr h.0) rest.covers;
           others = rest.others;
+          shown = rest.shown;
           few = let fewer : length changes ≤ length all = rest.few in omega (arith, fewer);
         }
     | inr h ↦
         let rest = renews all h.1.0 h.1.2 in
         subst (Renews held (entry ∷ all)) (sym h.1.1) (record {
-          among = All-cons (Contains (entry ∷ all)) entry h.1.0 (contains-first entry all)
-              (All-weaker (Contains all) (Contains (entry ∷ all)) (λ one there. later entry one all there) h.1.0 rest.among);
-          covers = All-cons (λ (one : ℕ × Kept). Contains (entry ∷ h.1.0) one ⊎ (get held one.0 ≡ Some one.1)) entry all (inl (contains-first entry h.1.0))
-              (All-weaker (λ (one : ℕ × Kept). Contains h.1.0 one ⊎ (get held one.0 ≡ Some one.1)) (λ (one : ℕ × Kept). Contains (entry ∷ h.1.0) one ⊎ (get held one.0 ≡ Some one.1))
-              (λ one is. elim is [ inl there ↦ inl (later entry one h.1.0 there) | inr same ↦ inr same ]) all rest.covers);
+          among = All-cons (Contains (entry ∷ all)) entry (puts_of h.1.0) (contains-first entry all)
+              (All-weaker (Contains all) (Contains (entry ∷ all)) (λ one there. later entry one all there) (puts_of h.1.0) rest.among);
+          covers = All-cons (λ (one : ℕ × Kept). Contains (entry ∷ puts_of h.1.0) one ⊎ (get held one.0 ≡ Some one.1)) entry all (inl (contains-first entry (puts_of h.1.0)))
+              (All-weaker (λ (one : ℕ × Kept). Contains (puts_of h.1.0) one ⊎ (get held one.0 ≡ Some one.1)) (λ (one : ℕ × Kept). Contains (entry ∷ puts_of h.1.0) one ⊎ (get held one.0 ≡ Some one.1))
+              (λ one is. elim is [ inl there ↦ inl (later entry one (puts_of h.1.0) there) | inr same ↦ inr same ]) all rest.covers);
           others = (h.0, rest.others);
+          shown = (refl, rest.shown);
           few = let fewer : length h.1.0 ≤ length all = rest.few in omega (arith, fewer);
         })
   ]
 
   -- The elements of one document go and those of another come: the map has all that is kept of these.
-  module _ (was is : ℕ → Bool) (all changes : List (ℕ × Kept)) (once : HasKeysOnce all) (renewal : Renews held all changes)
+  module _ (was is : ℕ → Bool) (all : List (ℕ × Kept)) (changes : List (ℕ × KeptChange)) (once : HasKeysOnce all) (renewal : Renews held all changes)
       (before : (key : ℕ) → is_some (get held key) ≡ was key) (after : (key : ℕ) → is_some (kept_at all key) ≡ is key) where
     is_there : (key : ℕ) (v : Kept) → Contains all (key, v) → is key ≡ true
     is_there key v there = sym (after key) ∙ ap (λ (o : Option Kept). is_some o) (once_there all once (key, v) there)
@@ -141,10 +144,10 @@ module _ (held : FinMap nat_cmp Kept) where
     never true = refl
     never false = refl
 
-    pub settles : (takes : List ℕ) → ((key : ℕ) → list_any (nat_eq key) takes ≡ (was key && not (is key))) → (key : ℕ) → get (put_all changes (take_all takes held)) key ≡ kept_at all key
+    pub settles : (takes : List ℕ) → ((key : ℕ) → list_any (nat_eq key) takes ≡ (was key && not (is key))) → (key : ℕ) → get (put_all (puts_of changes) (take_all takes held)) key ≡ kept_at all key
     settles takes taken key =
-        over changes takes held key
-        ∙ changes_are_enough Kept all changes takes (get held) (once_agrees all once) renewal.among renewal.covers
+        over (puts_of changes) takes held key
+        ∙ changes_are_enough Kept all (puts_of changes) takes (get held) (once_agrees all once) renewal.among renewal.covers
         (λ key v there. takes_of key ∙ ap (λ b. was key && not b) (is_there key v there) ∙ never (was key))
         (λ key nowhere.
         let gone : is key ≡ false = sym (after key) ∙ ap (λ (o : Option Kept). is_some o) (none_there all key nowhere) in
@@ -163,16 +166,20 @@ module _ (held : FinMap nat_cmp Kept) where
         takes_of key = turned key takes ∙ taken key
 
     -- what comes is of these
-    pub are_of : AllByRecursion (λ (entry : ℕ × Kept). is entry.0 ≡ true) changes
-    are_of = recursion_from_All (λ (entry : ℕ × Kept). is entry.0 ≡ true) changes (All-weaker (Contains all) (λ (entry : ℕ × Kept). is entry.0 ≡ true) (λ entry there. is_there entry.0 entry.1 there) changes renewal.among)
+    pub are_of : AllByRecursion (λ (entry : ℕ × Kept). is entry.0 ≡ true) (puts_of changes)
+    are_of = recursion_from_All (λ (entry : ℕ × Kept). is entry.0 ≡ true) (puts_of changes) (All-weaker (Contains all) (λ (entry : ℕ × Kept). is entry.0 ≡ true) (λ entry there. is_there entry.0 entry.1 there) (puts_of changes) renewal.among)
 
     -- and there is room where they have it, or had it before
     pub room_for_all : (room more : ℕ) → ((key : ℕ) → was key ≡ true → key < room) → room ≤ more → AreBelow more changes → (key : ℕ) → is key ≡ true → key < more
     room_for_all room more had grown below key there = by (kept_at all key) refl
       where
+        below_puts : (some : List (ℕ × KeptChange)) → AreBelow more some → AreBelow more (puts_of some)
+        below_puts [] low = tt
+        below_puts (change ∷ some) low = (low.0, below_puts some low.1)
+
         by : (o : Option Kept) → kept_at all key ≡ o → key < more
         by None none = absurd (both_ways (is key) (sym (after key) ∙ ap (λ (o : Option Kept). is_some o) none) there)
-        by (Some v) found = elim (All-contains (λ (one : ℕ × Kept). Contains changes one ⊎ (get held one.0 ≡ Some one.1)) all (key, v) renewal.covers (kept_there all key v found)) [
-          | inl change ↦ All-contains (λ (one : ℕ × Kept). one.0 < more) changes (key, v) (All-from_recursion (λ (one : ℕ × Kept). one.0 < more) changes below) change
+        by (Some v) found = elim (All-contains (λ (one : ℕ × Kept). Contains (puts_of changes) one ⊎ (get held one.0 ≡ Some one.1)) all (key, v) renewal.covers (kept_there all key v found)) [
+          | inl change ↦ All-contains (λ (one : ℕ × Kept). one.0 < more) (puts_of changes) (key, v) (All-from_recursion (λ (one : ℕ × Kept). one.0 < more) (puts_of changes) (below_puts changes below)) change
           | inr kept ↦ let low : key < room = had key (sym (before key) ∙ ap (λ (o : Option Kept). is_some o) kept) in omega (arith, low, grown)
         ]

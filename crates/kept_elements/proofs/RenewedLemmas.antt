@@ -41,7 +41,8 @@ use Rattle.referring_elements.specs.Found.{is_named}
 use Rattle.referring_elements.specs.References.{AreOnce}
 use Rattle.kept_elements.specs.declared.flat_texts.FlatTexts.{FlatTexts}
 use Rattle.kept_elements.specs.declared.kept.Kept.{Kept}
-use Rattle.kept_elements.specs.Changes.{AreChanges, Renews}
+use Rattle.kept_elements.specs.declared.kept_change.KeptChange.{KeptChange}
+use Rattle.kept_elements.specs.Changes.{AreChanges, Renews, puts_of}
 use Rattle.kept_elements.specs.Evaluations.{all_kept_of, kept_of, said_of}
 use Rattle.kept_elements.specs.Known.{all_flat_texts_of, flat_in, flat_text_of, flat_texts_of}
 use Rattle.kept_elements.specs.Renewals.{TellsOfEdit, is_told}
@@ -538,7 +539,7 @@ module _ (table : List CounterStyle) (merge : Merge Node) (old new : Forest (Key
         holding key t before_it
         ∙ ap (λ (entry : NodeEntry). Some (record { entry = entry; walked = t.walked; pieces = pieces_with_urls t.said })) (sym entry)
 
-    module _ (keys : List ℕ) (keys_are : (key : ℕ) → is_among keys key ≡ is_told all key) (once : IsDistinct nat_eq keys) (changes : List (ℕ × Kept))
+    module _ (keys : List ℕ) (keys_are : (key : ℕ) → is_among keys key ≡ is_told all key) (once : IsDistinct nat_eq keys) (changes : List (ℕ × KeptChange))
         (are : AreChanges held (renewed_kept table again_known (kept_at all) keys) changes) where
       abbrev made : List (ℕ × Kept)
       made = renewed_kept table again_known (kept_at all) keys
@@ -588,21 +589,21 @@ module _ (table : List CounterStyle) (merge : Merge Node) (old new : Forest (Key
       begun : Renews held made changes
       begun = renews held made changes are
 
-      covered : (one : ℕ × Told) → kept_at is one.0 ≡ Some one.1 → Contains changes (one.0, kept_of table known_after one.1) ⊎ (get held one.0 ≡ Some (kept_of table known_after one.1))
+      covered : (one : ℕ × Told) → kept_at is one.0 ≡ Some one.1 → Contains (puts_of changes) (one.0, kept_of table known_after one.1) ⊎ (get held one.0 ≡ Some (kept_of table known_after one.1))
       covered one there = by (kept_at all one.0) refl
         where
-          by : (o : Option Told) → kept_at all one.0 ≡ o → Contains changes (one.0, kept_of table known_after one.1) ⊎ (get held one.0 ≡ Some (kept_of table known_after one.1))
+          by : (o : Option Told) → kept_at all one.0 ≡ o → Contains (puts_of changes) (one.0, kept_of table known_after one.1) ⊎ (get held one.0 ≡ Some (kept_of table known_after one.1))
           by None e = inr (entry_stays one.0 one.1 there e)
           by (Some a) e =
               let among : is_among keys one.0 ≡ true = keys_are one.0 ∙ sym (some-kept one.0 all) ∙ ap (λ (o : Option Told). is_some o) e in
-              subst (λ (kept : Kept). Contains changes (one.0, kept) ⊎ (get held one.0 ≡ Some kept)) (kept_same one.0 one.1 a there e)
-              (All-contains (λ (entry : ℕ × Kept). Contains changes entry ⊎ (get held entry.0 ≡ Some entry.1)) made (one.0, kept_of table again_known a) begun.covers
+              subst (λ (kept : Kept). Contains (puts_of changes) (one.0, kept) ⊎ (get held one.0 ≡ Some kept)) (kept_same one.0 one.1 a there e)
+              (All-contains (λ (entry : ℕ × Kept). Contains (puts_of changes) entry ⊎ (get held entry.0 ≡ Some entry.1)) made (one.0, kept_of table again_known a) begun.covers
               (kept_there made one.0 (kept_of table again_known a) (made_there keys one.0 a among e)))
 
-      all_covered : (xs : List (ℕ × Told)) → All (λ (one : ℕ × Told). kept_at is one.0 ≡ Some one.1) xs → Covers changes (get held) (all_kept_of table known_after xs)
-      all_covered [] there = All-nil (λ (entry : ℕ × Kept). Contains changes entry ⊎ (get held entry.0 ≡ Some entry.1))
+      all_covered : (xs : List (ℕ × Told)) → All (λ (one : ℕ × Told). kept_at is one.0 ≡ Some one.1) xs → Covers (puts_of changes) (get held) (all_kept_of table known_after xs)
+      all_covered [] there = All-nil (λ (entry : ℕ × Kept). Contains (puts_of changes) entry ⊎ (get held entry.0 ≡ Some entry.1))
       all_covered (x ∷ xs) there =
-          All-cons (λ (entry : ℕ × Kept). Contains changes entry ⊎ (get held entry.0 ≡ Some entry.1)) (x.0, kept_of table known_after x.1) (all_kept_of table known_after xs)
+          All-cons (λ (entry : ℕ × Kept). Contains (puts_of changes) entry ⊎ (get held entry.0 ≡ Some entry.1)) (x.0, kept_of table known_after x.1) (all_kept_of table known_after xs)
           (covered x (All-head (λ (one : ℕ × Told). kept_at is one.0 ≡ Some one.1) x xs there)) (all_covered xs (All-tail (λ (one : ℕ × Told). kept_at is one.0 ≡ Some one.1) x xs there))
 
       pub few_keys : length keys ≤ length is
@@ -615,9 +616,10 @@ module _ (table : List CounterStyle) (merge : Merge Node) (old new : Forest (Key
 
       pub renewed : Renews held whole changes
       renewed = record {
-        among = All-weaker (Contains made) (Contains whole) (λ one there. All-contains (Contains whole) made one (made_among keys) there) changes begun.among;
+        among = All-weaker (Contains made) (Contains whole) (λ one there. All-contains (Contains whole) made one (made_among keys) there) (puts_of changes) begun.among;
         covers = all_covered is (All-weaker (Contains is) (λ (one : ℕ × Told). kept_at is one.0 ≡ Some one.1) (λ one there. once_there is (once_keys is r.walk.once) one there) is (All-contains_itself is));
         others = begun.others;
+        shown = begun.shown;
         few =
             let fewer : length changes ≤ length made = begun.few in
             let same : length whole ≡ length is = length-map is (λ (one : ℕ × Told). (one.0, kept_of table known_after one.1)) in

@@ -11,10 +11,11 @@ use Rattle.std.proofs.lemmas.List.Folds.{list_any-append}
 use Rattle.content_eval.specs.declared.generated.Piece.{Piece}
 use Rattle.content_eval.specs.Targets.{reference}
 use Rattle.kept_elements.specs.declared.kept.Kept.{Kept}
-use Rattle.kept_elements.specs.Changes.{AreChanges}
+use Rattle.kept_elements.specs.declared.kept_change.KeptChange.{KeptChange}
+use Rattle.kept_elements.specs.Changes.{AreChanges, change_from}
 use Rattle.kept_elements.proofs.ChangeLemmas.{changes-append}
 
-module _ (f : ℕ → List (ℕ × Kept)) (keys : List ℕ) (place : ℕ) (within : place < length keys) (held : FinMap nat_cmp Kept) (changes : List (ℕ × Kept))
+module _ (f : ℕ → List (ℕ × Kept)) (keys : List ℕ) (place : ℕ) (within : place < length keys) (held : FinMap nat_cmp Kept) (changes : List (ℕ × KeptChange))
     (are : AreChanges held (flat_map f (take place keys)) changes) where
   abbrev key : ℕ
   key = get_or keys place 0
@@ -25,7 +26,7 @@ module _ (f : ℕ → List (ℕ × Kept)) (keys : List ℕ) (place : ℕ) (withi
       ∙ flat_map-append f (take place keys) (key ∷ [])
       ∙ ap (λ more. flat_map f (take place keys) ++ more) (append-nil (f key))
 
-  more : (entries others : List (ℕ × Kept)) → f key ≡ entries → AreChanges held entries others → AreChanges held (flat_map f (take (place + 1) keys)) (changes ++ others)
+  more : (entries : List (ℕ × Kept)) (others : List (ℕ × KeptChange)) → f key ≡ entries → AreChanges held entries others → AreChanges held (flat_map f (take (place + 1) keys)) (changes ++ others)
   more entries others made behind =
       subst (λ all. AreChanges held all (changes ++ others)) (sym one_more)
       (changes-append held (flat_map f (take place keys)) (f key) changes others are (subst (λ e. AreChanges held e others) (sym made) behind))
@@ -39,8 +40,8 @@ module _ (f : ℕ → List (ℕ × Kept)) (keys : List ℕ) (place : ℕ) (withi
   pub held_told : (kept : Kept) → f key ≡ (key, kept) ∷ [] → get held key ≡ Some kept → AreChanges held (flat_map f (take (place + 1) keys)) changes
   held_told kept made there = unmoved ((key, kept) ∷ []) made (inl (there, refl))
 
-  pub new_told : (kept : Kept) → f key ≡ (key, kept) ∷ [] → (get held key ≡ Some kept → ⊥) → AreChanges held (flat_map f (take (place + 1) keys)) (changes ++ (key, kept) ∷ [])
-  new_told kept made absent = more ((key, kept) ∷ []) ((key, kept) ∷ []) made (inr (absent, ([], refl, refl)))
+  pub new_told : (kept : Kept) → f key ≡ (key, kept) ∷ [] → (get held key ≡ Some kept → ⊥) → AreChanges held (flat_map f (take (place + 1) keys)) (changes ++ (key, change_from held key kept) ∷ [])
+  new_told kept made absent = more ((key, kept) ∷ []) ((key, change_from held key kept) ∷ []) made (inr (absent, ([], refl, refl)))
 
 -- one piece more refers to what it refers to
 pub names_more : (p : List ℕ → Bool) (pieces : List Piece) (place : ℕ) (piece : Piece) → place < length pieces → piece ≡ get_or pieces place piece

@@ -14,6 +14,10 @@
 //! no need to evaluate anew is left out. The steps of `walked_entries` are within the weights of the elements that were told and of
 //! those that refer to what the edit touches (`renewal_weight` of `specs/RenewalSteps.antt`).
 //!
+//! What comes to a board of an element tells, too, whether a box of the element shows another text than by what the board has
+//! ([`kept_change::KeptChange`]): it is compared with that anyway. So who tells the lines that an edit changes need look at no
+//! element of which only counters are other.
+//!
 //! The layer above knows this crate by `kept_of`, `document_kept` and `evaluated_document` of `specs/Evaluations.antt`, by
 //! `Renews` of `specs/Changes.antt`: what comes to a board of which all that is to be kept is known; by `IsSomeWalk` of
 //! `specs/Renewals.antt`: what a walk has told of a document that an edit made of another one; and by `AreNewsOf` of
@@ -30,6 +34,7 @@ pub mod by_key;
 pub mod characters;
 pub mod flat_texts;
 pub mod kept;
+pub mod kept_change;
 pub mod laws;
 pub mod news;
 pub mod node_texts;

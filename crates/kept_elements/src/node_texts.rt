@@ -1,16 +1,18 @@
 //! What is kept of elements, from what their evaluation tells.
 
-ghost use Rattle.std.specs.Prelude.{◌≡◌, ◌↔◌, ◌+◌, ◌≤◌, ◌++◌, ◌∷◌, [], length, IfNone, IfOk, IfSome, IsTrue, OnOk, Some, option_map};
+ghost use Rattle.std.specs.Prelude.{◌≡◌, ◌↔◌, ◌+◌, ◌≤◌, ◌++◌, ◌∷◌, [], length, IfNone, IfOk, IfSome, IsTrue, OnOk, Some, option_copied, option_map};
 ghost use Rattle.std.specs.FinMap.{get};
 ghost use Rattle.generated_texts.specs.Entries.{box_text, node_entry};
 ghost use Rattle.snapshot_board.specs.Records.{put_all};
-ghost use Rattle.kept_elements.specs.Changes.{AreBelow, AreChanges};
+ghost use Rattle.kept_elements.specs.Changes.{AreBelow, AreChanges, change_from};
 ghost use Rattle.kept_elements.specs.Evaluations.{all_kept_of, kept_of};
 
 use crate::kept::Kept;
+use crate::kept_change::KeptChange;
 use box_eval::element_record::ElementRecord;
 use box_eval::made::Made;
 use box_pieces::box_pieces::BoxPieces;
+use changed_lines::element_lines::shows_other;
 use content_eval::targets::Targets;
 use content_eval::texts::{flat_text, full_text};
 use generated_texts::entry::{BoxText, NodeEntry};
@@ -76,39 +78,50 @@ pub(crate) fn kept_of<T: Targets>(
     })
 }
 
-/// Whether a board holds just this under this key, in one step.
-fn is_held<L: Ledger>(board: &Board<Kept>, key: usize, kept: &Kept, steps: &mut Steps<L>) -> bool
-    ensures test { IsTrue result ↔ get board.now.held key ≡ Some kept.now }
-    ensures step { steps.new ≡ steps.old + 1 }
+/// Whether just this is kept of an element already.
+fn is_kept(held: Option<&Kept>, kept: &Kept) -> bool
+    ensures test { IsTrue result ↔ option_copied held.entry ≡ Some kept.now }
 {
-    match board.get(key, steps) {
+    match held {
         Some(held) => held.is_same(kept),
         None => false,
     }
 }
 
-/// What is kept, unless a board holds just this under this key; then it is let go. One step.
+/// The entry of an element of which this is kept.
+fn entry_of(held: Option<&Kept>) -> Option<&NodeEntry>
+    ensures entry { option_copied result ≡ option_map (λ (kept : Kept). kept.entry) (option_copied held.entry) }
+{
+    Some(&held?.entry)
+}
+
+/// What comes to be kept under this key, unless a board holds just this there; then it is let go. One step.
 pub(crate) fn unless_held<L: Ledger>(
     board: &Board<Kept>,
     key: usize,
     kept: Kept,
     steps: &mut Steps<L>,
-) -> Option<Kept>
-    ensures some { IfSome result (λ new. (new ≡ kept) × (get board.now.held key ≡ Some kept → ⊥)) }
+) -> Option<KeptChange>
+    ensures some { IfSome result (λ change. (change ≡ change_from board.now.held key kept) × (get board.now.held key ≡ Some kept → ⊥)) }
     ensures none { IfNone result (get board.now.held key ≡ Some kept) }
     ensures step { steps.new ≡ steps.old + 1 }
 {
-    if is_held(board, key, &kept, steps) {
-        None
-    } else {
-        Some(kept)
+    let held = board.get(key, steps);
+    if is_kept(held, &kept) {
+        return None;
     }
+    let shows_other = shows_other(entry_of(held), Some(&kept.entry));
+    Some(KeptChange { kept, shows_other })
 }
 
-pub(crate) fn push(changes: &mut Vec<(usize, Kept)>, key: usize, kept: Kept) -> Result<(), Memory>
-    ensures ok { OnOk result (changes.new.items ≡ changes.old.items ++ (key, kept) ∷ []) }
+pub(crate) fn push(
+    changes: &mut Vec<(usize, KeptChange)>,
+    key: usize,
+    change: KeptChange,
+) -> Result<(), Memory>
+    ensures ok { OnOk result (changes.new.items ≡ changes.old.items ++ (key, change) ∷ []) }
 {
-    changes.push((key, kept))?;
+    changes.push((key, change))?;
     Ok(())
 }
 
@@ -133,8 +146,8 @@ pub fn put_entries<T: Targets, L: Ledger>(
     Ok(())
 }
 
-/// What is kept of the elements and is not on a board: what is there already is let go at once. It is a step
-/// for each element.
+/// What is kept of the elements and is not on a board, and which of them show other texts by it: what is there already is let
+/// go at once. It is a step for each element.
 pub fn changed_entries<T: Targets, L: Ledger>(
     alloc: Global,
     table: &Table,
@@ -142,15 +155,15 @@ pub fn changed_entries<T: Targets, L: Ledger>(
     targets: &T,
     board: &Board<Kept>,
     steps: &mut Steps<L>,
-) -> Result<Vec<(usize, Kept)>, Memory>
+) -> Result<Vec<(usize, KeptChange)>, Memory>
     ensures changes { IfOk result (λ changes. AreChanges board.now.held (all_kept_of table.now (T.known targets.now) records.now) changes.items) }
     ensures steps { steps.new ≤ steps.old + length records.now }
 {
     let mut changes = Vec::new(alloc);
     for (key, told) in records {
         let kept = kept_of(alloc, table, told, targets)?;
-        if let Some(kept) = unless_held(board, *key, kept, steps) {
-            push(&mut changes, *key, kept)?;
+        if let Some(change) = unless_held(board, *key, kept, steps) {
+            push(&mut changes, *key, change)?;
         }
     }
     Ok(changes)

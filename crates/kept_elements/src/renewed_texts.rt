@@ -19,6 +19,7 @@ use crate::again::put_all_again;
 use crate::by_key::by_key;
 use crate::flat_texts::{FlatTexts, all_flat_texts};
 use crate::kept::Kept;
+use crate::kept_change::KeptChange;
 use crate::node_texts::{kept_of, push, unless_held};
 use crate::renewed_targets::{RenewedTargets, held_of, target_keys};
 use content_eval::targets::Targets;
@@ -60,7 +61,7 @@ fn changes_of<T: Targets, L: Ledger>(
     targets: &T,
     board: &Board<Kept>,
     steps: &mut Steps<L>,
-) -> Result<Vec<(usize, Kept)>, Memory>
+) -> Result<Vec<(usize, KeptChange)>, Memory>
     ensures changes { IfOk result (λ changes. AreChanges board.now.held (renewed_kept table.now (T.known targets.now) (λ key. option_copied (get nat_eq records.now key)) keys.now) changes.items) }
     ensures steps { steps.new ≤ steps.old + length keys.now }
 {
@@ -68,8 +69,8 @@ fn changes_of<T: Targets, L: Ledger>(
     for key in keys {
         if let Some(told) = records.get(key) {
             let kept = kept_of(alloc, table, told, targets)?;
-            if let Some(kept) = unless_held(board, *key, kept, steps) {
-                push(&mut changes, *key, kept)?;
+            if let Some(change) = unless_held(board, *key, kept, steps) {
+                push(&mut changes, *key, change)?;
             }
         }
     }
@@ -125,7 +126,7 @@ fn changes_again<L: Ledger>(
     keys: &[usize],
     held: &HashMap<usize, &Kept>,
     steps: &mut Steps<L>,
-) -> Result<Vec<(usize, Kept)>, Memory>
+) -> Result<Vec<(usize, KeptChange)>, Memory>
     requires indexed { IsIndexOf index.now arena.now.tree }
     requires kept { IsKeptIn records.now listed.now }
     requires held { (key : ℕ) → option_copied (get nat_eq held.now key) ≡ held_of keys.now board.now.held key }
@@ -160,7 +161,7 @@ fn changes_to<L: Ledger>(
     board: &Board<Kept>,
     keys: &[usize],
     steps: &mut Steps<L>,
-) -> Result<Vec<(usize, Kept)>, Memory>
+) -> Result<Vec<(usize, KeptChange)>, Memory>
     requires indexed { IsIndexOf index.now arena.now.tree }
     requires within { flat_count ≤ length listed.now }
     ensures changes { IfOk result (λ changes. AreChanges board.now.held (renewed_kept table.now (known_again arena.now.tree table.now board.now.held (take flat_count listed.now) listed.now keys.now) (kept_at listed.now) told.now) changes.items) }
@@ -207,7 +208,7 @@ fn entries_again<L: Ledger>(
     flat_count: usize,
     board: &Board<Kept>,
     steps: &mut Steps<L>,
-) -> Result<Vec<(usize, Kept)>, Memory>
+) -> Result<Vec<(usize, KeptChange)>, Memory>
     requires indexed { IsIndexOf index.now arena.now.tree }
     requires within { flat_count ≤ length listed.now }
     requires elements { (key : ℕ) → is_told listed.now key ≡ true → IsSome (name_of arena.now.tree key) }
@@ -246,7 +247,7 @@ pub fn renewed_entries<L: Ledger>(
     found: &Referring,
     board: &Board<Kept>,
     steps: &mut Steps<L>,
-) -> Result<Vec<(usize, Kept)>, Memory>
+) -> Result<Vec<(usize, KeptChange)>, Memory>
     requires indexed { IsIndexOf index.now arena.now.tree }
     requires edit { IsSomeEdit table.now arena.now.tree told board.now.held found.now.first found.now.second }
     ensures renewal { IfOk result (λ changes. (edit : IsSomeEdit table.now arena.now.tree told board.now.held found.now.first found.now.second) → Renews board.now.held (all_kept_of table.now (known_targets table.now arena.now.tree (said_of edit.is)) edit.is) changes.items) }
@@ -285,7 +286,7 @@ pub fn walked_entries<L: Ledger>(
     told: List<(usize, Told)>,
     board: &Board<Kept>,
     steps: &mut Steps<L>,
-) -> Result<Vec<(usize, Kept)>, Memory>
+) -> Result<Vec<(usize, KeptChange)>, Memory>
     requires indexed { IsIndexOf index.now arena.now.tree }
     requires walk { IsSomeWalk table.now index.now former.now stops.now arena.now.tree told board.now.held }
     ensures renewal { IfOk result (λ changes. (walk : IsSomeWalk table.now index.now former.now stops.now arena.now.tree told board.now.held) → Renews board.now.held (all_kept_of table.now (known_targets table.now arena.now.tree (said_of walk.is)) walk.is) changes.items) }

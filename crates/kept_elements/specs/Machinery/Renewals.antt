@@ -23,6 +23,7 @@ use Rattle.referring_elements.specs.Found.{is_named}
 use Rattle.surroundings.specs.declared.told.Told.{Told}
 use Rattle.kept_elements.specs.declared.flat_texts.FlatTexts.{FlatTexts}
 use Rattle.kept_elements.specs.declared.kept.Kept.{Kept}
+use Rattle.kept_elements.specs.declared.kept_change.KeptChange.{KeptChange}
 use Rattle.kept_elements.specs.Changes.{AreChanges}
 use Rattle.kept_elements.specs.Evaluations.{kept_of}
 use Rattle.kept_elements.specs.Known.{all_flat_texts_of, flat_in}
@@ -129,7 +130,7 @@ module _ (document : Forest (Keyed Node)) (table : List CounterStyle) (held : Fi
     known_again = renewed_known document (kept_at full) (kept_at (all_flat_texts_of table known_below flat)) (held_of targets held)
 
   -- these come to what is held
-  pub record IsRenewal (changes : List (ℕ × Kept)) : Type 0 where
+  pub record IsRenewal (changes : List (ℕ × KeptChange)) : Type 0 where
     pub keys : List ℕ
     pub targets : List ℕ
     pub once : IsDistinct nat_eq keys

@@ -1,6 +1,7 @@
 use Rattle.std.proofs.Common.{◌≡◌, ◌+◌, ◌++◌, ◌∷◌, [], ◌∙◌, ℕ, List, Some, ap, sym, subst, arith, take}
 use Rattle.kept_elements.specs.declared.kept.Kept.{Kept}
-use Rattle.kept_elements.specs.Changes.{AreChanges}
+use Rattle.kept_elements.specs.declared.kept_change.KeptChange.{KeptChange}
+use Rattle.kept_elements.specs.Changes.{AreChanges, change_from}
 use Rattle.kept_elements.specs.Evaluations.{all_kept_of, kept_of}
 use Rattle.kept_elements.proofs.ChangeLemmas.{change_more, none_more}
 use Rattle.kept_elements.proofs.node_texts.changed_entries.Goals as goal
@@ -20,13 +21,13 @@ loop-key-preserved g c =
     record {
       changes = elim c.match-unless_held.branch [
         | in-Some+in_ok-push w ↦
-            let pushed : c.match-unless_held.changes.items ≡ before ++ (entry.0, make entry.1) ∷ [] =
-            ap (λ v. v.items) w.changes-is ∙ w.in_ok-push.ensures.ok ∙ ap (λ (kept : Kept). before ++ (entry.0, kept) ∷ []) (w.in-Some.ensures.some.0 ∙ same) in
-            subst (λ (changes : List (ℕ × Kept)). AreChanges held all changes) (sym pushed)
+            let pushed : c.match-unless_held.changes.items ≡ before ++ (entry.0, change_from held entry.0 (make entry.1)) ∷ [] =
+            ap (λ v. v.items) w.changes-is ∙ w.in_ok-push.ensures.ok ∙ ap (λ (change : KeptChange). before ++ (entry.0, change) ∷ []) (w.in-Some.ensures.some.0 ∙ ap (change_from held entry.0) same) in
+            subst (λ (changes : List (ℕ × KeptChange)). AreChanges held all changes) (sym pushed)
             (change_more make records place entry c.loop-key-test.true c.loop-key-item.is held before c.loop-key.invariant.changes (λ there. w.in-Some.ensures.some.1 (there ∙ ap Some (sym same))))
         | in_default w ↦
             let kept : c.match-unless_held.changes.items ≡ before = ap (λ v. v.items) w.changes-is in
-            subst (λ (changes : List (ℕ × Kept)). AreChanges held all changes) (sym kept)
+            subst (λ (changes : List (ℕ × KeptChange)). AreChanges held all changes) (sym kept)
             (none_more make records place entry c.loop-key-test.true c.loop-key-item.is held before c.loop-key.invariant.changes (w.in_default.ensures.none ∙ ap Some same))
       ];
       steps = omega arith;

@@ -3,7 +3,8 @@ use Rattle.std.specs.HashMap.{get}
 use Rattle.std.specs.Option.{option_map_or}
 use Rattle.surroundings.specs.declared.told.Told.{Told}
 use Rattle.kept_elements.specs.declared.kept.Kept.{Kept}
-use Rattle.kept_elements.specs.Changes.{AreChanges}
+use Rattle.kept_elements.specs.declared.kept_change.KeptChange.{KeptChange}
+use Rattle.kept_elements.specs.Changes.{AreChanges, change_from}
 use Rattle.kept_elements.specs.Evaluations.{kept_of}
 use Rattle.kept_elements.specs.Machinery.Renewals.{renewed_kept}
 use Rattle.kept_elements.proofs.RenewedLoops.{held_told, new_told, none_told}
@@ -24,15 +25,15 @@ loop-key-preserved g c =
     let f : ℕ → List (ℕ × Kept) = λ key. option_map_or (λ (one : Told). (key, kept_of c.args.table.now known one) ∷ []) (told key) [] in
     elim c.match-get.branch [
       | in-Some+in_ok-kept+in-Some-unless_held+in_ok-push w ↦
-          let its : f key ≡ (key, w.in-Some-unless_held.kept) ∷ [] =
+          let its : f key ≡ (key, w.in_ok-kept.kept) ∷ [] =
           ap made (ap option_copied (sym c.get.ensures.value ∙ ap option_copied w.in-Some.is))
-          ∙ ap (λ (kept : Kept). (key, kept) ∷ []) (sym w.in_ok-kept.ensures.kept ∙ sym w.in-Some-unless_held.ensures.some.0) in
-          let pushed : c.match-get.changes.items ≡ before ++ (key, w.in-Some-unless_held.kept) ∷ [] =
-          ap (λ v. v.items) w.changes-is ∙ w.in_ok-push.ensures.ok in
+          ∙ ap (λ (kept : Kept). (key, kept) ∷ []) (sym w.in_ok-kept.ensures.kept) in
+          let pushed : c.match-get.changes.items ≡ before ++ (key, change_from held key w.in_ok-kept.kept) ∷ [] =
+          ap (λ v. v.items) w.changes-is ∙ w.in_ok-push.ensures.ok ∙ ap (λ (change : KeptChange). before ++ (key, change) ∷ []) w.in-Some-unless_held.ensures.some.0 in
           record {
-            changes = subst (λ (changes : List (ℕ × Kept)). AreChanges held all changes) (sym pushed)
-                (new_told f keys place c.loop-key-test.true held before c.loop-key.invariant.changes w.in-Some-unless_held.kept its
-                (λ there. w.in-Some-unless_held.ensures.some.1 (there ∙ ap (λ (kept : Kept). Some kept) w.in-Some-unless_held.ensures.some.0)));
+            changes = subst (λ (changes : List (ℕ × KeptChange)). AreChanges held all changes) (sym pushed)
+                (new_told f keys place c.loop-key-test.true held before c.loop-key.invariant.changes w.in_ok-kept.kept its
+                w.in-Some-unless_held.ensures.some.1);
             steps = omega (arith, c.loop-key.invariant.steps, w.unless_held.ensures.step, w.steps-is);
           }
       | in-Some+in_ok-kept+in_default-unless_held w ↦
@@ -40,14 +41,14 @@ loop-key-preserved g c =
           ap made (ap option_copied (sym c.get.ensures.value ∙ ap option_copied w.in-Some.is))
           ∙ ap (λ (kept : Kept). (key, kept) ∷ []) (sym w.in_ok-kept.ensures.kept) in
           record {
-            changes = subst (λ (changes : List (ℕ × Kept)). AreChanges held all changes) (sym (ap (λ v. v.items) w.changes-is))
+            changes = subst (λ (changes : List (ℕ × KeptChange)). AreChanges held all changes) (sym (ap (λ v. v.items) w.changes-is))
                 (held_told f keys place c.loop-key-test.true held before c.loop-key.invariant.changes w.in_ok-kept.kept its w.in_default-unless_held.ensures.none);
             steps = omega (arith, c.loop-key.invariant.steps, w.unless_held.ensures.step, w.steps-is);
           }
       | in_default w ↦
           let its : f key ≡ [] = ap made (ap option_copied (sym c.get.ensures.value ∙ ap option_copied w.in_default.is)) in
           record {
-            changes = subst (λ (changes : List (ℕ × Kept)). AreChanges held all changes) (sym (ap (λ v. v.items) w.changes-is))
+            changes = subst (λ (changes : List (ℕ × KeptChange)). AreChanges held all changes) (sym (ap (λ v. v.items) w.changes-is))
                 (none_told f keys place c.loop-key-test.true held before c.loop-key.invariant.changes its);
             steps = omega (arith, c.loop-key.invariant.steps, w.steps-is);
           }
