@@ -16,7 +16,7 @@ use Rattle.merged_walk.proofs.EntryLaws.{contains-first}
 use Rattle.merged_walk.proofs.LawLemmas.{changes_are_enough}
 use Rattle.kept_elements.specs.declared.kept.Kept.{Kept}
 use Rattle.kept_elements.specs.declared.kept_change.KeptChange.{KeptChange}
-use Rattle.kept_elements.specs.Changes.{AreBelow, AreChanges, Renews, change_from, puts_of}
+use Rattle.kept_elements.specs.Changes.{AreBelow, AreChanges, Renews, puts_of}
 use Rattle.kept_elements.proofs.ChangeLemmas.{HasKeysOnce, get-put_all, get-take_all, has_key}
 
 module _ {A : Type 0} where

@@ -1,4 +1,4 @@
-use Rattle.std.proofs.Common.{◌≡◌, ◌+◌, ◌++◌, ◌∷◌, [], ◌∙◌, ℕ, List, Option, Some, ap, sym, subst, arith, get_or, nat_eq, option_copied, take}
+use Rattle.std.proofs.Common.{◌≡◌, ◌+◌, ◌++◌, ◌∷◌, [], ◌∙◌, ℕ, List, Option, ap, sym, subst, arith, get_or, nat_eq, option_copied, take}
 use Rattle.std.specs.HashMap.{get}
 use Rattle.std.specs.Option.{option_map_or}
 use Rattle.surroundings.specs.declared.told.Told.{Told}
