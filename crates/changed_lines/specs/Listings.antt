@@ -13,7 +13,7 @@ use Rattle.edit_work.specs.KeyedSources.{KeyedSource}
 use Rattle.changed_lines.specs.declared.changed_line.ChangedLine.{ChangedLine}
 use Rattle.changed_lines.specs.Changes.{entry_in, lines_between}
 
--- all lines of a document, as an edit would change them before which nothing was there
+-- all lines of a document, as they are told to one who was shown nothing of it before
 abbrev pub lines_from_nothing : KeyedSource → List ChangedLine
 lines_from_nothing source = lines_between source.tree (λ _. None) (entry_in source)
 

@@ -11,7 +11,8 @@
 //! | `Changes.antt` | which lines an edit changes |
 //! | `Replays.antt` | which text a box has once changed lines are put in |
 //! | `Dumps.antt` | where the lines of a dump stand once an edit has moved their elements, and the lines with the changed ones put in |
-//! | `Laws.antt` | that these are the dump after the edit, and that only elements of which something else is kept need be looked at |
+//! | `Listings.antt` | in which order all lines of a document are told, where nothing of it was shown before |
+//! | `Laws.antt` | that the lines with the changed ones put in are the dump after the edit; that only elements of which something else is kept need be looked at; and that all lines are those of the dump |
 //!
 //! The layers above know it by `changed_lines` (`Changes.antt`). A [`changed_line::ChangedLine`] has the place of its
 //! element in the document after the edit, the kind of its box and the text that it shows now, or none where the box is
