@@ -23,9 +23,10 @@ use Rattle.generated_texts.proofs.EntryKeys.{elements_keys}
 use Rattle.merged_walk.specs.Entries.{last_at}
 use Rattle.snapshot_board.specs.Records.{take_all}
 use Rattle.kept_elements.specs.declared.kept.Kept.{Kept}
+use Rattle.kept_elements.specs.Changes.{entry_at, puts_of}
 use Rattle.kept_elements.proofs.ChangeLemmas.{get-put_all, get-take_all}
 use Rattle.dirty_walk.specs.declared.plan.Plan.{Plan}
-use Rattle.dirty_walk.specs.Books.{StyledDocument, entry_at, fresh_entry}
+use Rattle.dirty_walk.specs.Books.{StyledDocument, fresh_entry}
 use Rattle.dirty_walk.specs.Exchanges.{elements_in, leaving, taken_keys}
 use Rattle.dirty_walk.specs.PlannedEntries.{IsPlannedFrom, put_entry}
 use Rattle.dirty_walk.specs.Plans.{IsPlannedBy, settled_after}
@@ -94,14 +95,14 @@ module _ (edit : Edit) (old book : StyledDocument) (plan : Plan) (from : IsPlann
   unfolding IsPlannedBy settled_after
   planned_entry =
       put_over
-      (last_at plan.puts.items key)
+      (last_at (puts_of plan.puts.items) key)
       (list_any (nat_eq key) plan.takes)
       (get book.kept key)
       (fresh_entry old key)
       (fresh_entry (settled_after book plan) key)
       (sym
       (ap (option_map (λ (kept : Kept). kept.entry))
-      (get-put_all plan.puts.items (take_all plan.takes book.kept) key ∙ ap (option_or (last_at plan.puts.items key)) (get-take_all plan.takes book.kept key)))
+      (get-put_all (puts_of plan.puts.items) (take_all plan.takes book.kept) key ∙ ap (option_or (last_at (puts_of plan.puts.items) key)) (get-take_all plan.takes book.kept key)))
       ∙ keeps_entries (settled_after book plan) from.done.after.distinct from.planned.1 key)
       (ap (λ (held : FinMap nat_cmp Kept). entry_at held key) from.kept ∙ from.keeps key)
       none_before

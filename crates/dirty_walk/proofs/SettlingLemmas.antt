@@ -11,12 +11,13 @@ use Rattle.plain_types.specs.declared.node.Node.{Node}
 use Rattle.plain_types.specs.declared.sheet.Sheet.{Sheet}
 use Rattle.node_arena.specs.Nodes.{name_of}
 use Rattle.kept_elements.specs.declared.kept.Kept.{Kept}
+use Rattle.kept_elements.specs.declared.kept_change.KeptChange.{KeptChange}
 use Rattle.generated_texts.specs.References.{kept_at}
 use Rattle.generated_texts.specs.StyleElements.{author_sheet}
 use Rattle.document_walk.specs.Elements.{element_count}
 use Rattle.snapshot_board.specs.Records.{put_all, take_all}
 use Rattle.dirty_walk.specs.Books.{HasRoomFor}
-use Rattle.kept_elements.specs.Changes.{AreBelow, Renews}
+use Rattle.kept_elements.specs.Changes.{AreBelow, Renews, puts_of}
 use Rattle.kept_elements.specs.Evaluations.{document_kept}
 use Rattle.edit_merge.specs.Laws.{IsDone}
 use Rattle.dirty_walk.specs.Exchanges.{elements_in, leaving, taken_keys}
@@ -29,7 +30,7 @@ use Rattle.kept_elements.proofs.ToldLemmas.{kept_count, kept_keys, kept_once}
 -- An edit makes one document of another, and other texts of its sheet. A map keeps what an evaluation of the old one does.
 -- The changes come to it, and the keys of the elements that are gone go.
 module _ (edit : Edit) (old new : Forest (Keyed Node)) (done : IsDone edit old new) (text new_text : List ℕ) (held : FinMap nat_cmp Kept)
-    (changes : List (ℕ × Kept)) (takes : List ℕ)
+    (changes : List (ℕ × KeptChange)) (takes : List ℕ)
     (keeps : (key : ℕ) → get held key ≡ kept_at (document_kept (author_sheet text old) old) key)
     (are : Renews held (document_kept (author_sheet new_text new) new) changes)
     (taken : takes ≡ taken_keys edit (elements_in (leaving edit old))) where
@@ -48,12 +49,12 @@ module _ (edit : Edit) (old new : Forest (Keyed Node)) (done : IsDone edit old n
   is : (key : ℕ) → is_some (kept_at all key) ≡ is_some (name_of new key)
   is key = kept_keys author new done.after.distinct key
 
-  pub keeps_all : (key : ℕ) → get (put_all changes (take_all takes held)) key ≡ kept_at (document_kept (author_sheet new_text new) new) key
+  pub keeps_all : (key : ℕ) → get (put_all (puts_of changes) (take_all takes held)) key ≡ kept_at (document_kept (author_sheet new_text new) new) key
   keeps_all =
       settles held (λ key. is_some (name_of old key)) (λ key. is_some (name_of new key)) all changes once are was is takes
       (λ key. ap (λ keys. list_any (nat_eq key) keys) taken ∙ takes_are edit old new done key)
 
-  pub of_elements : AreOfElements new changes
+  pub of_elements : AreOfElements new (puts_of changes)
   of_elements = are_of held (λ key. is_some (name_of old key)) (λ key. is_some (name_of new key)) all changes once are was is
 
   pub has_room : (room more : ℕ) → HasRoomFor room old → room ≤ more → AreBelow more changes → HasRoomFor more new
@@ -70,6 +71,6 @@ module _ (edit : Edit) (old new : Forest (Keyed Node)) (done : IsDone edit old n
   few = omega (arith, few_puts, ap length taken, taken_count edit old)
 
 -- what is of elements has the room that these have
-pub below_of : (tree : Forest (Keyed Node)) (room more : ℕ) (puts : List (ℕ × Kept)) → more ≡ room → HasRoomFor room tree → AreOfElements tree puts → AreBelow more puts
+pub below_of : (tree : Forest (Keyed Node)) (room more : ℕ) (changes : List (ℕ × KeptChange)) → more ≡ room → HasRoomFor room tree → AreOfElements tree (puts_of changes) → AreBelow more changes
 below_of tree room more [] same has are = tt
-below_of tree room more (put ∷ puts) same has are = (let low : put.0 < room = has put.0 are.0 in omega (arith, low, same), below_of tree room more puts same has are.1)
+below_of tree room more (change ∷ changes) same has are = (let low : change.0 < room = has change.0 are.0 in omega (arith, low, same), below_of tree room more changes same has are.1)

@@ -52,6 +52,7 @@ use Rattle.target_index.specs.declared.index.Index.{Index}
 use Rattle.referring_elements.specs.declared.former.FormerTarget.{FormerTarget}
 use Rattle.referring_elements.specs.Indexes.{TellsReferences}
 use Rattle.kept_elements.specs.declared.kept.Kept.{Kept}
+use Rattle.kept_elements.specs.declared.kept_change.KeptChange.{KeptChange}
 use Rattle.kept_elements.specs.Changes.{Renews}
 use Rattle.kept_elements.specs.Evaluations.{all_kept_of, document_kept, document_told, evaluated_document, said_of}
 use Rattle.kept_elements.specs.Renewals.{IsSomeWalk, TellsOfWalk, kept_in}
@@ -271,7 +272,7 @@ module _ (document : StyledArena) (is_agent : document.agent.now ≡ agent_sheet
       }
 
       -- what comes by it is what a fresh evaluation has
-      pub walk_renews : (changes : List (ℕ × Kept))
+      pub walk_renews : (changes : List (ℕ × KeptChange))
           → ((walk : IsSomeWalk document.styles.now.table index former stops tree news held)
           → Renews held (all_kept_of document.styles.now.table (known_targets document.styles.now.table tree (said_of walk.is)) walk.is) changes)
           → Renews held (document_kept its_author tree) changes

@@ -1,5 +1,5 @@
 -- What a book stands for, and what it keeps (our own).
-use Rattle.std.specs.Prelude.{◌≡◌, ◌<◌, ℕ, Bool, true, List, Option, Some, None, IfSome, IsSome, option_map, refl}
+use Rattle.std.specs.Prelude.{◌≡◌, ◌<◌, ℕ, Bool, true, List, Option, Some, None, IfSome, IsSome, refl}
 use Rattle.std.specs.Ordering.{nat_cmp}
 use Rattle.std.specs.FinMap.{FinMap, code, get}
 use Rattle.std.specs.Coded.{Coded, code_by, coded×, coded_bool, coded_list, coded_ℕ}
@@ -20,6 +20,7 @@ use Rattle.snapshot_board.specs.Records.{Records}
 use Rattle.target_index.specs.declared.index.Index.{Index}
 use Rattle.dirty_walk.specs.declared.document_styles.DocumentStyles.{DocumentStyles}
 use Rattle.kept_elements.specs.declared.kept.Kept.{Kept}
+use Rattle.kept_elements.specs.Changes.{entry_at}
 use Rattle.dirty_walk.specs.DocumentStyles.{document_styles}
 use Rattle.kept_elements.specs.Evaluations.{document_kept, evaluated_document}
 use Rattle.referring_elements.specs.Indexes.{IsIndexOf, TellsReferences}
@@ -41,10 +42,6 @@ coded_styled_document node kept =
     (λ styled. (styled.tree, (styled.sheet, (styled.settled, styled.kept))))
     (λ (tree, rest). record { tree = tree; sheet = rest.0; settled = rest.1.0; kept = rest.1.1 })
     (λ _. refl)
-
--- the entry that is kept under a key
-abbrev pub entry_at : FinMap nat_cmp Kept → ℕ → Option NodeEntry
-entry_at held key = option_map (λ (kept : Kept). kept.entry) (get held key)
 
 -- the entry of the element of this key by a fresh evaluation; a text has none
 abbrev pub fresh_entry : StyledDocument → ℕ → Option NodeEntry

@@ -7,13 +7,14 @@ use Rattle.edit_merge.specs.Laws.{IsDone}
 use Rattle.generated_texts.specs.declared.entry.NodeEntry.{NodeEntry}
 use Rattle.merged_walk.specs.Entries.{last_at}
 use Rattle.kept_elements.specs.declared.kept.Kept.{Kept}
+use Rattle.kept_elements.specs.Changes.{puts_of}
 use Rattle.dirty_walk.specs.declared.plan.Plan.{Plan}
 use Rattle.dirty_walk.specs.Books.{fresh_entry, Keeps, StyledDocument}
 use Rattle.dirty_walk.specs.Plans.{IsPlannedBy, settled_after}
 
 -- the entry that the plan puts under a key: of a key that comes twice the last, which stays
 abbrev pub put_entry : Plan → ℕ → Option NodeEntry
-put_entry plan key = option_map (λ (kept : Kept). kept.entry) (last_at plan.puts.items key)
+put_entry plan key = option_map (λ (kept : Kept). kept.entry) (last_at (puts_of plan.puts.items) key)
 
 -- the plan is that of an edit of a book that kept what a fresh evaluation does, and keeps it still
 pub record IsPlannedFrom (edit : Edit) (old book : StyledDocument) (plan : Plan) : Type 0 where

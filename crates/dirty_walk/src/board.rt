@@ -2,9 +2,10 @@
 
 ghost use Rattle.std.specs.Prelude.{◌≡◌, ◌+◌, length, IfOk};
 ghost use Rattle.snapshot_board.specs.Records.{put_all, take_all};
-ghost use Rattle.kept_elements.specs.Changes.{AreBelow};
+ghost use Rattle.kept_elements.specs.Changes.{AreBelow, puts_of};
 
 use kept_elements::kept::Kept;
+use kept_elements::kept_change::KeptChange;
 use plain_types::memory::Memory;
 use snapshot_board::board::Board;
 use std::sync::ledger::Ledger;
@@ -36,15 +37,15 @@ pub(crate) fn take_entries<L: Ledger>(board: &mut Board<Kept>, keys: &[usize], s
 /// Puts what comes on the board, which has room for it. It is a step for each.
 pub(crate) fn put_changes<L: Ledger>(
     board: &mut Board<Kept>,
-    changes: Vec<(usize, Kept)>,
+    changes: Vec<(usize, KeptChange)>,
     steps: &mut Steps<L>,
 )
     requires room { AreBelow board.old.room changes.items }
-    ensures held { board.new.held ≡ put_all changes.items board.old.held }
+    ensures held { board.new.held ≡ put_all (puts_of changes.items) board.old.held }
     ensures room { board.new.room ≡ board.old.room }
     ensures steps { steps.new ≡ steps.old + length changes.items }
 {
-    for (key, kept) in changes {
-        board.put(key, kept, steps);
+    for (key, change) in changes {
+        board.put(key, change.kept, steps);
     }
 }

@@ -24,6 +24,7 @@ use document_walk::sources::Sources;
 use kept_elements::by_key::by_key;
 use kept_elements::flat_texts::{FlatTexts, all_flat_texts};
 use kept_elements::kept::Kept;
+use kept_elements::kept_change::KeptChange;
 use kept_elements::node_texts::{changed_entries, put_entries};
 use mini_cascade::rule_table::RuleTable;
 use node_arena::arena::Arena;
@@ -203,7 +204,7 @@ fn changes_with<L: Ledger>(
     flats: &[(usize, FlatTexts)],
     board: &Board<Kept>,
     steps: &mut Steps<L>,
-) -> Result<Vec<(usize, Kept)>, Memory>
+) -> Result<Vec<(usize, KeptChange)>, Memory>
     requires kept { IsKeptIn records_by_key.now records.now }
     ensures changes { IfOk result (λ changes. AreChanges board.now.held (all_kept_of table.now (known_by named.now.arena.now.tree records.now flats.now) records.now) changes.items) }
     ensures steps { steps.new ≤ steps.old + length records.now }
@@ -228,7 +229,7 @@ pub(crate) fn document_changes<L: Ledger>(
     records: &[(usize, Told)],
     board: &Board<Kept>,
     steps: &mut Steps<L>,
-) -> Result<Vec<(usize, Kept)>, Memory>
+) -> Result<Vec<(usize, KeptChange)>, Memory>
     requires indexed { IsIndexOf index.now arena.now.tree }
     ensures changes { IfOk result (λ changes. AreChanges board.now.held (all_kept_of table.now (known_targets table.now arena.now.tree (said_of records.now)) records.now) changes.items) }
     ensures steps { steps.new ≤ steps.old + length records.now }

@@ -20,6 +20,7 @@ use crate::styled_arena::StyledArena;
 use crate::unstarted::are_unstarted;
 use css_reader::sheet::read_sheet;
 use kept_elements::kept::Kept;
+use kept_elements::kept_change::KeptChange;
 use mini_cascade::agent_sheet::AGENT_SHEET;
 use mini_cascade::rule_table::RuleTable;
 use node_arena::arena::Arena;
@@ -127,7 +128,7 @@ pub(crate) fn fresh_changes<L: Ledger>(
     document: &StyledArena,
     board: &mut Board<Kept>,
     steps: &mut Steps<L>,
-) -> Result<Fresh<Vec<(usize, Kept)>>, Memory>
+) -> Result<Fresh<Vec<(usize, KeptChange)>>, Memory>
     ensures changes { IfOk result (λ made. Renews board.old.held (document_kept (author_sheet document.now.styles.now.sheet document.now.arena.now.tree) document.now.arena.now.tree) made.kept.items) }
     ensures indexed { IfOk result (λ made. IsIndexOf made.index document.now.arena.now.tree) }
     ensures refers { IfOk result (λ made. TellsReferences made.index (evaluated_document (author_sheet document.now.styles.now.sheet document.now.arena.now.tree) document.now.arena.now.tree)) }

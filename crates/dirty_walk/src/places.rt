@@ -36,6 +36,7 @@ use box_eval::starts::NoStarts;
 use document_walk::catch_up::{CaughtUp, catch_up};
 use document_walk::sources::Sources;
 use kept_elements::kept::Kept;
+use kept_elements::kept_change::KeptChange;
 use kept_elements::news::news_of;
 use kept_elements::renewed_texts::walked_entries;
 use merged_walk::stop::Stop;
@@ -123,7 +124,7 @@ fn walked_changes<L: Ledger>(
     told: List<(usize, Told)>,
     board: &mut Board<Kept>,
     steps: &mut Steps<L>,
-) -> Result<Vec<(usize, Kept)>, Memory>
+) -> Result<Vec<(usize, KeptChange)>, Memory>
     requires indexed { IsIndexOf index.now document.now.arena.now.tree }
     requires walk { IsSomeWalk document.now.styles.now.table index.now former.now stops.now document.now.arena.now.tree told board.old.held }
     ensures renewal { IfOk result (λ changes. (walk : IsSomeWalk document.now.styles.now.table index.now former.now stops.now document.now.arena.now.tree told board.old.held) → Renews board.old.held (all_kept_of document.now.styles.now.table (known_targets document.now.styles.now.table document.now.arena.now.tree (said_of walk.is)) walk.is) changes.items) }
@@ -163,7 +164,7 @@ fn changes_by_news<L: Ledger>(
     news: List<(usize, Told)>,
     board: &mut Board<Kept>,
     steps: &mut Steps<L>,
-) -> Result<Vec<(usize, Kept)>, Memory>
+) -> Result<Vec<(usize, KeptChange)>, Memory>
     requires place { IsSomePlaceRead document.now.styles.now.sheet board.old.held stops.now document.now.arena.now.tree ahead.now index.old }
     requires indexed { IsIndexOf index.old document.now.arena.now.tree }
     requires news { AreNewsFrom document.now board.old.held stops.now news }
@@ -250,7 +251,7 @@ pub(crate) fn changes_from_place<L: Ledger>(
     board: &mut Board<Kept>,
     stops: &[Stop],
     steps: &mut Steps<L>,
-) -> Result<Option<Vec<(usize, Kept)>>, Memory>
+) -> Result<Option<Vec<(usize, KeptChange)>>, Memory>
     requires place { IsSomePlaceRead document.now.styles.now.sheet board.old.held stops.now document.now.arena.now.tree ahead.now index.old }
     requires indexed { IsIndexOf index.old document.now.arena.now.tree }
     ensures refers { IfOk result (λ found. IfSome found (λ _. TellsReferences index.new (evaluated_document (author_sheet document.now.styles.now.sheet document.now.arena.now.tree) document.now.arena.now.tree))) }

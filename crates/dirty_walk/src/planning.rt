@@ -26,6 +26,7 @@ use crate::read_ahead::ReadAhead;
 use crate::style_elements::style_texts;
 use crate::styled_arena::StyledArena;
 use kept_elements::kept::Kept;
+use kept_elements::kept_change::KeptChange;
 use node_arena::arena::Arena;
 use plain_types::duplicate::Duplicate;
 use plain_types::edit::Edit;
@@ -72,7 +73,7 @@ pub(crate) struct Renewal {
     /// The index, where it is made anew.
     pub(crate) index: Option<Index>,
     /// What comes to the board.
-    pub(crate) changes: Vec<(usize, Kept)>,
+    pub(crate) changes: Vec<(usize, KeptChange)>,
     /// Whether no element asks for the start of a reversed counter.
     pub(crate) is_unstarted: bool,
 }

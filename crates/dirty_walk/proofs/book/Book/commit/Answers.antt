@@ -7,6 +7,7 @@ use Rattle.node_arena.specs.declared.reversal.Reversal.{Reversal}
 use Rattle.node_arena.specs.Reversals.{IsCommitted, IsReversal}
 use Rattle.node_arena.proofs.KeyLaws.{settled}
 use Rattle.snapshot_board.specs.Records.{put_all, take_all}
+use Rattle.kept_elements.specs.Changes.{puts_of}
 use Rattle.dirty_walk.specs.Books.{StyledDocument, HasRoomFor, UsesItsKeys}
 use Rattle.dirty_walk.specs.DocumentStyles.{document_styles}
 use Rattle.dirty_walk.specs.Plans.{IsPlannedBy, settled_after}
@@ -30,7 +31,7 @@ invariant_of-self g c =
     let plan = c.args.plan in
     let held =
     c.put_changes.ensures.held
-    ∙ ap (put_all plan.puts.items)
+    ∙ ap (put_all (puts_of plan.puts.items))
     (c.take_entries.ensures.held ∙ ap (λ (keys : List ℕ). take_all keys c.self.inside.board.held) c.as_slice.ensures.items ∙ ap (λ (styled : StyledDocument). take_all plan.takes styled.kept) c.self.view_is) in
     let same = c.settle.ensures.tree in
     record {
@@ -62,7 +63,7 @@ invariant_of-self-in_default g c =
     let plan = c.args.plan in
     let held =
     c.put_changes.ensures.held
-    ∙ ap (put_all plan.puts.items)
+    ∙ ap (put_all (puts_of plan.puts.items))
     (c.take_entries.ensures.held ∙ ap (λ (keys : List ℕ). take_all keys c.self.inside.board.held) c.as_slice.ensures.items ∙ ap (λ (styled : StyledDocument). take_all plan.takes styled.kept) c.self.view_is) in
     record {
       agent_is = c.self.invariant.agent_is;
@@ -91,7 +92,7 @@ returns-in-Some g c =
     let plan = c.args.plan in
     let held =
     c.put_changes.ensures.held
-    ∙ ap (put_all plan.puts.items)
+    ∙ ap (put_all (puts_of plan.puts.items))
     (c.take_entries.ensures.held ∙ ap (λ (keys : List ℕ). take_all keys c.self.inside.board.held) c.as_slice.ensures.items ∙ ap (λ (styled : StyledDocument). take_all plan.takes styled.kept) c.self.view_is) in
     let tree = c.settle.ensures.tree ∙ ap (λ (styled : StyledDocument). styled.tree) c.self.view_is in
     let distinct = subst (λ (document : Forest (Keyed Node)). HasDistinctKeys document) (sym c.settle.ensures.tree) c.arena_holds_document.ensures.document.distinct in
@@ -108,7 +109,7 @@ returns g c =
     let plan = c.args.plan in
     let held =
     c.put_changes.ensures.held
-    ∙ ap (put_all plan.puts.items)
+    ∙ ap (put_all (puts_of plan.puts.items))
     (c.take_entries.ensures.held ∙ ap (λ (keys : List ℕ). take_all keys c.self.inside.board.held) c.as_slice.ensures.items ∙ ap (λ (styled : StyledDocument). take_all plan.takes styled.kept) c.self.view_is) in
     let tree = ap (λ (styled : StyledDocument). styled.tree) c.self.view_is in
     let distinct = c.arena_holds_document.ensures.document.distinct in

@@ -5,7 +5,8 @@ use Rattle.forest.specs.Keys.{Keyed, HasDistinctKeys}
 use Rattle.plain_types.specs.declared.node.Node.{Node}
 use Rattle.generated_texts.specs.StyleElements.{author_sheet}
 use Rattle.kept_elements.specs.declared.kept.Kept.{Kept}
-use Rattle.dirty_walk.specs.Books.{StyledDocument, entry_at, fresh_kept}
+use Rattle.kept_elements.specs.Changes.{entry_at}
+use Rattle.dirty_walk.specs.Books.{StyledDocument, fresh_kept}
 use Rattle.kept_elements.proofs.KeptLemmas.{copied_some}
 use Rattle.kept_elements.proofs.ToldLemmas.{entry_in, kept_keys}
 use Rattle.dirty_walk.proofs.book.Book.entry.Goals as goal

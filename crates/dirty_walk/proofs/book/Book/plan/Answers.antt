@@ -16,7 +16,7 @@ use Rattle.document_walk.specs.Elements.{element_count}
 use Rattle.snapshot_board.specs.Records.{put_all, take_all}
 use Rattle.kept_elements.specs.declared.kept.Kept.{Kept}
 use Rattle.dirty_walk.specs.Books.{StyledDocument}
-use Rattle.kept_elements.specs.Changes.{AreOthers}
+use Rattle.kept_elements.specs.Changes.{AreOthers, TellShown, puts_of}
 use Rattle.kept_elements.specs.Evaluations.{document_kept, evaluated_document}
 use Rattle.target_index.specs.declared.index.Index.{Index}
 use Rattle.referring_elements.specs.Indexes.{IsIndexOf, TellsReferences}
@@ -147,12 +147,14 @@ returns-in-Ok-clause-planned g c =
     let kept = c.self.invariant.kept none in (
       refl,
       λ key.
-          ap (λ (map : FinMap nat_cmp Kept). get (put_all puts (take_all takes map)) key) c.evaluated.ensures.held
+          ap (λ (map : FinMap nat_cmp Kept). get (put_all (puts_of puts) (take_all takes map)) key) c.evaluated.ensures.held
           ∙ keeps_all c.args.edit.now old tree done before text held puts takes kept c.in-Ok.ensures.changes taken key
           ∙ ap (λ (text : List ℕ). kept_at (document_kept (author_sheet text tree) tree) key) (sym sheet),
       of_elements c.args.edit.now old tree done before text held puts takes kept c.in-Ok.ensures.changes taken,
-      subst (λ (map : FinMap nat_cmp Kept). AreOthers map puts) (sym c.evaluated.ensures.held)
+      subst (λ (map : FinMap nat_cmp Kept). AreOthers map (puts_of puts)) (sym c.evaluated.ensures.held)
           c.in-Ok.ensures.changes.others,
+      subst (λ (map : FinMap nat_cmp Kept). TellShown map puts) (sym c.evaluated.ensures.held)
+          c.in-Ok.ensures.changes.shown,
     )
 
 pub returns-in-Ok-clause-kept : goal.returns-in-Ok-clause-kept
