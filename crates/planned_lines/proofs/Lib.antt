@@ -1,3 +1,4 @@
+pub mod LookedUp
 pub mod PlannedLines
 pub mod PutLemmas
 pub mod SpanLemmas

@@ -1,22 +1,17 @@
 -- What is told of the nodes of a document, where only those of a span tell something.
-use Rattle.std.proofs.Common.{◌≡◌, ◌==◌, ◌<◌, ◌≤◌, ◌+◌, ◌∙◌, ◌++◌, ◌⊎◌, ℕ, zero, suc, Bool, false, cond, List, [], ◌∷◌, Option, Some, None, flat_map, option_map, slice_get, take, refl, sym, ap, subst, inl, inr, arith}
-use Rattle.std.proofs.lemmas.Bool.{cases_Bool, false≢true}
-use Rattle.std.specs.FinMap.{FinMap}
+use Rattle.std.proofs.Common.{◌≡◌, ◌<◌, ◌≤◌, ◌+◌, ◌++◌, ◌⊎◌, ℕ, zero, suc, Bool, true, false, cond, List, [], ◌∷◌, Option, Some, None, flat_map, slice_get, take, refl, sym, ap, subst, inl, inr, arith}
 use Rattle.std.specs.Prelude.{IfSome}
-use Rattle.std.specs.Option.{option_or}
-use Rattle.std.specs.Ordering.{nat_cmp}
 use Rattle.forest.specs.Forest.{Forest}
 use Rattle.forest.specs.Keys.{HasDistinctKeys, Keyed, keys}
 use Rattle.forest.specs.Order.{place_of}
 use Rattle.plain_types.specs.declared.node.Node.{Node}
 use Rattle.referring_elements.proofs.WalkLemmas.{place_is}
 use Rattle.merged_walk.specs.Entries.{last_at}
-use Rattle.kept_elements.specs.declared.kept.Kept.{Kept}
-use Rattle.kept_elements.proofs.ChangeLemmas.{has_key, key_of}
-use Rattle.dirty_walk.specs.Books.{entry_at}
+use Rattle.kept_elements.specs.declared.kept_change.KeptChange.{KeptChange}
 use Rattle.planned_lines.specs.declared.span.Span.{Span}
-use Rattle.planned_lines.specs.EntryChanges.{Entries, change_at, entries_of}
+use Rattle.planned_lines.specs.PutLines.{looked_up}
 use Rattle.planned_lines.specs.Spans.{AreWithin, IsWithin}
+use Rattle.planned_lines.proofs.PutLemmas.{last_has}
 
 module _ {A : Type 0} (told : ℕ → List A) where
   -- items in front of a place that tell nothing
@@ -49,23 +44,18 @@ module _ {A : Type 0} (told : ℕ → List A) where
       | inr none ↦ none
     ])
 
--- a node outside a span, in which all stands of which something is put, is none of these
-pub others_none : (tree : Forest (Keyed Node)) (span : Span) (held : FinMap nat_cmp Kept) (puts : List (ℕ × Kept)) → AreWithin tree span puts → (key : ℕ) {change : Option Entries}
-    → change ≡ change_at held puts key → IsWithin tree span key ⊎ (change ≡ None)
-others_none tree span held puts all key {change} is = elim (cases_Bool (has_key key puts)) [
-  | inl there ↦ inl (key_of (IsWithin tree span) puts all key there)
-  | inr absent ↦ inr (is ∙ ap (option_map (entries_of (entry_at held key))) (last_none puts absent))
-]
+-- of a node outside a span, in which all stand that show another text by what is put, nothing is looked up
+pub others_none : (tree : Forest (Keyed Node)) (span : Span) (puts : List (ℕ × KeptChange)) → AreWithin tree span puts → (key : ℕ) {put : Option KeptChange}
+    → put ≡ last_at puts key → IsWithin tree span key ⊎ (looked_up key put ≡ [])
+others_none tree span puts all key {put} is = by put (sym is)
   where
-    none_of : (o : Option Kept) (b : Bool) (one : Kept) → o ≡ None → b ≡ false → option_or o (cond b (Some one) None) ≡ None
-    none_of o b one none other = rw (none, other) refl
-
-    last_none : (some : List (ℕ × Kept)) → has_key key some ≡ false → last_at some key ≡ None
-    last_none [] absent = refl
-    last_none (one ∷ some) absent = elim (cases_Bool (one.0 == key)) [
-      | inl e ↦ absurd (false≢true (sym absent ∙ rw e refl))
-      | inr e ↦ none_of (last_at some key) (one.0 == key) one.1 (last_none some (rw e at absent)) e
-    ]
+    by : (o : Option KeptChange) → last_at puts key ≡ o → IsWithin tree span key ⊎ (looked_up key o ≡ [])
+    by None last = inr refl
+    by (Some change) last = chosen change.shows_other refl
+      where
+        chosen : (b : Bool) → change.shows_other ≡ b → IsWithin tree span key ⊎ (cond b (key ∷ []) [] ≡ [])
+        chosen true shows = inl (last_has (λ k one. one.shows_other ≡ true → IsWithin tree span k) puts all key change last shows)
+        chosen false silent = inr refl
 
 -- what holds of a value that is there
 pub for_some : {A : Type 0} (found : Option A) (value : A) (P : A → Type 0) → found ≡ Some value → P value → IfSome found P

@@ -1,2 +1,2 @@
-pub mod EntryChanges
+pub mod PutLines
 pub mod Spans

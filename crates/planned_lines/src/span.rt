@@ -1,12 +1,13 @@
-//! The part of a document in which a planned edit puts something.
+//! The part of a document in which a planned edit changes lines.
 
-ghost use Rattle.std.specs.Prelude.{◌≡◌, ◌≤◌, ℕ, [], IfNone, IfSome};
+ghost use Rattle.std.specs.Prelude.{◌≤◌, ℕ, IfNone, IfSome};
 ghost use Rattle.forest.specs.Order.{place_of};
 ghost use Rattle.forest.specs.Spots.{IsLive};
 ghost use Rattle.dirty_walk.specs.Plans.{AreOfElements};
-ghost use Rattle.planned_lines.specs.Spans.{HasEnds, IsWithin, AreWithin};
+ghost use Rattle.kept_elements.specs.Changes.{puts_of};
+ghost use Rattle.planned_lines.specs.Spans.{HasEnds, IsWithin, AreWithin, ShowNoOthers};
 
-use kept_elements::kept::Kept;
+use kept_elements::kept_change::KeptChange;
 use node_arena::arena::Arena;
 
 /// The nodes of a document from one to another, in tree order.
@@ -67,17 +68,19 @@ fn wider(arena: &Arena, span: Option<Span>, key: usize) -> Span
     }
 }
 
-/// The least span with all elements of which something is put; none where nothing is. It takes no memory, and for each of
-/// them time linear in the greatest depth of any.
-pub(crate) fn span_of(arena: &Arena, puts: &[(usize, Kept)]) -> Option<Span>
-    requires elements { AreOfElements arena.now.tree puts.now }
+/// The least span with all elements that show another text by what is put; none where none does. It takes no memory, and for
+/// each of them time linear in the greatest depth of any.
+pub(crate) fn span_of(arena: &Arena, puts: &[(usize, KeptChange)]) -> Option<Span>
+    requires elements { AreOfElements arena.now.tree (puts_of puts.now) }
     ensures ends { IfSome result (HasEnds arena.now.tree) }
     ensures puts { IfSome result (λ span. AreWithin arena.now.tree span puts.now) }
-    ensures none { IfNone result (puts.now ≡ []) }
+    ensures none { IfNone result (ShowNoOthers puts.now) }
 {
     let mut span = None;
-    for (key, _kept) in puts {
-        span = Some(wider(arena, span, *key));
+    for (key, change) in puts {
+        if change.shows_other {
+            span = Some(wider(arena, span, *key));
+        }
     }
     span
 }
