@@ -11,7 +11,7 @@ use Rattle.ports.specs.Files.{Files}
 use Rattle.ports.proofs.CauseLemmas.{raises_more}
 use Rattle.marker_cli.specs.declared.status.Status.{Status}
 use Rattle.marker_cli.specs.declared.status.Status.TheVariants as status
-use Rattle.marker_cli.specs.Ends.{IsStop, IsWhole, part_status}
+use Rattle.marker_cli.specs.Ends.{IsRefusal, IsStop, IsWhole, part_status}
 use Rattle.marker_cli.specs.Run.{action_size, commands_size, size_of}
 
 -- a fact holds at a value too
@@ -47,6 +47,15 @@ handed_whole (Err error) told is stops whole = whole_stop error (subst IsStop (s
 pub put_stops : {failed : Type 0} (told : Status) → (told ≡ status.Memory) ⊎ ((told ≡ status.WriteFault) × failed) → IsStop told
 put_stops told (inl memory) = subst IsStop (sym memory) tt
 put_stops told (inr write) = subst IsStop (sym write.0) tt
+
+-- nor does a part that stops the run refuse with Ok
+pub stop_refuses : (told : Status) → IsStop told → IsRefusal told
+stop_refuses told stops same = subst IsStop same stops
+
+-- what a `?` hands on refuses, where it stops the run
+pub handed_refuses : {T : Type 0} (r : Result T Status) (told : Status) → IsErr r × IsErrAnd r (λ error. error ≡ told) → IsStop told → IfErr r IsRefusal
+handed_refuses (Ok x) told is stops = tt
+handed_refuses (Err error) told is stops = stop_refuses error (subst IsStop (sym is.1) stops)
 
 -- a file that was fetched
 pub fetched_size : (held : Option Files) (files : Files) (name bytes : List ℕ) (honest : Bool) → held ≡ Some files

@@ -52,6 +52,10 @@ Gives given (Err refusal) = (refusal ≡ Memory) ⊎ (given ≡ Err refusal)
 abbrev pub IsPutCaused : {A : Type 0} → Type 0 → Result A Status → Type 0
 IsPutCaused failed result = IfErr result (λ error. (error ≡ Memory) ⊎ ((error ≡ WriteFault) × failed))
 
+-- a part of a run that refuses never does so with Ok
+abbrev pub IsRefusal : Status → Type 0
+IsRefusal refusal = ¬ (refusal ≡ status.Ok)
+
 -- with this status all that was written has gone out
 abbrev pub IsSettled : Status → Type 0
 IsSettled status.Ok = Unit {0}

@@ -13,7 +13,7 @@ ghost use Rattle.ports.specs.Grown.{grown, GrowsByFront};
 ghost use Rattle.xml_definitions.specs.Texts.{IsDocumentText};
 ghost use Rattle.marker_cli.specs.Bake.{BakesTo, bake_output, most_bake_steps, with_left_out};
 ghost use Rattle.marker_cli.specs.Documents.{DocumentReadsAs, Reading};
-ghost use Rattle.marker_cli.specs.Ends.{EndsAs, IsCaused, IsPutCaused, IsWhole, ReadsFailed, part_status};
+ghost use Rattle.marker_cli.specs.Ends.{EndsAs, IsCaused, IsPutCaused, IsRefusal, IsWhole, ReadsFailed, part_status};
 ghost use Rattle.marker_cli.specs.Names.{TellsOfLine};
 ghost use Rattle.marker_cli.specs.Run.{size_of};
 
@@ -32,6 +32,7 @@ use steps::Steps;
 /// How a run ends that wrote all, where so many texts found no place.
 fn told_left_out(count: usize) -> Result<(), Status>
     ensures status { part_status result ≡ with_left_out count }
+    ensures refused { IfErr result IsRefusal }
 {
     if count == 0 {
         Ok(())
@@ -78,6 +79,7 @@ pub fn write_baked<S: Shelf, O: Sink, L: Ledger>(
         (bake_output files (chars document.now) (chars sheet.now) reading baked) (O.out out.old) (O.out out.new) (part_status result) }
     ensures cause { IsCaused ⊥ (Rose (S.faults shelf.old) (S.faults shelf.new)) (RoseAbove 16777216 (S.taken shelf.old) (S.taken shelf.new))
         (Rose (O.faults out.old) (O.faults out.new)) (part_status result) }
+    ensures refused { IfErr result IsRefusal }
     ensures file { ¬ (TellsOfLine (part_status result)) }
     ensures faults { O.faults out.old ≤ O.faults out.new }
     ensures reads { (files : Files) → S.held shelf.old ≡ Some files

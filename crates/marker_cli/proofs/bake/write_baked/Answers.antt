@@ -9,6 +9,7 @@ use Rattle.marker_cli.specs.Bake.{with_left_out}
 use Rattle.marker_cli.specs.Turns.{text_in}
 use Rattle.marker_cli.proofs.BakeLemmas.{baked_as, most_of_baking, reads_as_tree}
 use Rattle.marker_cli.proofs.EndsLemmas.{at_start, at_text, at_value, at_written, caused_as, caused_within, ends_no_text, ends_not_given, ends_not_written, ends_same, ends_stopped, ends_whole, part_status_is, reads_after}
+use Rattle.marker_cli.proofs.ReadLemmas.{handed_refuses, put_stops}
 use Rattle.ports.proofs.CauseLemmas.{raises_more}
 use Rattle.marker_cli.proofs.bake.write_baked.Goals as goal
 
@@ -75,3 +76,16 @@ returns-in_err-left_out-clause-steps g c files reading told reads =
 pub returns-clause-reads : goal.returns-clause-reads
 returns-clause-reads g c files told whole =
     raises_more _ _ _ _ _ _ (c.in_ok-text.ensures.came files told) (c.in_ok-style.ensures.came files (c.in_ok-text.ensures.held ∙ told)) refl
+
+pub returns-in_err-text-clause-refused : goal.returns-in_err-text-clause-refused
+returns-in_err-text-clause-refused g c = handed_refuses c.from_residual.result _ c.from_residual.ensures c.in_err-text.ensures.stops
+
+pub returns-in_err-style-clause-refused : goal.returns-in_err-style-clause-refused
+returns-in_err-style-clause-refused g c = handed_refuses c.from_residual-in_err-style.result _ c.from_residual-in_err-style.ensures c.in_err-style.ensures.stops
+
+pub returns-in_err-tree-clause-refused : goal.returns-in_err-tree-clause-refused
+returns-in_err-tree-clause-refused g c = handed_refuses c.from_residual-in_err-tree.result _ c.from_residual-in_err-tree.ensures c.in_err-tree.ensures.stops
+
+pub returns-in_err-left_out-clause-refused : goal.returns-in_err-left_out-clause-refused
+returns-in_err-left_out-clause-refused g c =
+    handed_refuses c.from_residual-in_err-left_out.result _ c.from_residual-in_err-left_out.ensures (put_stops _ c.in_err-left_out.ensures.cause)
