@@ -130,11 +130,12 @@ impl Engine {
     /// with their paths in the edited document, in tree order. Where an edit was not done, all is as before, as after
     /// `apply`. Where it was done and memory was wanting for its lines alone, it stays done, and they are not told.
     ///
-    /// Where the edit's work bounds the steps of `apply`, the same bound holds with telling: it costs nothing beyond the count of
-    /// the edit itself. In every document it is one step at most for each entry that comes, and so one more at most for each
-    /// element of the edited document. It takes memory linear in the number of these entries and in the lines; and time
-    /// linear in the nodes from the first element to the last of which another entry comes, in the texts of these elements, and
-    /// for each of them in the greatest depth of any.
+    /// Telling takes one step at most for each changed line, on top of what `apply` promises: one for each element that has
+    /// such lines, and none for an element of which only counters are other. So it is one more at most for each element of the
+    /// edited document; and where the edit's work bounds the steps of `apply`, the same bound holds with telling. Where a line
+    /// is changed, it takes memory linear in the number of the entries that come and in the lines; and time linear in the nodes
+    /// from the first element to the last that has a changed line, in the texts of these elements, and for each of them in the
+    /// greatest depth of any.
     pub fn apply_and_tell<L: Ledger>(
         &mut self,
         alloc: Global,
@@ -151,6 +152,7 @@ impl Engine {
         ensures within_work { OnOk result (IsWithinWork edit.now (keyed_source self.old) (keyed_source self.new) steps.old steps.new) }
         ensures stops_within_work { OnErr result (StopsWithinWork edit.now (keyed_source self.old) steps.old steps.new) }
         ensures steps { IfOk (edited (source_of self.old) edit.now) (λ source. steps.new ≤ steps.old + (13 * element_count source.tree + 2 * element_count (source_of self.old).tree)) }
+        ensures line_steps { IfOk (edited (source_of self.old) edit.now) (λ source. steps.new ≤ steps.old + ((12 * element_count source.tree + 2 * element_count (source_of self.old).tree) + length (changed_lines (keyed_source self.old) (keyed_source self.new)))) }
         ensures no_steps { IfErr (edited (source_of self.old) edit.now) (λ _. steps.new ≡ steps.old) }
     {
         if let Some(fault) = self.book.arena().allows(edit) {

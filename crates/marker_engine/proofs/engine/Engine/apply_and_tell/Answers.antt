@@ -1,4 +1,4 @@
-use Rattle.std.proofs.Common.{◌≤◌, ◌+◌, ◌*◌, ◌∙◌, ap, arith, inl, refl, sym, subst}
+use Rattle.std.proofs.Common.{◌≡◌, ◌≤◌, ◌+◌, ◌*◌, ◌∙◌, ap, arith, inl, length, refl, sym, subst}
 use Rattle.std.proofs.lemmas.Result.{IfOk-weaker}
 use Rattle.dirty_walk.specs.Books.{StyledDocument}
 use Rattle.dirty_walk.specs.Plans.{IsPlannedBy, settled_after}
@@ -28,6 +28,33 @@ returns-clause-steps g c =
     allowed_by c.args.edit.now c.self.inside.book c.args.self.now (λ after before. c.commit.new.steps ≤ c.args.steps.now + (13 * after + 2 * before))
     (no_fault c.args.edit.now c.arena.result.now.tree c.self.inside.book c.args.self.now c.allows.result c.allows.ensures.fault c.arena.ensures.tree c.self.view_is c.in_default.is)
     c.self.view_is (let size = c.in_ok-plan.ensures.size in let puts = c.in_ok-plan.ensures.puts in omega (arith, size, puts, c.plan.ensures.steps, c.changed_lines-told.ensures.steps, c.commit.ensures.steps))
+
+pub returns-in_err-plan-clause-line_steps : goal.returns-in_err-plan-clause-line_steps
+returns-in_err-plan-clause-line_steps g c =
+    allowed_by c.args.edit.now c.self.inside.book c.args.self.now
+    (λ after before. c.plan.new.steps ≤ c.args.steps.now + ((12 * after + 2 * before) + length (changed_lines (keyed_source c.args.self.now) (keyed_source c.plan.new.self))))
+    (no_fault c.args.edit.now c.arena.result.now.tree c.self.inside.book c.args.self.now c.allows.result c.allows.ensures.fault c.arena.ensures.tree c.self.view_is c.in_default.is)
+    c.self.view_is (omega (arith, c.plan.ensures.steps))
+
+-- the lines are those between the document before the edit and the one that is settled
+pub returns-clause-line_steps : goal.returns-clause-line_steps
+unfolding settled_after
+returns-clause-line_steps g c =
+    let from =
+    planned_from c.args.edit.now c.self.inside.book c.plan.new.self c.in_ok-plan.plan
+    c.arena-2.result.now.tree c.edited_arena.result.now.tree
+    c.arena_holds_document.ensures.document c.arena-2.ensures.tree c.arena_holds_document-2.ensures.document c.edited_arena.ensures.tree
+    (no_fault c.args.edit.now c.arena.result.now.tree c.self.inside.book c.self.inside.book c.allows.result c.allows.ensures.fault c.arena.ensures.tree refl c.in_default.is)
+    c.inserts_one_tree.ensures c.in_ok-plan.ensures.document c.self.invariant c.in_ok-plan.ensures.kept c.in_ok-plan.ensures.planned in
+    let lines : changed_lines (keyed_source c.self.inside.book) (keyed_source c.plan.new.self) ≡ changed_lines (keyed_source c.args.self.now) (keyed_source c.commit.new.self) =
+    ap (λ (new : StyledDocument). changed_lines (keyed_source c.self.inside.book) (keyed_source new)) (sym c.commit.ensures.settled)
+    ∙ ap (λ (old : StyledDocument). changed_lines (keyed_source old) (keyed_source c.commit.new.self)) c.self.view_is in
+    let told = c.changed_lines-told.ensures.line_steps c.args.edit.now c.self.inside.book from in
+    let size = c.in_ok-plan.ensures.size in
+    allowed_by c.args.edit.now c.self.inside.book c.args.self.now
+    (λ after before. c.commit.new.steps ≤ c.args.steps.now + ((12 * after + 2 * before) + length (changed_lines (keyed_source c.args.self.now) (keyed_source c.commit.new.self))))
+    (no_fault c.args.edit.now c.arena.result.now.tree c.self.inside.book c.args.self.now c.allows.result c.allows.ensures.fault c.arena.ensures.tree c.self.view_is c.in_default.is)
+    c.self.view_is (omega (arith, size, told, ap length lines, c.plan.ensures.steps, c.commit.ensures.steps))
 
 pub invariant_of-self-2 : goal.invariant_of-self-2
 unfolding settled_after
