@@ -18,7 +18,7 @@ use steps::Steps;
 /// A document, its sheet, and an edit as a line of a script; and the lines that it changes, each with a `;` behind it.
 type Row = (&'static str, &'static str, &'static str, &'static str);
 
-static ROWS: [Row; 7] = [
+static ROWS: [Row; 8] = [
     // an item comes, and those behind it have other numbers
     (
         "<ol><li/><li/><li/></ol>",
@@ -53,6 +53,13 @@ static ROWS: [Row; 7] = [
         r#"li::after{content:counters(list-item,".")}"#,
         "insert / 0 <li/>",
         r#"/0 marker "1. ";/0 after "1";/1 marker "2. ";/1 after "2.1";/1/0/0 after "2.1";/2 marker "3. ";/2 after "3";"#,
+    ),
+    // elements of which only counters are other have no lines, before one that has some and behind it
+    (
+        "<p><b/><i/><b/></p>",
+        r#"b{counter-increment:n}i::before{content:counter(n)}"#,
+        "insert / 0 <b/>",
+        r#"/2 before "2";"#,
     ),
     // what refers to an element is told where that changes
     (
