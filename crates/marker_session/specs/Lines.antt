@@ -1,7 +1,9 @@
 -- Lines that are applied to a document (our own).
-use Rattle.std.specs.Prelude.{◌≡◌, ℕ, List, [], ◌∷◌, Err}
+use Rattle.std.specs.Prelude.{◌≡◌, ◌≤◌, ◌⊎◌, ◌+◌, ◌*◌, ℕ, List, [], ◌∷◌, Err, IfOk, length}
+use Rattle.changed_lines.specs.Changes.{changed_lines}
 use Rattle.dirty_walk.specs.Books.{StyledDocument}
-use Rattle.dirty_walk.specs.WorkBounds.{IsWithinWork, keyed_source}
+use Rattle.dirty_walk.specs.WorkBounds.{IsWithinWork, StopsWithinWork, keyed_source}
+use Rattle.document_walk.specs.Elements.{element_count}
 use Rattle.edit_script.specs.Scripts.{IsScript, command}
 use Rattle.edit_script.specs.declared.action.Action.{Action}
 use Rattle.edit_script.specs.declared.action.Action.TheVariants.{Change, Show}
@@ -31,6 +33,21 @@ pub record TakesStepsOfLine (text : List ℕ) (old new : StyledDocument) (before
   pub edit : Edit
   pub line : IsLine text (Change edit)
   pub within : IsWithinWork edit (keyed_source old) (keyed_source new) before after
+
+-- between these numbers of steps are no more than so many an element of either document, and one for each line that is changed
+abbrev pub TakesStepsOfLines : (old new : StyledDocument) → (before after : ℕ) → Type 0
+TakesStepsOfLines old new before after =
+    after ≤ before + ((12 * element_count (source_of new).tree + 2 * element_count (source_of old).tree) + length (changed_lines (keyed_source old) (keyed_source new)))
+
+-- Between these numbers of steps are no more than an edit takes that is not done: its work allows them, and they are so many an
+-- element of the document, and of the one that the edit would have made of it.
+pub record StopsOnEdit (edit : Edit) (old : StyledDocument) (before after : ℕ) : Type 0 where
+  pub within_work : StopsWithinWork edit (keyed_source old) before after
+  pub most : IfOk (edited (source_of old) edit) (λ source. after ≤ before + (13 * element_count source.tree + 2 * element_count (source_of old).tree))
+
+-- after a line that was not applied: no step was taken; or it is an edit, and no more than that takes
+abbrev pub StopsOnLine : List ℕ → StyledDocument → (before after : ℕ) → Type 0
+StopsOnLine text old before after = (after ≡ before) ⊎ ((edit : Edit) × IsLine text (Change edit) × StopsOnEdit edit old before after)
 
 -- the line is neither an edit nor `show`
 pub record IsBadLine (text : List ℕ) : Type 0 where

@@ -6,18 +6,21 @@ ghost use Rattle.changed_lines.specs.Changes.{changed_lines};
 ghost use Rattle.changed_lines.specs.Listings.{shown_line};
 ghost use Rattle.dirty_walk.specs.WorkBounds.{IsWithinWork, keyed_source};
 ghost use Rattle.document_walk.specs.Elements.{element_count};
+ghost use Rattle.forest.specs.Forest.{Forest};
 ghost use Rattle.generated_texts.specs.Lines.{document_lines, fresh_dump};
 ghost use Rattle.marker_engine.specs.Census.{box_count, saturated};
 ghost use Rattle.marker_engine.specs.Engines.{source_of};
 ghost use Rattle.marker_engine.specs.declared.edit_fault.EditFault.TheVariants as edit_faults;
 ghost use Rattle.node_arena.specs.Document.{IsKeyedDocument};
 ghost use Rattle.plain_types.specs.declared.edit.Edit.TheVariants.{ReplaceSheet};
+ghost use Rattle.plain_types.specs.declared.node.Node.{Node};
 ghost use Rattle.xhtml_reader.specs.Fault.{IsFault};
+ghost use Rattle.xhtml_reader.specs.declared.fault.DocFault.TheVariants as document_faults;
 ghost use Rattle.xml_definitions.specs.Faults.{FailsAsDocument};
 ghost use Rattle.xml_definitions.specs.Texts.{IsDocumentText};
 ghost use Rattle.marker_session.specs.declared.line_fault.LineFault.TheVariants as faults;
 ghost use Rattle.marker_session.specs.declared.listing.Listing.TheVariants.{Unlisted};
-ghost use Rattle.marker_session.specs.Lines.{DoesLine, IsLineFault, TakesStepsOfLine};
+ghost use Rattle.marker_session.specs.Lines.{DoesLine, IsLineFault, StopsOnEdit, StopsOnLine, TakesStepsOfLine, TakesStepsOfLines};
 ghost use Rattle.marker_session.specs.Machinery.{IsEditFault};
 ghost use Rattle.marker_session.specs.Sessions.{Does, all_lines, listed_after};
 
@@ -42,6 +45,7 @@ use std::marker::Model;
 use std::sync::ledger::Ledger;
 use steps::Steps;
 use xhtml_reader::fault::DocFault;
+use xhtml_reader::laws::one_document_tree;
 use xhtml_reader::read_document;
 
 /// A document under its sheet that is open: it, a list of lines, and the last dump that was asked for.
@@ -77,8 +81,8 @@ impl Session {
     /// Opens the document of an XHTML text under the sheet of another text. All its lines are listed, and no dump is kept. A
     /// sheet has no faults: what is not understood in it is left out.
     ///
-    /// `Malformed` where the text is no document, with the place of its fault. It takes time and memory as `read_document`
-    /// and `Engine::start`, and for the list as [`Session::list_all`].
+    /// `Malformed` where the text is no document, with the place of its fault, and no step is taken. It takes time and memory as
+    /// `read_document` and `Engine::start`, and for the list as [`Session::list_all`].
     #[tactic(auto, using(crate::proofs::Roots::document_element))]
     pub fn open<L: Ledger>(
         alloc: Global,
@@ -93,7 +97,10 @@ impl Session {
         ensures shown { IfOk result (λ session. session.shown ≡ []) }
         ensures fault { IfErr result (IsFault (FailsAsDocument (chars xhtml.now))) }
         ensures steps { IfOk result (λ session. steps.new ≤ steps.old + 8 * element_count (source_of session.styled).tree) }
+        ensures stops { OnErr result ((tree : Forest Node) → IsDocumentText (chars xhtml.now) tree → steps.new ≤ steps.old + 8 * element_count tree) }
+        ensures no_steps { IfErr result (λ fault. fault ≢ document_faults.Memory → steps.new ≡ steps.old) }
     {
+        one_document_tree();
         let tree = read_document(alloc, xhtml)?;
         let engine = Engine::start(alloc, tree, css, steps)?;
         arena_holds_document(engine.book().arena());
@@ -138,6 +145,8 @@ impl Session {
         ensures failed { OnErr result (self.new ≡ self.old) }
         ensures within_work { OnOk result (IsWithinWork edit.now (keyed_source self.old.styled) (keyed_source self.new.styled) steps.old steps.new) }
         ensures steps { OnOk result (steps.new ≤ steps.old + (13 * element_count (source_of self.new.styled).tree + 2 * element_count (source_of self.old.styled).tree)) }
+        ensures line_steps { OnOk result (TakesStepsOfLines self.old.styled self.new.styled steps.old steps.new) }
+        ensures stops { OnErr result (StopsOnEdit edit.now self.old.styled steps.old steps.new) }
         ensures no_steps { IfErr result (λ fault. fault ≢ edit_faults.Memory → steps.new ≡ steps.old) }
     {
         let told = self.engine.apply_and_tell(alloc, edit, steps)?;
@@ -148,8 +157,9 @@ impl Session {
     /// those of the document before it. The lines that it changed are listed then, by elements in tree order, and of one
     /// element its marker, its before box and its after box.
     ///
-    /// After a fault the session is as before. It takes time and memory linear in the line, and as
-    /// `Engine::apply_and_tell`.
+    /// After a fault the session is as before; a line that is no edit, and one that is refused, take no step. It takes time and
+    /// memory linear in the line, and as `Engine::apply_and_tell`: one step at most for each line that is changed, beside those
+    /// of the edit. Where it ends with `Memory`, it took no more steps than the edit may take.
     pub fn apply<L: Ledger>(
         &mut self,
         alloc: Global,
@@ -163,6 +173,8 @@ impl Session {
         ensures failed { OnErr result (self.new ≡ self.old) }
         ensures within_work { OnOk result (TakesStepsOfLine (chars line.now) self.old.styled self.new.styled steps.old steps.new) }
         ensures steps { OnOk result (steps.new ≤ steps.old + (13 * element_count (source_of self.new.styled).tree + 2 * element_count (source_of self.old.styled).tree)) }
+        ensures line_steps { OnOk result (TakesStepsOfLines self.old.styled self.new.styled steps.old steps.new) }
+        ensures stops { OnErr result (StopsOnLine (chars line.now) self.old.styled steps.old steps.new) }
         ensures no_steps { IfErr result (λ fault. fault ≢ faults.Memory → steps.new ≡ steps.old) }
     {
         one_reading();
@@ -173,7 +185,8 @@ impl Session {
 
     /// Replaces the sheet by that of a text. The lines that this changed are listed then, as after an edit.
     ///
-    /// After `Memory` the session is as before. It takes time and memory as `Engine::apply_and_tell`.
+    /// After `Memory` the session is as before, and no more steps were taken than the edit may take. It takes time and memory as
+    /// `Engine::apply_and_tell`.
     pub fn replace_sheet<L: Ledger>(
         &mut self,
         alloc: Global,
@@ -186,6 +199,8 @@ impl Session {
         ensures failed { OnErr result (self.new ≡ self.old) }
         ensures within_work { OnOk result (IsWithinWork (ReplaceSheet (chars css.now)) (keyed_source self.old.styled) (keyed_source self.new.styled) steps.old steps.new) }
         ensures steps { OnOk result (steps.new ≤ steps.old + (13 * element_count (source_of self.new.styled).tree + 2 * element_count (source_of self.old.styled).tree)) }
+        ensures line_steps { OnOk result (TakesStepsOfLines self.old.styled self.new.styled steps.old steps.new) }
+        ensures stops { OnErr result (StopsOnEdit (ReplaceSheet (chars css.now)) self.old.styled steps.old steps.new) }
     {
         let edit = Edit::ReplaceSheet {
             text: Text::from_str(alloc, css)?,
