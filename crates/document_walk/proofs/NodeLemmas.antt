@@ -18,12 +18,12 @@ use Rattle.box_eval.specs.Evaluation.{Element, StyledNode, Text, element_starts,
 use Rattle.box_eval.specs.Starts.{node_asks_for_start}
 use Rattle.surroundings.specs.declared.surroundings.Surroundings.{Surroundings}
 use Rattle.surroundings.specs.Surroundings.{handed_behind, handed_by, handed_inside, surroundings_of}
-use Rattle.surroundings.specs.StyledEvaluators.{asks_of, inside_node, is_element, past_styled, said_of}
+use Rattle.surroundings.specs.StyledEvaluators.{asks_of, inside_node, is_element, own_changes_in, own_changes_of, past_styled, said_of, starts_in, starts_of}
 use Rattle.surroundings.proofs.Ties.{inside-entry}
 use Rattle.document_walk.specs.declared.opened.Opened.{Opened}
 use Rattle.document_walk.specs.Catching.{Reading, inside_opened, opened_at, past_by, said_by, style_above}
 use Rattle.document_walk.specs.Standing.{AreBoxed, Handing, OpenNode, attrs_in, frame_of, opened_as, opened_of, parent_style, style_in}
-use Rattle.document_walk.specs.Walking.{asks_before, closing_with, opened_in, told_opened}
+use Rattle.document_walk.specs.Walking.{asks_before, closing_with, opened_in, own_changes, starts_before, told_opened}
 
 module _ (from : Reading) where
   -- to give nodes styles changes neither their number nor their keys
@@ -144,13 +144,15 @@ module _ (from : Reading) where
   record LeftIf (key : ℕ) (element : Styled) (around : Surroundings) (behind : Handing) (b : Bool) : Type 0 where
     pub said : said_by from key (cond b (Some (made_in key element around)) None) behind ≡ record_of from.table by_parent b key element (handed_by around) (handed_by (unwrap_or behind around))
     pub asks : asks_before (cond b (Some (made_in key element around)) None) ≡ node_asks_for_start b (Element element)
+    pub starts : starts_before (cond b (Some (made_in key element around)) None) ≡ starts_in b (Element element)
+    pub changes : own_changes (cond b (Some (made_in key element around)) None) ≡ own_changes_in from.table b key (Element element) (handed_by around)
     pub past :
         past_by from key (cond b (Some (made_in key element around)) None) (Some around) behind
         ≡ Some (surroundings_of (past_node from.table by_parent b key (Element element) (handed_by around) (handed_by (unwrap_or behind around))))
 
   left_if : (key : ℕ) (element : Styled) (around : Surroundings) (behind : Handing) (b : Bool) → is_some behind ≡ is_some (cond b (Some (made_in key element around)) None)
       → attrs_of from.tree key ≡ element.attrs → LeftIf key element around behind b
-  left_if key element around behind false h e = record { said = refl; asks = refl; past = refl }
+  left_if key element around behind false h e = record { said = refl; asks = refl; starts = refl; changes = refl; past = refl }
   left_if key element around None true h e = absurd (cc)
   left_if key element around (Some behind) true h e =
       let entry = entry_of from.table by_parent key element (handed_by around) in
@@ -158,23 +160,27 @@ module _ (from : Reading) where
       record {
         said = ap (told_opened around.depth entry) closing;
         asks = refl;
+        starts = refl;
+        changes = refl;
         past = ap (λ closing. Some (handed_behind around.parent entry.own closing)) closing;
       }
 
   pub record IsLeft (n : Keyed StyledNode) (i behind : Handing) : Type 0 where
     pub said : said_by from n.key (opened_of from n i) behind ≡ said_of from.table n i behind
     pub asks : asks_before (opened_of from n i) ≡ asks_of n i
+    pub starts : starts_before (opened_of from n i) ≡ starts_of n i
+    pub changes : own_changes (opened_of from n i) ≡ own_changes_of from.table n i
     pub past : past_by from n.key (opened_of from n i) i behind ≡ past_styled from.table n i behind
 
   left_as : (key : ℕ) (label : StyledNode) (around : Surroundings) (behind : Handing) → is_some behind ≡ is_some (opened_as from key label around) → attrs_of from.tree key ≡ attrs_in label
       → IsLeft (record { key = key; label = label }) (Some around) behind
-  left_as key Text around behind h e = record { said = refl; asks = refl; past = refl }
+  left_as key Text around behind h e = record { said = refl; asks = refl; starts = refl; changes = refl; past = refl }
   left_as key (Element element) around behind h e =
       let left = left_if key element around behind (generates_box element.style) h e in
-      record { said = left.said; asks = left.asks; past = left.past }
+      record { said = left.said; asks = left.asks; starts = left.starts; changes = left.changes; past = left.past }
 
   pub is_left : (n : Keyed StyledNode) (i behind : Handing) → is_some behind ≡ is_some (opened_of from n i) → attrs_of from.tree n.key ≡ attrs_in n.label → IsLeft n i behind
-  is_left n None behind h e = record { said = refl; asks = refl; past = refl }
+  is_left n None behind h e = record { said = refl; asks = refl; starts = refl; changes = refl; past = refl }
   is_left n (Some around) behind h e = left_as n.key n.label around behind h e
 
   -- What stands at a link.

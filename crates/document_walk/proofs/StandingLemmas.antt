@@ -23,13 +23,13 @@ use Rattle.merged_walk.proofs.WalkLaws.{goes_on, spent-within}
 use Rattle.surroundings.specs.declared.told.Told.{Told}
 use Rattle.surroundings.specs.declared.walked.Walked.{Walked}
 use Rattle.surroundings.specs.MergedLevels.{AreLeaves, HasLeaves}
-use Rattle.surroundings.specs.StyledEvaluators.{inside_node, is_element, kept_of, past_styled, said_of, styled_asks, styled_evaluator}
+use Rattle.surroundings.specs.StyledEvaluators.{inside_node, is_element, kept_of, past_styled, styled_asks, styled_evaluator}
 use Rattle.document_walk.specs.declared.catching.Catching.{Catching}
 use Rattle.document_walk.specs.declared.catching.OpenElement.{OpenElement}
 use Rattle.document_walk.specs.Catching.{HasEntered, HasLeft, Reading, frames_of, inside_opened, opened_at, past_by, said_by, stops_left, told_by, with_changes}
 use Rattle.document_walk.specs.Standing.{AllCome, AreBoxed, Handing, IsAt, IsRootLed, IsWhole, OpenNode, Reaches, Spares, Stands, changes_left, elements_behind, elements_in, elements_left, frame_of, left_frames, left_of, opened_of, parent_style, spared_for, state_at, style_in}
 use Rattle.document_walk.specs.TreeChanges.{changes_after_children, changes_before_children}
-use Rattle.document_walk.specs.Walking.{asks_before, changes_before}
+use Rattle.document_walk.specs.Walking.{changes_before}
 use Rattle.document_walk.proofs.ChangeLemmas.{changes_entered, changes_opened, changes_passed, with-more}
 use Rattle.document_walk.proofs.SparingLemmas.{Sparing, behind_is, behind_open, elements, elements-after, elements_of, one_longer, same_elements, spares-leaving, spares-passing, styled_elements}
 use Rattle.document_walk.proofs.WholeLemmas.{come_after, comes, news_entered, news_left, news_passed, not_come}
@@ -456,8 +456,7 @@ module _ (from : Reading) where
             let next : Handing = past_styled from.table b.node b.handed behind in
             let entry : told_by from frame mid.around ≡ kept_of from.table b.node b.handed behind =
             ap (told_by from frame) around ∙ ap (λ f. told_by from f behind) its
-            ∙ ap (λ said. record { said = said; walked = record { handed = b.handed; behind = behind }; asks = asks_before (opened_of from b.node b.handed) }) left.said
-            ∙ ap (λ asks. record { said = said_of from.table b.node b.handed behind; walked = record { handed = b.handed; behind = behind }; asks = asks }) left.asks in
+            ∙ (λ k. record { said = left.said k; walked = record { handed = b.handed; behind = behind }; asks = left.asks k; starts = left.starts k; changes = left.changes k }) in
             let next_frames : frames_of new ≡ frames_of mid = ap (λ (stack : _). reverse stack.items) h.stack in
             let next_around : new.around ≡ next =
             h.around ∙ ap (λ i. past_by from frame.key frame.opened frame.handed i) around ∙ ap (λ (f : OpenElement). past_by from f.key f.opened f.handed behind) its ∙ left.past in

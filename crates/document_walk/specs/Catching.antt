@@ -25,7 +25,7 @@ use Rattle.document_walk.specs.declared.catching.Catching.{Catching}
 use Rattle.document_walk.specs.declared.catching.OpenElement.{OpenElement}
 use Rattle.document_walk.specs.declared.opened.Opened.{Opened}
 use Rattle.document_walk.specs.declared.sources.Sources.{Sources}
-use Rattle.document_walk.specs.Walking.{asks_before, changes_before, closing_with, opened_in, told_opened}
+use Rattle.document_walk.specs.Walking.{asks_before, changes_before, closing_with, opened_in, own_changes, starts_before, told_opened}
 
 -- What a walk reads: the author's counter styles, the styles of elements, the starts of reversed counters, and the document.
 pub record Reading : Type 0 where
@@ -140,6 +140,8 @@ module _ (from : Reading) where
     said = said_by frame.key frame.opened behind;
     walked = record { handed = frame.handed; behind = behind };
     asks = asks_before frame.opened;
+    starts = starts_before frame.opened;
+    changes = own_changes frame.opened;
   }
 
   -- the element of this key was entered

@@ -13,6 +13,7 @@ use Rattle.box_eval.specs.declared.element_record.ElementRecord.{ElementRecord}
 use Rattle.box_eval.specs.declared.entry.Closing.{Closing}
 use Rattle.box_eval.specs.declared.entry.Entry.{Entry}
 use Rattle.box_eval.specs.declared.inputs.Inputs.{Inputs}
+use Rattle.box_eval.specs.declared.inputs.Start.{Start}
 use Rattle.box_eval.specs.Boxes.{generates_box}
 use Rattle.box_eval.specs.Elements.{Handed, Styled, by_parent, closing_of, entry_of}
 use Rattle.box_eval.specs.Evaluation.{changes_in, element_starts}
@@ -30,6 +31,16 @@ changes_before (Some opened) = opened.entry.changes ++ changes_in opened.entry.b
 abbrev pub asks_before : Option Opened → Bool
 asks_before None = false
 asks_before (Some opened) = has_starts opened.starts
+
+-- the starts that they were given
+abbrev pub starts_before : Option Opened → List Start
+starts_before None = []
+starts_before (Some opened) = opened.starts
+
+-- what its own box does to counters
+abbrev pub own_changes : Option Opened → List Change
+own_changes None = []
+own_changes (Some opened) = opened.entry.changes
 
 abbrev pub told_opened : ℕ → Entry → Closing → ElementRecord
 told_opened depth entry closing = record {

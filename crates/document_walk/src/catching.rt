@@ -5,13 +5,13 @@ ghost use Rattle.std.specs.Option.{option_eq};
 ghost use Rattle.forest.specs.Spots.{IsLive};
 ghost use Rattle.merged_walk.specs.Stops.{is_at};
 ghost use Rattle.surroundings.specs.StyledEvaluators.{root_surroundings};
-ghost use Rattle.document_walk.specs.Catching.{CanClose, CanOpen, HasEntered, HasLeft, HasSkipped, frames_of, from_of, inside_opened, is_fresh_in, is_same_at, kept_on, link_of, opened_at, parent_in, reading, stop_ahead, stops_left, style_above, told_at};
+ghost use Rattle.document_walk.specs.Catching.{CanClose, CanOpen, HasEntered, HasLeft, HasSkipped, frames_of, from_of, inside_opened, is_fresh_in, is_same_at, link_of, opened_at, parent_in, reading, stop_ahead, stops_left, style_above, told_at};
 
 use crate::collecting::{collect_made, collect_opened};
 use crate::element::open;
 use crate::leaving::{Left, left_of};
 use crate::opened::Opened;
-use crate::snapshot::Snapshot;
+use crate::snapshot::Snapshots;
 use crate::sources::Sources;
 use box_eval::change::Change;
 use box_eval::starts::Starts;
@@ -20,7 +20,6 @@ use plain_types::list::List;
 use plain_types::memory::Memory;
 use plain_types::style::Style;
 use selector_match::siblings::Siblings;
-use snapshot_board::board::Board;
 use std::alloc::Global;
 use std::mem;
 use std::sync::ledger::Ledger;
@@ -80,19 +79,17 @@ impl Catching {
     }
 
     /// Whether an element was handed what is handed to it now.
-    pub(crate) fn is_same<L: Ledger, R: Snapshot + Drop>(
+    pub(crate) fn is_same<L: Ledger, B: Snapshots>(
         &self,
-        board: &Board<R>,
+        board: &B,
         key: usize,
         steps: &mut Steps<L>,
     ) -> bool
-        ensures test { result ≡ is_same_at (kept_on R.walked board.now) key self.now.around }
+        ensures test { result ≡ is_same_at (B.kept board.now) key self.now.around }
         ensures step { steps.new ≡ steps.old + 1 }
     {
-        match board.get(key, steps) {
-            Some(kept) => {
-                is_handed_the_same(self.around.as_ref(), kept.walked().handed.as_ref())
-            }
+        match board.walked(key, steps) {
+            Some(walked) => is_handed_the_same(self.around.as_ref(), walked.handed.as_ref()),
             None => false,
         }
     }
@@ -224,27 +221,39 @@ impl Catching {
 
     /// Tells what is kept of an element that was handed this, and goes on behind it.
     fn tell(&mut self, key: usize, handed: Option<Surroundings>, left: Left) -> Result<(), Memory>
-        ensures told { OnOk result (self.new.told ≡ self.old.told ++ (key, record { said = left.said; walked = record { handed = handed; behind = self.old.around }; asks = left.asks }) ∷ []) }
+        ensures told { OnOk result (self.new.told ≡ self.old.told ++ (key, record { said = left.said; walked = record { handed = handed; behind = self.old.around }; asks = left.asks; starts = left.starts; changes = left.changes }) ∷ []) }
         ensures around { OnOk result (self.new.around ≡ left.past) }
         ensures stack { self.new.stack ≡ self.old.stack }
         ensures stops { self.new.stops ≡ self.old.stops }
         ensures changes { self.new.changes ≡ self.old.changes }
     {
-        let Left { said, asks, past } = left;
+        let Left {
+            said,
+            asks,
+            starts,
+            changes,
+            past,
+        } = left;
         let behind = mem::replace(&mut self.around, past);
-        let walked = Walked { handed, behind };
-        self.told.push((key, Told { said, walked, asks }))?;
+        let told = Told {
+            said,
+            walked: Walked { handed, behind },
+            asks,
+            starts,
+            changes,
+        };
+        self.told.push((key, told))?;
         Ok(())
     }
 
     /// Goes to the next stop of the level, or to its end. All up to there stays as it was.
-    pub(crate) fn skip<L: Ledger, R: Snapshot + Drop>(
+    pub(crate) fn skip<L: Ledger, B: Snapshots>(
         &mut self,
         alloc: Global,
-        board: &Board<R>,
+        board: &B,
         steps: &mut Steps<L>,
     ) -> Result<(), Memory>
-        ensures skipped { OnOk result (HasSkipped (kept_on R.walked board.now) self.old self.new) }
+        ensures skipped { OnOk result (HasSkipped (B.kept board.now) self.old self.new) }
         ensures step { steps.new ≤ steps.old + 1 }
     {
         let stop = self.stop_ahead();
@@ -310,24 +319,24 @@ fn inside_opened(alloc: Global, opened: Option<&Opened>) -> Result<Option<Surrou
 }
 
 /// What was handed at a place, as an element of its level tells it, or else their parent.
-fn told_at<L: Ledger, R: Snapshot + Drop>(
+fn told_at<L: Ledger, B: Snapshots>(
     alloc: Global,
-    board: &Board<R>,
+    board: &B,
     from: Option<usize>,
     parent: Option<usize>,
     steps: &mut Steps<L>,
 ) -> Result<Option<Surroundings>, Memory>
-    ensures told { IfOk result (λ told. told ≡ told_at (kept_on R.walked board.now) from parent) }
+    ensures told { IfOk result (λ told. told ≡ told_at (B.kept board.now) from parent) }
     ensures step { steps.new ≤ steps.old + 1 }
 {
     match from {
-        Some(key) => match board.get(key, steps) {
-            Some(kept) => share_handed(alloc, kept.walked().handed.as_ref()),
+        Some(key) => match board.walked(key, steps) {
+            Some(walked) => share_handed(alloc, walked.handed.as_ref()),
             None => Ok(None),
         },
         None => match parent {
-            Some(key) => match board.get(key, steps) {
-                Some(kept) => share_handed(alloc, kept.walked().behind.as_ref()),
+            Some(key) => match board.walked(key, steps) {
+                Some(walked) => share_handed(alloc, walked.behind.as_ref()),
                 None => Ok(None),
             },
             None => Ok(None),

@@ -7,7 +7,7 @@
 //!
 //! | Call | Out comes |
 //! |---|---|
-//! | [`evaluate::evaluate`] | of each element what is said of it, what it was handed and hands on; what the elements' boxes do to counters; and whether one asks for the start of a reversed counter |
+//! | [`evaluate::evaluate`] | of each element what is said of it, what it was handed and hands on, its starts and what its own box does to counters; what all boxes do to counters; and whether one asks for the start of a reversed counter |
 //! | [`evaluate::tell_all`] | of each element the same, and no more |
 //! | [`catch_up::catch_up`] | the same of the elements that an edit touches |
 //!
@@ -22,10 +22,11 @@
 //! The walk evaluates what differs since an edit, and no more. It goes from stop to stop, as `merged_walk` has them: to
 //! the trees that come, past those that are gone, and into each element that has such a place in it. An element that
 //! stays is compared: where it is handed what it was handed, nothing up to the next stop of its level is other than it
-//! was, so the walk goes there (`turning`). What an element was handed is read off a board of records of the layer
-//! above, each a [`snapshot::Snapshot`]. The way up needs no code of its own: behind an element that was evaluated the
-//! next sibling is compared like any other. A whole document is an edit like others: its one stop is the root, which
-//! comes with all in it, so nothing is compared, and the board is empty.
+//! was, so the walk goes there (`turning`). What an element was handed is read off what the layer above has kept
+//! ([`snapshot::Snapshots`]), a step a look: a board of its records, each a [`snapshot::Snapshot`], or what else tells it
+//! by the elements' keys. The way up needs no code of its own: behind an element that was evaluated the next sibling is
+//! compared like any other. A whole document is an edit like others: its one stop is the root, which comes with all in it,
+//! so nothing is compared, and the board is empty.
 //!
 //! The layer above knows the calls by `specs/CatchingUp.antt`: by `told_all` of the evaluator of `surroundings`, by the
 //! `Merge` of `merged_walk` that has the document before and after the edit, and by its `budget`. What boxes do to counters

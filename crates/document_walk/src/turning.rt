@@ -4,38 +4,37 @@ ghost use Rattle.std.specs.Prelude.{◌≡◌, OnOk, Some, is_some, length, true
 ghost use Rattle.forest.specs.Spots.{IsLive};
 ghost use Rattle.node_arena.specs.Nodes.{name_of};
 ghost use Rattle.merged_walk.specs.Stops.{is_at};
-ghost use Rattle.document_walk.specs.Catching.{frames_of, kept_on, reading, stops_left};
+ghost use Rattle.document_walk.specs.Catching.{frames_of, reading, stops_left};
 ghost use Rattle.document_walk.specs.Standing.{GoesOn, IsSomewhere, IsWithinMost};
 
 use crate::catching::Catching;
-use crate::snapshot::Snapshot;
+use crate::snapshot::Snapshots;
 use crate::sources::Sources;
 use box_eval::starts::Starts;
 use merged_walk::stop::Way;
 use node_arena::arena::Arena;
 use plain_types::memory::Memory;
 use selector_match::siblings::Siblings;
-use snapshot_board::board::Board;
 use std::alloc::Global;
 use std::sync::ledger::Ledger;
 use steps::Steps;
 
 /// A turn at a stop.
-pub(crate) fn turn_at_stop<L: Ledger, T: Starts, R: Snapshot + Drop>(
+pub(crate) fn turn_at_stop<L: Ledger, T: Starts, B: Snapshots>(
     walk: &mut Catching,
     alloc: Global,
     sources: &Sources<T>,
     siblings: &mut Siblings<'_>,
-    board: &Board<R>,
+    board: &B,
     steps: &mut Steps<L>,
 ) -> Result<(), Memory>
     requires same { siblings.old ≡ sources.now.arena.now.tree }
-    requires somewhere { IsSomewhere (reading T.starts sources.now) (kept_on R.walked board.now) walk.old steps.old }
+    requires somewhere { IsSomewhere (reading T.starts sources.now) (B.kept board.now) walk.old steps.old }
     requires at { is_at (stops_left walk.old) (length (frames_of walk.old)) walk.old.link ≡ true }
     ensures same { siblings.new ≡ siblings.old }
-    ensures next { OnOk result (GoesOn (reading T.starts sources.now) (kept_on R.walked board.now) walk.old steps.old walk.new steps.new) }
-    ensures found { OnOk result (GoesOn (reading T.starts sources.now) (kept_on R.walked board.now) walk.old 0 walk.new 0) }
-    ensures most { IsWithinMost (reading T.starts sources.now) (kept_on R.walked board.now) walk.old steps.old steps.new }
+    ensures next { OnOk result (GoesOn (reading T.starts sources.now) (B.kept board.now) walk.old steps.old walk.new steps.new) }
+    ensures found { OnOk result (GoesOn (reading T.starts sources.now) (B.kept board.now) walk.old 0 walk.new 0) }
+    ensures most { IsWithinMost (reading T.starts sources.now) (B.kept board.now) walk.old steps.old steps.new }
 {
     let _root = sources.arena.root();
     let _board = board;
@@ -58,23 +57,23 @@ pub(crate) fn turn_at_stop<L: Ledger, T: Starts, R: Snapshot + Drop>(
 }
 
 /// A turn at a node, where the walk is at no stop.
-pub(crate) fn turn_at<L: Ledger, T: Starts, R: Snapshot + Drop>(
+pub(crate) fn turn_at<L: Ledger, T: Starts, B: Snapshots>(
     walk: &mut Catching,
     alloc: Global,
     sources: &Sources<T>,
     siblings: &mut Siblings<'_>,
-    board: &Board<R>,
+    board: &B,
     key: usize,
     steps: &mut Steps<L>,
 ) -> Result<(), Memory>
     requires same { siblings.old ≡ sources.now.arena.now.tree }
-    requires somewhere { IsSomewhere (reading T.starts sources.now) (kept_on R.walked board.now) walk.old steps.old }
+    requires somewhere { IsSomewhere (reading T.starts sources.now) (B.kept board.now) walk.old steps.old }
     requires off { is_at (stops_left walk.old) (length (frames_of walk.old)) walk.old.link ≡ false }
     requires link { walk.old.link ≡ Some key }
     ensures same { siblings.new ≡ siblings.old }
-    ensures next { OnOk result (GoesOn (reading T.starts sources.now) (kept_on R.walked board.now) walk.old steps.old walk.new steps.new) }
-    ensures found { OnOk result (GoesOn (reading T.starts sources.now) (kept_on R.walked board.now) walk.old 0 walk.new 0) }
-    ensures most { IsWithinMost (reading T.starts sources.now) (kept_on R.walked board.now) walk.old steps.old steps.new }
+    ensures next { OnOk result (GoesOn (reading T.starts sources.now) (B.kept board.now) walk.old steps.old walk.new steps.new) }
+    ensures found { OnOk result (GoesOn (reading T.starts sources.now) (B.kept board.now) walk.old 0 walk.new 0) }
+    ensures most { IsWithinMost (reading T.starts sources.now) (B.kept board.now) walk.old steps.old steps.new }
 {
     let _root = sources.arena.root();
     if !is_element(sources.arena, key) {

@@ -6,11 +6,11 @@ ghost use Rattle.box_eval.specs.Evaluation.{StyledNode};
 ghost use Rattle.merged_walk.specs.Merges.{Merge};
 ghost use Rattle.surroundings.specs.declared.told.Told.{Told};
 ghost use Rattle.surroundings.specs.StyledEvaluators.{root_surroundings};
-ghost use Rattle.document_walk.specs.Catching.{frames_of, kept_on, reading, stops_left};
+ghost use Rattle.document_walk.specs.Catching.{frames_of, reading, stops_left};
 ghost use Rattle.document_walk.specs.CatchingUp.{AreAllAmong, AreAllCollected, AreAllTold, AreOfElements, CanCatchUp, CoversAll, IsWithinBudget, IsWithinElements, IsWithinWhole};
 
 use crate::catching::Catching;
-use crate::snapshot::Snapshot;
+use crate::snapshot::Snapshots;
 use crate::sources::Sources;
 use crate::turning::{turn_at, turn_at_stop};
 use box_eval::change::Change;
@@ -19,7 +19,6 @@ use merged_walk::stop::Stop;
 use plain_types::list::List;
 use plain_types::memory::Memory;
 use selector_match::siblings::Siblings;
-use snapshot_board::board::Board;
 use std::alloc::Global;
 use std::sync::ledger::Ledger;
 use steps::Steps;
@@ -51,28 +50,28 @@ pub(crate) fn begin<T: Starts>(
 }
 
 /// Goes on from before the root to the end.
-pub(crate) fn go<L: Ledger, T: Starts, R: Snapshot + Drop>(
+pub(crate) fn go<L: Ledger, T: Starts, B: Snapshots>(
     walk: &mut Catching,
     alloc: Global,
     sources: &Sources<T>,
-    board: &Board<R>,
+    board: &B,
     steps: &mut Steps<L>,
 ) -> Result<(), Memory>
-    requires stands { (merge : Merge StyledNode) × ((held : ℕ → Option Told) × CanCatchUp (reading T.starts sources.now) (kept_on R.walked board.now) (stops_left walk.old) merge held) }
+    requires stands { (merge : Merge StyledNode) × ((held : ℕ → Option Told) × CanCatchUp (reading T.starts sources.now) (B.kept board.now) (stops_left walk.old) merge held) }
     requires frames { frames_of walk.old ≡ [] }
     requires link { walk.old.link ≡ first_key sources.now.arena.now.tree }
     requires around { walk.old.around ≡ root_surroundings }
     requires told { walk.old.told ≡ [] }
-    ensures covers { OnOk result (CoversAll (reading T.starts sources.now) (kept_on R.walked board.now) (stops_left walk.old) walk.new.told) }
-    ensures among { OnOk result (AreAllAmong (reading T.starts sources.now) (kept_on R.walked board.now) (stops_left walk.old) walk.new.told) }
-    ensures few { OnOk result (IsWithinBudget (reading T.starts sources.now) (kept_on R.walked board.now) (stops_left walk.old) steps.old (steps.new + length walk.new.told)) }
-    ensures found { OnOk result (IsWithinBudget (reading T.starts sources.now) (kept_on R.walked board.now) (stops_left walk.old) 0 (length walk.new.told)) }
-    ensures most { IsWithinBudget (reading T.starts sources.now) (kept_on R.walked board.now) (stops_left walk.old) steps.old steps.new }
-    ensures count { OnOk result (AreOfElements (reading T.starts sources.now) (kept_on R.walked board.now) (stops_left walk.old) walk.new.told) }
-    ensures whole { IsWithinElements (reading T.starts sources.now) (kept_on R.walked board.now) (stops_left walk.old) steps.old steps.new }
-    ensures all { OnOk result (AreAllTold (reading T.starts sources.now) (kept_on R.walked board.now) (stops_left walk.old) walk.new.told) }
-    ensures changes { OnOk result (AreAllCollected (reading T.starts sources.now) (kept_on R.walked board.now) (stops_left walk.old) walk.old.changes walk.new.changes) }
-    ensures three { IsWithinWhole (reading T.starts sources.now) (kept_on R.walked board.now) (stops_left walk.old) steps.old steps.new }
+    ensures covers { OnOk result (CoversAll (reading T.starts sources.now) (B.kept board.now) (stops_left walk.old) walk.new.told) }
+    ensures among { OnOk result (AreAllAmong (reading T.starts sources.now) (B.kept board.now) (stops_left walk.old) walk.new.told) }
+    ensures few { OnOk result (IsWithinBudget (reading T.starts sources.now) (B.kept board.now) (stops_left walk.old) steps.old (steps.new + length walk.new.told)) }
+    ensures found { OnOk result (IsWithinBudget (reading T.starts sources.now) (B.kept board.now) (stops_left walk.old) 0 (length walk.new.told)) }
+    ensures most { IsWithinBudget (reading T.starts sources.now) (B.kept board.now) (stops_left walk.old) steps.old steps.new }
+    ensures count { OnOk result (AreOfElements (reading T.starts sources.now) (B.kept board.now) (stops_left walk.old) walk.new.told) }
+    ensures whole { IsWithinElements (reading T.starts sources.now) (B.kept board.now) (stops_left walk.old) steps.old steps.new }
+    ensures all { OnOk result (AreAllTold (reading T.starts sources.now) (B.kept board.now) (stops_left walk.old) walk.new.told) }
+    ensures changes { OnOk result (AreAllCollected (reading T.starts sources.now) (B.kept board.now) (stops_left walk.old) walk.old.changes walk.new.changes) }
+    ensures three { IsWithinWhole (reading T.starts sources.now) (B.kept board.now) (stops_left walk.old) steps.old steps.new }
 {
     let _root = sources.arena.root();
     let mut siblings = Siblings::new(alloc, sources.arena);

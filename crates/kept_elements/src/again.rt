@@ -50,6 +50,8 @@ fn told_again(alloc: Global, kept: &Kept, pieces: &BoxPieces) -> Result<Told, Me
         },
         walked: kept.walked.share(alloc)?,
         asks: false,
+        starts: List::new(alloc),
+        changes: List::new(alloc),
     })
 }
 

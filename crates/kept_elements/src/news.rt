@@ -8,6 +8,7 @@ ghost use Rattle.kept_elements.specs.News.{AreNewsOf, is_handed_as_held, is_news
 
 use crate::kept::Kept;
 use box_eval::element_record::ElementRecord;
+use box_eval::inputs::Start;
 use box_eval::made::Made;
 use merged_walk::stop::Stop;
 use node_arena::arena::Arena;
@@ -38,6 +39,21 @@ fn share_made(alloc: Global, made: &Option<Made>) -> Result<Option<Made>, Memory
     }
 }
 
+/// The same starts once more.
+fn share_starts(alloc: Global, starts: &[Start]) -> Result<List<Start>, Memory>
+    ensures same { IfOk result (λ same. same ≡ starts.now) }
+{
+    let mut same = List::new(alloc);
+    for start in starts {
+        same.push(Start {
+            creator: start.creator,
+            name: start.name.duplicate(alloc)?,
+            value: start.value,
+        })?;
+    }
+    Ok(same)
+}
+
 /// The same once more.
 fn share_told(alloc: Global, told: &Told) -> Result<Told, Memory>
     ensures same { IfOk result (λ same. same ≡ told.now) }
@@ -56,6 +72,8 @@ fn share_told(alloc: Global, told: &Told) -> Result<Told, Memory>
         },
         walked: told.walked.share(alloc)?,
         asks: told.asks,
+        starts: share_starts(alloc, told.starts.as_slice())?,
+        changes: told.changes.duplicate(alloc)?,
     })
 }
 

@@ -1,4 +1,4 @@
--- What is kept of an element tells whether it asks for starts.
+-- What is kept of an element tells whether it asks for starts, and which it was given.
 use Rattle.std.proofs.Common.{◌≡◌, ◌||◌, ◌++◌, ℕ, Bool, true, false, cond, List, Option, Some, None, refl, ap, ◌∙◌}
 use Rattle.std.proofs.Math.Bool.{or-false}
 use Rattle.std.proofs.lemmas.List.Folds.{list_any-append}
@@ -9,11 +9,11 @@ use Rattle.forest.specs.Keys.{Keyed}
 use Rattle.plain_types.specs.declared.counter_style.CounterStyle.{CounterStyle}
 use Rattle.box_eval.specs.Boxes.{generates_box}
 use Rattle.box_eval.specs.Evaluation.{Element, StyledNode, Text, is_boxed}
-use Rattle.box_eval.specs.Starts.{any_asks_for_start, node_asks_for_start}
+use Rattle.box_eval.specs.Starts.{any_asks_for_start, has_starts, node_asks_for_start}
 use Rattle.merged_walk.specs.Evaluators.{past_all, told, told_all}
 use Rattle.surroundings.specs.declared.surroundings.Surroundings.{Surroundings}
 use Rattle.surroundings.specs.declared.told.Told.{Told}
-use Rattle.surroundings.specs.StyledEvaluators.{inside_node, past_styled, styled_evaluator}
+use Rattle.surroundings.specs.StyledEvaluators.{asks_of, inside_node, past_styled, starts_in, starts_of, styled_evaluator}
 
 abbrev any_asks : List (ℕ × Told) → Bool
 any_asks told = list_any (λ (entry : ℕ × Told). entry.1.asks) told
@@ -27,6 +27,16 @@ swapped true true third = refl
 swapped true false third = refl
 swapped false true third = refl
 swapped false false third = refl
+
+asks-has : (b : Bool) (label : StyledNode) → node_asks_for_start b label ≡ has_starts (starts_in b label)
+asks-has true (Element element) = refl
+asks-has false (Element element) = refl
+asks-has true Text = refl
+asks-has false Text = refl
+
+pub asks-starts : (node : Keyed StyledNode) (handed : Option Surroundings) → asks_of node handed ≡ has_starts (starts_of node handed)
+asks-starts node None = refl
+asks-starts node (Some around) = asks-has (is_boxed true node.label) node.label
 
 module _ (table : List CounterStyle) where
   -- inside an element with a box something is handed, and nothing in one without

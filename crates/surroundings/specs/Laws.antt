@@ -10,13 +10,13 @@ use Rattle.plain_types.specs.declared.counter_style.CounterStyle.{CounterStyle}
 use Rattle.box_eval.specs.declared.inputs.Inputs.{Inputs}
 use Rattle.box_eval.specs.Elements.{Styled}
 use Rattle.box_eval.specs.Evaluation.{Element, StyledNode, all_inputs, evaluation}
-use Rattle.box_eval.specs.Starts.{any_asks_for_start}
+use Rattle.box_eval.specs.Starts.{any_asks_for_start, has_starts}
 use Rattle.merged_walk.specs.Entries.{first_at}
 use Rattle.merged_walk.specs.Evaluators.{AllFit, IsSound, inputs, told_all}
 use Rattle.surroundings.specs.declared.surroundings.Surroundings.{Surroundings}
 use Rattle.surroundings.specs.declared.told.Told.{Told}
 use Rattle.surroundings.specs.Surroundings.{is_same, surroundings_in}
-use Rattle.surroundings.specs.StyledEvaluators.{root_surroundings, styled_asks, styled_evaluator}
+use Rattle.surroundings.specs.StyledEvaluators.{kept_of, root_surroundings, styled_asks, styled_evaluator}
 
 -- The tests tell what is handed.
 
@@ -39,6 +39,12 @@ told_document table trees = told_all (styled_evaluator table) root_surroundings 
 abbrev pub TellsWhoAsks : Type 0
 TellsWhoAsks =
     (table : List CounterStyle) (trees : Forest (Keyed StyledNode)) → any_asks_for_start true trees ≡ list_any (λ (entry : ℕ × Told). entry.1.asks) (told_document table trees)
+
+-- and an element asks where there are starts that it was given
+abbrev pub TellsWhatIsAsked : Type 0
+TellsWhatIsAsked =
+    (table : List CounterStyle) (node : Keyed StyledNode) (handed behind : Option Surroundings)
+    → let told : Told = kept_of table node handed behind in told.asks ≡ has_starts told.starts
 
 abbrev pub OfEachDocument : (List CounterStyle → Forest (Keyed StyledNode) → Type 0) → Type 0
 OfEachDocument law = (table : List CounterStyle) (trees : Forest (Keyed StyledNode)) → HasDistinctKeys trees → law table trees

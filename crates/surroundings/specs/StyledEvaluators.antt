@@ -6,9 +6,11 @@ use Rattle.forest.specs.Keys.{Keyed}
 use Rattle.plain_types.specs.declared.box_kind.BoxKind.TheVariants as kind
 use Rattle.plain_types.specs.declared.counter_style.CounterStyle.{CounterStyle}
 use Rattle.counter_sets.specs.Sets.{is_by_peer}
+use Rattle.box_eval.specs.declared.change.Change.{Change}
 use Rattle.box_eval.specs.declared.element_record.ElementRecord.{ElementRecord}
+use Rattle.box_eval.specs.declared.inputs.Start.{Start}
 use Rattle.box_eval.specs.Boxes.{box_of}
-use Rattle.box_eval.specs.Elements.{Handed, at_root, by_parent}
+use Rattle.box_eval.specs.Elements.{Handed, at_root, by_parent, entry_of}
 use Rattle.box_eval.specs.Evaluation.{StyledNode, Element, Text, is_boxed, past_node, record_of, within, without_box}
 use Rattle.box_eval.specs.Starts.{node_asks_for_start}
 use Rattle.merged_walk.specs.Evaluators.{Asks, Evaluator}
@@ -28,6 +30,15 @@ root_surroundings = Some (surroundings_of at_root)
 abbrev pub asks_of : Keyed StyledNode → Option Surroundings → Bool
 asks_of node None = false
 asks_of node (Some around) = node_asks_for_start (is_boxed true node.label) node.label
+
+-- the starts that its boxes were given
+abbrev pub starts_in : Bool → StyledNode → List Start
+starts_in true (Element element) = element.starts
+starts_in _ label = []
+
+abbrev pub starts_of : Keyed StyledNode → Option Surroundings → List Start
+starts_of node None = []
+starts_of node (Some around) = starts_in (is_boxed true node.label) node.label
 
 module _ (table : List CounterStyle) where
   -- what a node hands to its first child
@@ -52,12 +63,23 @@ module _ (table : List CounterStyle) where
   said_of node (Some around) behind =
       said_in (is_boxed true node.label) node.key node.label (handed_by around) (handed_by (unwrap_or behind around))
 
+  -- what its own box does to counters
+  abbrev pub own_changes_in : Bool → ℕ → StyledNode → Handed → List Change
+  own_changes_in true key (Element element) handed = (entry_of table by_parent key element handed).changes
+  own_changes_in _ key label handed = []
+
+  abbrev pub own_changes_of : Keyed StyledNode → Option Surroundings → List Change
+  own_changes_of node None = []
+  own_changes_of node (Some around) = own_changes_in (is_boxed true node.label) node.key node.label (handed_by around)
+
   -- what is kept of it
   abbrev pub kept_of : Keyed StyledNode → (handed behind : Option Surroundings) → Told
   kept_of node handed behind = record {
     said = said_of node handed behind;
     walked = record { handed = handed; behind = behind };
     asks = asks_of node handed;
+    starts = starts_of node handed;
+    changes = own_changes_of node handed;
   }
 
   abbrev pub styled_evaluator : Evaluator StyledNode Told (Option Surroundings)

@@ -1,7 +1,7 @@
 //! Laws of the evaluation of documents as what is handed from node to node. The functions do nothing: each contract is a
 //! law, proved of every document.
 
-ghost use Rattle.surroundings.specs.Laws.{AreItsInputs, EachNodeFits, EvaluatorIsSound, OfEachDocument, SaysTheEvaluation, SharedSubtreesAreToldByTheirInputs, TellsWhoAsks, TestsDecide, TestsDecideWhatIsHanded};
+ghost use Rattle.surroundings.specs.Laws.{AreItsInputs, EachNodeFits, EvaluatorIsSound, OfEachDocument, SaysTheEvaluation, SharedSubtreesAreToldByTheirInputs, TellsWhatIsAsked, TellsWhoAsks, TestsDecide, TestsDecideWhatIsHanded};
 
 /// The test of what is handed is true of the same alone.
 pub fn tests_tell_what_is_handed()
@@ -20,9 +20,10 @@ pub fn evaluator_says_the_evaluation()
     ensures said { OfEachDocument SaysTheEvaluation }
 {}
 
-/// The elements that ask for starts are told by what is kept of them.
+/// The elements that ask for starts are told by what is kept of them, and so are these starts.
 pub fn evaluator_tells_who_asks()
     ensures asks { TellsWhoAsks }
+    ensures starts { TellsWhatIsAsked }
 {}
 
 /// Each node of a document with distinct keys can be opened and closed with what it is handed.

@@ -15,9 +15,10 @@
 //! an `Option<Surroundings>`.
 //!
 //! A [`told::Told`] is what an evaluation keeps of an element: what it says of it, what the element was handed and what
-//! was handed on behind its children ([`walked::Walked`]), and whether it asks for starts. So what is kept of single
-//! elements tells all that an evaluation handed on, and a walk that begins in the middle of a document needs no more.
-//! Sets share their lists, so to keep what was handed costs no list.
+//! was handed on behind its children ([`walked::Walked`]), the starts for which it asks, and what its own box does to
+//! counters. So what is kept of single elements tells all that an evaluation handed on, and a walk that begins in the
+//! middle of a document needs no more; and where two evaluations tell the same of an element, its boxes do the same to
+//! counters. Sets share their lists, so to keep what was handed costs no list.
 //!
 //! The layers above know this crate by `styled_evaluator` of `specs/StyledEvaluators.antt`, an `Evaluator` of
 //! `merged_walk`, and by `styled_asks`, what the calls that open and close an element ask for. `specs/MergedLevels.antt`

@@ -50,6 +50,8 @@ told_again kept pieces = record {
   };
   walked = kept.walked;
   asks = false;
+  starts = [];
+  changes = [];
 }
 
 module _ (held : FinMap nat_cmp Kept) where

@@ -1,6 +1,6 @@
 use Rattle.std.proofs.Common.{ℕ, arith, refl, sym, ◌∙◌, true, false}
 use Rattle.surroundings.proofs.Said.{sound}
-use Rattle.document_walk.specs.Catching.{HasEntered, HasSkipped, kept_on, reading, stops_left}
+use Rattle.document_walk.specs.Catching.{HasEntered, HasSkipped, reading, stops_left}
 use Rattle.document_walk.specs.Standing.{GoesOn}
 use Rattle.document_walk.proofs.BeginningLemmas.{on_ok, plus}
 use Rattle.document_walk.proofs.ChoiceLemmas.{can_open, fresh_entering, other_entering, passes_turn, skip_most, skip_turn}
@@ -11,14 +11,14 @@ pub returns-then-not-is_element-clause-next : goal.returns-then-not-is_element-c
 returns-then-not-is_element-clause-next g c = λ held all most at.
     let from = reading g.T.Starts.starts c.args.sources.now in
     let walk = c.args.walk.now in
-    passes_turn from (kept_on g.R.Snapshot.walked c.args.board.now) held all most (sound from.table) c.root-root.ensures.document.distinct walk c.args.steps.now at c.requires.off c.args.key c.requires.link
+    passes_turn from (g.B.Snapshots.kept c.args.board.now) held all most (sound from.table) c.root-root.ensures.document.distinct walk c.args.steps.now at c.requires.off c.args.key c.requires.link
     (record { stack = walk.stack; stops = walk.stops; link = c.next_sibling-walk.result; around = walk.around; told = walk.told; changes = walk.changes }) refl refl refl refl refl
     c.next_sibling-walk.ensures.link (sym c.is_element.ensures.test ∙ c.if-not-is_element.true)
 
 pub returns-then-is_fresh-clause-next : goal.returns-then-is_fresh-clause-next
 returns-then-is_fresh-clause-next g c =
     let from = reading g.T.Starts.starts c.args.sources.now in
-    let kept = kept_on g.R.Snapshot.walked c.args.board.now in
+    let kept = g.B.Snapshots.kept c.args.board.now in
     let walk = c.args.walk.now in
     let more = c.enter.new.steps in
     on_ok c.enter.result (HasEntered from walk c.enter.new.self c.args.key true) (GoesOn from kept walk c.args.steps.now c.enter.new.self more) c.enter.ensures.entered
@@ -30,7 +30,7 @@ returns-then-is_fresh-clause-next g c =
 pub returns-then-is_same-clause-next : goal.returns-then-is_same-clause-next
 returns-then-is_same-clause-next g c =
     let from = reading g.T.Starts.starts c.args.sources.now in
-    let kept = kept_on g.R.Snapshot.walked c.args.board.now in
+    let kept = g.B.Snapshots.kept c.args.board.now in
     let walk = c.args.walk.now in
     let more = c.skip.new.steps in
     on_ok c.skip.result (HasSkipped kept walk c.skip.new.self) (GoesOn from kept walk c.args.steps.now c.skip.new.self more) c.skip.ensures.skipped
@@ -41,7 +41,7 @@ returns-then-is_same-clause-next g c =
 pub returns-clause-next : goal.returns-clause-next
 returns-clause-next g c =
     let from = reading g.T.Starts.starts c.args.sources.now in
-    let kept = kept_on g.R.Snapshot.walked c.args.board.now in
+    let kept = g.B.Snapshots.kept c.args.board.now in
     let walk = c.args.walk.now in
     let more = c.enter-2.new.steps in
     on_ok c.enter-2.result (HasEntered from walk c.enter-2.new.self c.args.key false) (GoesOn from kept walk c.args.steps.now c.enter-2.new.self more) c.enter-2.ensures.entered
@@ -56,7 +56,7 @@ returns-clause-next g c =
 pub returns-then-is_fresh-clause-most : goal.returns-then-is_fresh-clause-most
 returns-then-is_fresh-clause-most g c = λ held all most at.
     let from = reading g.T.Starts.starts c.args.sources.now in
-    let kept = kept_on g.R.Snapshot.walked c.args.board.now in
+    let kept = g.B.Snapshots.kept c.args.board.now in
     let walk = c.args.walk.now in
     let more = c.enter.new.steps in
     entering-paid from kept held all most (sound from.table) walk c.args.steps.now at true (stops_left walk) more
@@ -66,7 +66,7 @@ returns-then-is_fresh-clause-most g c = λ held all most at.
 pub returns-then-is_same-clause-most : goal.returns-then-is_same-clause-most
 returns-then-is_same-clause-most g c = λ held all most at.
     let from = reading g.T.Starts.starts c.args.sources.now in
-    let kept = kept_on g.R.Snapshot.walked c.args.board.now in
+    let kept = g.B.Snapshots.kept c.args.board.now in
     let walk = c.args.walk.now in
     let more = c.skip.new.steps in
     skip_most from kept held all most (sound from.table) c.root-root.ensures.document.distinct walk c.args.steps.now at c.requires.off c.args.key c.requires.link
@@ -76,7 +76,7 @@ returns-then-is_same-clause-most g c = λ held all most at.
 pub returns-clause-most : goal.returns-clause-most
 returns-clause-most g c = λ held all most at.
     let from = reading g.T.Starts.starts c.args.sources.now in
-    let kept = kept_on g.R.Snapshot.walked c.args.board.now in
+    let kept = g.B.Snapshots.kept c.args.board.now in
     let walk = c.args.walk.now in
     let more = c.enter-2.new.steps in
     entering-paid from kept held all most (sound from.table) walk c.args.steps.now at false (stops_left walk) more
@@ -87,7 +87,7 @@ returns-clause-most g c = λ held all most at.
 pub returns-then-not-is_element-clause-most : goal.returns-then-not-is_element-clause-most
 returns-then-not-is_element-clause-most g c = λ held all most at.
     let from = reading g.T.Starts.starts c.args.sources.now in
-    let kept = kept_on g.R.Snapshot.walked c.args.board.now in
+    let kept = g.B.Snapshots.kept c.args.board.now in
     let walk = c.args.walk.now in
     still from kept held all most (sound from.table) walk c.args.steps.now at
 
@@ -95,7 +95,7 @@ pub enter-requires-clause-opens : goal.enter-requires-clause-opens
 enter-requires-clause-opens g c =
     let from = reading g.T.Starts.starts c.args.sources.now in
     let somewhere = c.requires.somewhere in
-    can_open from (kept_on g.R.Snapshot.walked c.args.board.now) somewhere.held somewhere.all somewhere.most (sound from.table) c.root-root.ensures.document.distinct c.args.walk.now c.args.steps.now somewhere.at c.args.key c.requires.link
+    can_open from (g.B.Snapshots.kept c.args.board.now) somewhere.held somewhere.all somewhere.most (sound from.table) c.root-root.ensures.document.distinct c.args.walk.now c.args.steps.now somewhere.at c.args.key c.requires.link
 
 -- The same with no step counted.
 
@@ -103,14 +103,14 @@ pub returns-then-not-is_element-clause-found : goal.returns-then-not-is_element-
 returns-then-not-is_element-clause-found g c = λ held all most at.
     let from = reading g.T.Starts.starts c.args.sources.now in
     let walk = c.args.walk.now in
-    passes_turn from (kept_on g.R.Snapshot.walked c.args.board.now) held all most (sound from.table) c.root-root.ensures.document.distinct walk 0 at c.requires.off c.args.key c.requires.link
+    passes_turn from (g.B.Snapshots.kept c.args.board.now) held all most (sound from.table) c.root-root.ensures.document.distinct walk 0 at c.requires.off c.args.key c.requires.link
     (record { stack = walk.stack; stops = walk.stops; link = c.next_sibling-walk.result; around = walk.around; told = walk.told; changes = walk.changes }) refl refl refl refl refl
     c.next_sibling-walk.ensures.link (sym c.is_element.ensures.test ∙ c.if-not-is_element.true)
 
 pub returns-then-is_fresh-clause-found : goal.returns-then-is_fresh-clause-found
 returns-then-is_fresh-clause-found g c =
     let from = reading g.T.Starts.starts c.args.sources.now in
-    let kept = kept_on g.R.Snapshot.walked c.args.board.now in
+    let kept = g.B.Snapshots.kept c.args.board.now in
     let walk = c.args.walk.now in
     let more : ℕ = 0 in
     on_ok c.enter.result (HasEntered from walk c.enter.new.self c.args.key true) (GoesOn from kept walk 0 c.enter.new.self more) c.enter.ensures.entered
@@ -122,7 +122,7 @@ returns-then-is_fresh-clause-found g c =
 pub returns-then-is_same-clause-found : goal.returns-then-is_same-clause-found
 returns-then-is_same-clause-found g c =
     let from = reading g.T.Starts.starts c.args.sources.now in
-    let kept = kept_on g.R.Snapshot.walked c.args.board.now in
+    let kept = g.B.Snapshots.kept c.args.board.now in
     let walk = c.args.walk.now in
     let more : ℕ = 0 in
     on_ok c.skip.result (HasSkipped kept walk c.skip.new.self) (GoesOn from kept walk 0 c.skip.new.self more) c.skip.ensures.skipped
@@ -133,7 +133,7 @@ returns-then-is_same-clause-found g c =
 pub returns-clause-found : goal.returns-clause-found
 returns-clause-found g c =
     let from = reading g.T.Starts.starts c.args.sources.now in
-    let kept = kept_on g.R.Snapshot.walked c.args.board.now in
+    let kept = g.B.Snapshots.kept c.args.board.now in
     let walk = c.args.walk.now in
     let more : ℕ = 0 in
     on_ok c.enter-2.result (HasEntered from walk c.enter-2.new.self c.args.key false) (GoesOn from kept walk 0 c.enter-2.new.self more) c.enter-2.ensures.entered

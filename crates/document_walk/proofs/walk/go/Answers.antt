@@ -3,7 +3,7 @@ use Rattle.box_eval.specs.Evaluation.{all_changes}
 use Rattle.surroundings.proofs.Said.{sound}
 use Rattle.forest.specs.Keys.{without_keys}
 use Rattle.document_walk.specs.Elements.{element_count}
-use Rattle.document_walk.specs.Catching.{document_of, kept_on, reading, with_changes}
+use Rattle.document_walk.specs.Catching.{document_of, reading, with_changes}
 use Rattle.document_walk.specs.CatchingUp.{budget, told_all}
 use Rattle.document_walk.proofs.BeginningLemmas.{all_collected, all_told, at_once, begins_way, can_leave, counted_alone, covers, goes_way, leaving_few, leaving_limit, leaving_whole, tells, told_few, whole_few, whole_limit, within, within_whole}
 use Rattle.document_walk.proofs.ChoiceLemmas.{end_is}
@@ -15,7 +15,7 @@ pub turns-init : goal.turns-init
 turns-init g c = (
   c.new-siblings.ensures.tree,
   λ merge held can.
-      begins_way (reading g.T.Starts.starts c.args.sources.now) (kept_on g.R.Snapshot.walked c.args.board.now) c.root-root.ensures.document.distinct c.args.walk.now merge held c.args.steps.now can
+      begins_way (reading g.T.Starts.starts c.args.sources.now) (g.B.Snapshots.kept c.args.board.now) c.root-root.ensures.document.distinct c.args.walk.now merge held c.args.steps.now can
       c.requires.frames c.requires.link c.requires.around c.requires.told,
 )
 
@@ -50,7 +50,7 @@ turns-preserved-then-is_at_stop g c = (
   λ merge held can.
       let from = reading g.T.Starts.starts c.args.sources.now in
       let way = c.turns.invariant.1 merge held can in
-      goes_way from (kept_on g.R.Snapshot.walked c.args.board.now) merge held c.args.steps.now c.args.walk.now.changes c.turns.walk c.turn_at_stop.new.walk c.turns.steps c.turn_at_stop.new.steps way
+      goes_way from (g.B.Snapshots.kept c.args.board.now) merge held c.args.steps.now c.args.walk.now.changes c.turns.walk c.turn_at_stop.new.walk c.turns.steps c.turn_at_stop.new.steps way
       (c.in_ok-turn_at_stop.ensures.next held (told_all from (document_of from)) (c.args.steps.now + budget from merge) way.at)
       (c.in_ok-turn_at_stop.ensures.found held (told_all from (document_of from)) (0 + budget from merge) way.found),
 )
@@ -86,7 +86,7 @@ turns-preserved-in-Continue-branch-2 g c = (
   λ merge held can.
       let from = reading g.T.Starts.starts c.args.sources.now in
       let way = c.turns.invariant.1 merge held can in
-      goes_way from (kept_on g.R.Snapshot.walked c.args.board.now) merge held c.args.steps.now c.args.walk.now.changes c.turns.walk c.turn_at.new.walk c.turns.steps c.turn_at.new.steps way
+      goes_way from (g.B.Snapshots.kept c.args.board.now) merge held c.args.steps.now c.args.walk.now.changes c.turns.walk c.turn_at.new.walk c.turns.steps c.turn_at.new.steps way
       (c.in_ok-turn_at-in-Some.ensures.next held (told_all from (document_of from)) (c.args.steps.now + budget from merge) way.at)
       (c.in_ok-turn_at-in-Some.ensures.found held (told_all from (document_of from)) (0 + budget from merge) way.found),
 )
@@ -96,7 +96,7 @@ turns-preserved-in-Continue-branch-2 g c = (
 pub leave-requires : goal.leave-requires
 leave-requires g c =
     let from = reading g.T.Starts.starts c.args.sources.now in
-    let kept = kept_on g.R.Snapshot.walked c.args.board.now in
+    let kept = g.B.Snapshots.kept c.args.board.now in
     let can = c.requires.stands in
     let all = told_all from (document_of from) in
     let most = c.args.steps.now + budget from can.0 in
@@ -108,7 +108,7 @@ leave-requires g c =
 pub turns-smaller : goal.turns-smaller
 turns-smaller g c =
     let from = reading g.T.Starts.starts c.args.sources.now in
-    let kept = kept_on g.R.Snapshot.walked c.args.board.now in
+    let kept = g.B.Snapshots.kept c.args.board.now in
     let can = c.requires.stands in
     let all = told_all from (document_of from) in
     let most = c.args.steps.now + budget from can.0 in
@@ -124,7 +124,7 @@ turns-preserved g c = (
   c.turns.invariant.0,
   λ merge held can.
       let from = reading g.T.Starts.starts c.args.sources.now in
-      let kept = kept_on g.R.Snapshot.walked c.args.board.now in
+      let kept = g.B.Snapshots.kept c.args.board.now in
       let all = told_all from (document_of from) in
       let most = c.args.steps.now + budget from merge in
       let walk = c.turns.walk in
@@ -143,7 +143,7 @@ turns-preserved g c = (
 pub returns-in_err-leave-in-Some-pop-clause-most : goal.returns-in_err-leave-in-Some-pop-clause-most
 returns-in_err-leave-in-Some-pop-clause-most g c = λ merge held can.
     let from = reading g.T.Starts.starts c.args.sources.now in
-    let kept = kept_on g.R.Snapshot.walked c.args.board.now in
+    let kept = g.B.Snapshots.kept c.args.board.now in
     let all = told_all from (document_of from) in
     let most = c.args.steps.now + budget from merge in
     let way = c.turns.invariant.1 merge held can in
@@ -154,7 +154,7 @@ returns-in_err-leave-in-Some-pop-clause-most g c = λ merge held can.
 pub returns-in_err-leave-in-Some-pop-clause-whole : goal.returns-in_err-leave-in-Some-pop-clause-whole
 returns-in_err-leave-in-Some-pop-clause-whole g c = λ merge held can.
     let from = reading g.T.Starts.starts c.args.sources.now in
-    let kept = kept_on g.R.Snapshot.walked c.args.board.now in
+    let kept = g.B.Snapshots.kept c.args.board.now in
     let all = told_all from (document_of from) in
     let most = c.args.steps.now + budget from merge in
     let way = c.turns.invariant.1 merge held can in
@@ -167,7 +167,7 @@ returns-in_err-leave-in-Some-pop-clause-whole g c = λ merge held can.
 pub returns-in-None-pop-clause-covers : goal.returns-in-None-pop-clause-covers
 returns-in-None-pop-clause-covers g c = λ merge held can.
     let from = reading g.T.Starts.starts c.args.sources.now in
-    let kept = kept_on g.R.Snapshot.walked c.args.board.now in
+    let kept = g.B.Snapshots.kept c.args.board.now in
     let all = told_all from (document_of from) in
     let most = c.args.steps.now + budget from merge in
     let way = c.turns.invariant.1 merge held can in
@@ -178,17 +178,17 @@ returns-in-None-pop-clause-covers g c = λ merge held can.
 pub returns-in-None-pop-clause-among : goal.returns-in-None-pop-clause-among
 returns-in-None-pop-clause-among g c = λ merge held can.
     let from = reading g.T.Starts.starts c.args.sources.now in
-    tells from (kept_on g.R.Snapshot.walked c.args.board.now) held (told_all from (document_of from)) (c.args.steps.now + budget from merge) c.turns.walk c.turns.steps (c.turns.invariant.1 merge held can).at
+    tells from (g.B.Snapshots.kept c.args.board.now) held (told_all from (document_of from)) (c.args.steps.now + budget from merge) c.turns.walk c.turns.steps (c.turns.invariant.1 merge held can).at
 
 pub returns-in-None-pop-clause-few : goal.returns-in-None-pop-clause-few
 returns-in-None-pop-clause-few g c = λ merge held can.
     let from = reading g.T.Starts.starts c.args.sources.now in
-    within from (kept_on g.R.Snapshot.walked c.args.board.now) held (told_all from (document_of from)) (c.args.steps.now + budget from merge) c.turns.walk c.turns.steps (c.turns.invariant.1 merge held can).at
+    within from (g.B.Snapshots.kept c.args.board.now) held (told_all from (document_of from)) (c.args.steps.now + budget from merge) c.turns.walk c.turns.steps (c.turns.invariant.1 merge held can).at
 
 pub returns-in-None-pop-clause-most : goal.returns-in-None-pop-clause-most
 returns-in-None-pop-clause-most g c = λ merge held can.
     let from = reading g.T.Starts.starts c.args.sources.now in
-    at_once c.turns.steps _ _ (within from (kept_on g.R.Snapshot.walked c.args.board.now) held (told_all from (document_of from)) (c.args.steps.now + budget from merge) c.turns.walk c.turns.steps (c.turns.invariant.1 merge held can).at)
+    at_once c.turns.steps _ _ (within from (g.B.Snapshots.kept c.args.board.now) held (told_all from (document_of from)) (c.args.steps.now + budget from merge) c.turns.walk c.turns.steps (c.turns.invariant.1 merge held can).at)
 
 pub returns-in-None-pop-clause-count : goal.returns-in-None-pop-clause-count
 returns-in-None-pop-clause-count g c = λ merge held can.
@@ -217,7 +217,7 @@ returns-in_err-turn_at-in-Some-clause-three g c = λ merge held can come.
 pub returns-in_err-leave-in-Some-pop-clause-three : goal.returns-in_err-leave-in-Some-pop-clause-three
 returns-in_err-leave-in-Some-pop-clause-three g c = λ merge held can come.
     let from = reading g.T.Starts.starts c.args.sources.now in
-    let kept = kept_on g.R.Snapshot.walked c.args.board.now in
+    let kept = g.B.Snapshots.kept c.args.board.now in
     let all = told_all from (document_of from) in
     let most = c.args.steps.now + budget from merge in
     let way = c.turns.invariant.1 merge held can in
@@ -239,7 +239,7 @@ returns-in-None-pop-clause-three g c = λ merge held can come.
 pub returns-in-None-pop-clause-all : goal.returns-in-None-pop-clause-all
 returns-in-None-pop-clause-all g c = λ merge held can come.
     let from = reading g.T.Starts.starts c.args.sources.now in
-    let kept = kept_on g.R.Snapshot.walked c.args.board.now in
+    let kept = g.B.Snapshots.kept c.args.board.now in
     let all = told_all from (document_of from) in
     let most = c.args.steps.now + budget from merge in
     let way = c.turns.invariant.1 merge held can in
@@ -252,7 +252,7 @@ returns-in-None-pop-clause-all g c = λ merge held can come.
 pub returns-in-None-pop-clause-changes : goal.returns-in-None-pop-clause-changes
 returns-in-None-pop-clause-changes g c = λ merge held can come.
     let from = reading g.T.Starts.starts c.args.sources.now in
-    let kept = kept_on g.R.Snapshot.walked c.args.board.now in
+    let kept = g.B.Snapshots.kept c.args.board.now in
     let all = told_all from (document_of from) in
     let most = c.args.steps.now + budget from merge in
     let way = c.turns.invariant.1 merge held can in
@@ -265,4 +265,4 @@ returns-in-None-pop-clause-changes g c = λ merge held can come.
 pub returns-in-None-pop-clause-found : goal.returns-in-None-pop-clause-found
 returns-in-None-pop-clause-found g c = λ merge held can.
     let from = reading g.T.Starts.starts c.args.sources.now in
-    counted_alone _ _ (within from (kept_on g.R.Snapshot.walked c.args.board.now) held (told_all from (document_of from)) (0 + budget from merge) c.turns.walk 0 (c.turns.invariant.1 merge held can).found)
+    counted_alone _ _ (within from (g.B.Snapshots.kept c.args.board.now) held (told_all from (document_of from)) (0 + budget from merge) c.turns.walk 0 (c.turns.invariant.1 merge held can).found)

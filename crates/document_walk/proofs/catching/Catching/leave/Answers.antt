@@ -1,4 +1,4 @@
-use Rattle.std.proofs.Common.{◌∙◌, ◌∷◌, ◌++◌, [], Bool, Option, ap}
+use Rattle.std.proofs.Common.{◌∙◌, ◌∷◌, ◌++◌, [], Option, ap}
 use Rattle.box_eval.specs.declared.element_record.ElementRecord.{ElementRecord}
 use Rattle.box_eval.specs.declared.made.Made.{Made}
 use Rattle.box_eval.specs.Evaluation.{changes_in}
@@ -21,8 +21,16 @@ returns-clause-left g c =
       stops = c.in_ok-tell.ensures.stops;
       told =
           c.in_ok-tell.ensures.told
-          ∙ ap (λ (said : ElementRecord). walk.told ++ (frame.key, record { said = said; walked = record { handed = frame.handed; behind = walk.around }; asks = left.asks }) ∷ []) said
-          ∙ ap (λ (asks : Bool). walk.told ++ (frame.key, record { said = said_by from frame.key frame.opened walk.around; walked = record { handed = frame.handed; behind = walk.around }; asks = asks }) ∷ []) c.in_ok-left.ensures.asks;
+          ∙ (λ i. walk.told ++ (
+            frame.key,
+            record {
+              said = said i;
+              walked = record { handed = frame.handed; behind = walk.around };
+              asks = c.in_ok-left.ensures.asks i;
+              starts = c.in_ok-left.ensures.starts i;
+              changes = c.in_ok-left.ensures.changes i;
+            },
+          ) ∷ []);
       changes =
           c.in_ok-tell.ensures.changes ∙ c.in_ok-collect_made.ensures.collected
           ∙ ap (λ (made : Option Made). with_changes walk.changes (changes_in made)) (c.as_ref-3.ensures.value ∙ ap (λ (said : ElementRecord). said.after) said);
