@@ -1,0 +1,244 @@
+-- What the index of a document tells.
+use Rattle.std.proofs.Common.{◌≡◌, ◌==◌, ◌++◌, ◌∷◌, ◌&&◌, ◌||◌, ◌<◌, ◌+◌, ℕ, ℤ, pos, Bool, true, false, not, All, List, [], map, Option, Some, None, cond, refl, sym, ap, subst, ◌∙◌, arith, eq-eqb}
+use Rattle.std.specs.Prelude.{filter, is_some, option_map}
+use Rattle.std.specs.List.{find, list_any}
+use Rattle.std.specs.Option.{option_map_or}
+use Rattle.std.specs.Str.{bytes_eq}
+use Rattle.std.proofs.lemmas.Bool.{and_parts}
+use Rattle.std.proofs.lemmas.List.{map-append}
+use Rattle.std.proofs.lemmas.List.Elements.{All-append, All-cons, All-map, All-nil, All-weaker}
+use Rattle.std.proofs.lemmas.Slice.Eq.{bytes_eq-Decides}
+use Rattle.forest.specs.Forest.{Forest, Empty, Tree}
+use Rattle.forest.specs.Keys.{Keyed, HasDistinctKeys, times}
+use Rattle.forest.specs.Spots.{IsLive}
+use Rattle.forest.proofs.SpotLaws.{counted-live}
+use Rattle.plain_types.specs.declared.box_id.BoxId.{BoxId}
+use Rattle.plain_types.specs.declared.box_kind.BoxKind.{BoxKind}
+use Rattle.plain_types.specs.declared.box_kind.BoxKind.TheVariants as kind
+use Rattle.plain_types.specs.declared.counter_style.CounterStyle.{CounterStyle}
+use Rattle.plain_types.specs.declared.node.Node.{Node}
+use Rattle.plain_types.specs.declared.node.Node.TheVariants as node
+use Rattle.plain_types.specs.declared.style.ElementStyle.{ElementStyle}
+use Rattle.plain_types.specs.declared.style.ResetOp.{ResetOp}
+use Rattle.plain_types.specs.declared.style.Style.{Style}
+use Rattle.counter_sets.specs.Sets.{is_same_box}
+use Rattle.reversed_start.specs.Starts.{start}
+use Rattle.box_eval.specs.declared.change.Change.{Change}
+use Rattle.box_eval.specs.declared.inputs.Start.{Start}
+use Rattle.box_eval.specs.Boxes.{box_of, generates_box, has_pseudo_box}
+use Rattle.box_eval.specs.Elements.{Styled}
+use Rattle.box_eval.specs.Evaluation.{Element, StyledNode, box_starts, element_starts, is_boxed, style_within, styled, styled_node, styled_trees}
+use Rattle.box_eval.specs.Properties.{last_resets, start_in}
+use Rattle.box_eval.specs.Starts.{document_starts, events_of, no_starts}
+use Rattle.box_eval.proofs.BoxLemmas.{box_eq}
+use Rattle.merged_walk.specs.Entries.{first_at}
+use Rattle.merged_walk.specs.Evaluators.{past_all}
+use Rattle.surroundings.specs.declared.surroundings.Surroundings.{Surroundings}
+use Rattle.surroundings.specs.StyledEvaluators.{inside_node, is_element, past_styled, root_surroundings, styled_evaluator}
+use Rattle.scope_deeds.specs.Counting.{Counting, counting_in, counting_of}
+use Rattle.scope_deeds.proofs.LawLemmas.{kept_scopes_tell_starts}
+use Rattle.counter_index.specs.declared.deeds.CounterDeeds.{CounterDeeds}
+use Rattle.counter_index.specs.declared.index.CounterIndex.{CounterIndex}
+use Rattle.counter_index.specs.Documents.{KeepsDeeds, asked_in, asked_of, counter_deeds_in, counter_deeds_of}
+use Rattle.counter_index.specs.Indexes.{asked_at, asked_by, counting_at, counting_by, told_by_scope, with_values}
+use Rattle.counter_index.specs.Laws.{AskedAreOwn, AskedStartsAreKept, IndexKeepsCounting, OtherStartsAreZero, ScopesTellStarts}
+use Rattle.counter_index.specs.Retold.{told_entries}
+use Rattle.counter_index.proofs.ListLemmas.{first-has}
+
+-- What it has, by keys.
+
+abbrev counted : ℕ × CounterDeeds → ℕ × Counting
+counted entry = (entry.0, counting_by entry.1)
+
+first_step : (here : Bool) (deeds : CounterDeeds) (first : Option CounterDeeds)
+    → option_map counting_by (cond here (Some deeds) first) ≡ cond here (Some (counting_by deeds)) (option_map counting_by first)
+first_step true deeds first = refl
+first_step false deeds first = refl
+
+first-counted : (entries : List (ℕ × CounterDeeds)) (key : ℕ) → option_map counting_by (first_at entries key) ≡ first_at (map counted entries) key
+first-counted [] key = refl
+first-counted (entry ∷ entries) key =
+    first_step (entry.0 == key) entry.1 (first_at entries key)
+    ∙ ap (λ first. cond (entry.0 == key) (Some (counting_by entry.1)) first) (first-counted entries key)
+
+own-counted : (key : ℕ) (deeds : CounterDeeds) (here : Bool) → map counted (cond here ((key, deeds) ∷ []) []) ≡ cond here ((key, counting_by deeds) ∷ []) []
+own-counted key deeds true = refl
+own-counted key deeds false = refl
+
+all-counted : (table : List CounterStyle) (handed : Option Surroundings) (trees : Forest (Keyed StyledNode)) → map counted (counter_deeds_in table handed trees) ≡ counting_in table handed trees
+all-counted table handed Empty = refl
+all-counted table handed (Tree n c r) =
+    let inside : Option Surroundings = inside_node table n handed in
+    let behind : Option Surroundings = past_all (styled_evaluator table) inside c in
+    let next : Option Surroundings = past_styled table n handed behind in
+    let own : List (ℕ × CounterDeeds) = cond (is_element n.label) ((n.key, counter_deeds_of table n handed behind) ∷ []) [] in
+    let below = all-counted table inside c in
+    let here = own-counted n.key (counter_deeds_of table n handed behind) (is_element n.label) in
+    let beside = all-counted table next r in
+    map-append counted (counter_deeds_in table inside c) (own ++ counter_deeds_in table next r)
+    ∙ ap (λ all. map counted (counter_deeds_in table inside c) ++ all) (map-append counted own (counter_deeds_in table next r))
+    ∙ (λ i. below i ++ (here i ++ beside i))
+
+pub index_keeps_counting : IndexKeepsCounting
+index_keeps_counting table style tree index keeps key =
+    ap (option_map counting_by) (keeps key)
+    ∙ first-counted (counter_deeds_in table root_surroundings (styled style no_starts tree)) key
+    ∙ ap (λ entries. first_at entries key) (all-counted table root_surroundings (styled style no_starts tree))
+
+pub scopes_tell_starts : ScopesTellStarts
+scopes_tell_starts table style tree index distinct keeps creator name =
+    kept_scopes_tell_starts table style tree distinct (counting_at index) (index_keeps_counting table style tree index keeps) creator name
+
+-- What elements ask for.
+
+all-either : {X : Type 0} (P : X → Type 0) (b : Bool) (items others : List X) → All P items → All P others → All P (cond b items others)
+all-either P true items others all rest = all
+all-either P false items others all rest = rest
+
+module _ (key : ℕ) where
+  abbrev IsOwnStart : Start → Type 0
+  IsOwnStart asked = asked.creator.key ≡ key
+
+  box-own : (start : BoxId → List ℕ → ℤ) (kind : BoxKind) (style : Style) → All IsOwnStart (box_starts start (box_of key kind) style)
+  box-own start kind style =
+      All-map IsOwnStart (λ (reset : ResetOp). record { creator = box_of key kind; name = reset.name; value = start (box_of key kind) reset.name })
+      (filter (λ (reset : ResetOp). reset.reversed && not (is_some reset.value)) (last_resets style.resets)) (λ place default within. refl)
+
+  element-own : (start : BoxId → List ℕ → ℤ) (style : ElementStyle) → All IsOwnStart (element_starts start key style)
+  element-own start style =
+      let own : List Start = box_starts start (box_of key kind.Element) style.own in
+      let before : List Start = cond (has_pseudo_box style.before) (box_starts start (box_of key kind.Before) style.before) [] in
+      let after : List Start = cond (has_pseudo_box style.after) (box_starts start (box_of key kind.After) style.after) [] in
+      all-either IsOwnStart (generates_box style) (own ++ (before ++ after)) []
+      (All-append IsOwnStart own (before ++ after) (box-own start kind.Element style.own)
+      (All-append IsOwnStart before after
+      (all-either IsOwnStart (has_pseudo_box style.before) (box_starts start (box_of key kind.Before) style.before) [] (box-own start kind.Before style.before) (All-nil IsOwnStart))
+      (all-either IsOwnStart (has_pseudo_box style.after) (box_starts start (box_of key kind.After) style.after) [] (box-own start kind.After style.after) (All-nil IsOwnStart))))
+      (All-nil IsOwnStart)
+
+  asked-in-own : (boxed : Bool) (element : Styled) → All IsOwnStart element.starts → All IsOwnStart (asked_in boxed (Element element))
+  asked-in-own true element all = all
+  asked-in-own false element all = All-nil IsOwnStart
+
+  asked-own : (element : Styled) (handed : Option Surroundings) → All IsOwnStart element.starts
+      → All IsOwnStart (asked_of (record { key = key; label = Element element }) handed)
+  asked-own element None all = All-nil IsOwnStart
+  asked-own element (Some around) all = asked-in-own (is_boxed true (Element element)) element all
+
+-- the starts for which an element asks are its own, and it stands in these trees
+abbrev pub IsOwnEntry : Forest (Keyed Node) → ℕ × CounterDeeds → Type 0
+IsOwnEntry trees entry = All (IsOwnStart entry.0) entry.1.asked × (0 < times entry.0 trees)
+
+module _ (table : List CounterStyle) (style : ℕ → Option Style → ElementStyle) (start : BoxId → List ℕ → ℤ) where
+  node-own : (n : Keyed Node) (c r : Forest (Keyed Node)) (label : Node) (parent : Option Style) (handed behind : Option Surroundings)
+      → let node : Keyed StyledNode = record { key = n.key; label = styled_node style start parent n.key label } in
+      All (IsOwnEntry (Tree n c r)) (cond (is_element node.label) ((n.key, counter_deeds_of table node handed behind) ∷ []) [])
+  node-own n c r (node.Element name attrs) parent handed behind =
+      All-cons (IsOwnEntry (Tree n c r)) _ [] (
+        asked-own n.key (record { attrs = attrs; style = style n.key parent; starts = element_starts start n.key (style n.key parent) }) handed (element-own n.key start (style n.key parent)),
+        rw (eq-eqb n.key n.key refl) (omega arith),
+      )
+      (All-nil (IsOwnEntry (Tree n c r)))
+  node-own n c r (node.Text characters) parent handed behind = All-nil (IsOwnEntry (Tree n c r))
+
+  pub all-own : (trees : Forest (Keyed Node)) (parent : Option Style) (handed : Option Surroundings)
+      → All (IsOwnEntry trees) (counter_deeds_in table handed (styled_trees style start parent trees))
+  all-own Empty parent handed = All-nil (IsOwnEntry Empty)
+  all-own (Tree n c r) parent handed =
+      let node : Keyed StyledNode = record { key = n.key; label = styled_node style start parent n.key n.label } in
+      let children : Forest (Keyed StyledNode) = styled_trees style start (style_within style start parent n.key n.label) c in
+      let inside : Option Surroundings = inside_node table node handed in
+      let behind : Option Surroundings = past_all (styled_evaluator table) inside children in
+      let next : Option Surroundings = past_styled table node handed behind in
+      let first : List (ℕ × CounterDeeds) = counter_deeds_in table inside children in
+      let own : List (ℕ × CounterDeeds) = cond (is_element node.label) ((n.key, counter_deeds_of table node handed behind) ∷ []) [] in
+      let later : List (ℕ × CounterDeeds) = counter_deeds_in table next (styled_trees style start parent r) in
+      All-append (IsOwnEntry (Tree n c r)) first (own ++ later)
+      (All-weaker (IsOwnEntry c) (IsOwnEntry (Tree n c r)) (λ entry its. (its.0, omega (arith, its.1))) first (all-own c (style_within style start parent n.key n.label) inside))
+      (All-append (IsOwnEntry (Tree n c r)) own later (node-own n c r n.label parent handed behind)
+      (All-weaker (IsOwnEntry r) (IsOwnEntry (Tree n c r)) (λ entry its. (its.0, omega (arith, its.1))) later (all-own r parent next)))
+
+module _ (table : List CounterStyle) (style : ℕ → Option Style → ElementStyle) (tree : Forest (Keyed Node)) (key : ℕ) where
+  abbrev IsOwnAndLive : Start → Type 0
+  IsOwnAndLive asked = (asked.creator.key ≡ key) × IsLive tree key
+
+  abbrev entries : List (ℕ × CounterDeeds)
+  entries = counter_deeds_in table root_surroundings (styled style no_starts tree)
+
+  own-first : (first : Option CounterDeeds) → first_at entries key ≡ first → All IsOwnAndLive (asked_by first)
+  own-first None at = All-nil IsOwnAndLive
+  own-first (Some deeds) at =
+      let own = first-has (IsOwnEntry tree) entries (all-own table style no_starts tree None root_surroundings) key deeds at in
+      let live : IsLive tree key = counted-live tree key own.1 in
+      All-weaker (IsOwnStart key) IsOwnAndLive (λ asked is. (is, live)) deeds.asked own.0
+
+pub asked_are_own : AskedAreOwn
+asked_are_own table style tree index keeps key =
+    subst (λ (first : Option CounterDeeds). All (λ (asked : Start). (asked.creator.key ≡ key) × IsLive tree key) (asked_by first)) (sym (keeps key))
+    (own-first table style tree key (first_at (counter_deeds_in table root_surroundings (styled style no_starts tree)) key) refl)
+
+-- Starts, by counters.
+
+module _ (told : BoxId → List ℕ → ℤ) (creator : BoxId) (name : List ℕ) where
+  abbrev is_it : Start → Bool
+  is_it start = is_same_box start.creator creator && bytes_eq start.name name
+
+  same : (start : Start) → is_it start ≡ true → told start.creator start.name ≡ told creator name
+  same start e =
+      let parts = and_parts (is_same_box start.creator creator) (bytes_eq start.name name) e in
+      let decides = bytes_eq-Decides start.name name in
+      ap (λ box. told box start.name) (box_eq start.creator creator parts.0) ∙ ap (told creator) (decides.0 parts.1)
+
+  value_step : (here : Bool) (start : Start) (rest : List Start) → is_it start ≡ here
+      → (list_any is_it rest ≡ true → start_in (with_values told rest) creator name ≡ told creator name)
+      → (here || list_any is_it rest) ≡ true
+      → option_map_or (λ (s : Start). s.value) (cond here (Some (record { creator = start.creator; name = start.name; value = told start.creator start.name })) (find is_it (with_values told rest))) (pos 0) ≡ told creator name
+  value_step true start rest e later any = same start e
+  value_step false start rest e later any = later any
+
+  value-asked : (asked : List Start) → list_any is_it asked ≡ true → start_in (with_values told asked) creator name ≡ told creator name
+  value-asked [] any = absurd (cc)
+  value-asked (start ∷ rest) any = value_step (is_it start) start rest refl (value-asked rest) any
+
+  zero_step : (here : Bool) (start : Start) (rest : List Start)
+      → (list_any is_it rest ≡ false → start_in (with_values told rest) creator name ≡ pos 0)
+      → (here || list_any is_it rest) ≡ false
+      → option_map_or (λ (s : Start). s.value) (cond here (Some (record { creator = start.creator; name = start.name; value = told start.creator start.name })) (find is_it (with_values told rest))) (pos 0) ≡ pos 0
+  zero_step true start rest later none = absurd (cc)
+  zero_step false start rest later none = later none
+
+  value-unasked : (asked : List Start) → list_any is_it asked ≡ false → start_in (with_values told asked) creator name ≡ pos 0
+  value-unasked [] none = refl
+  value-unasked (start ∷ rest) none = zero_step (is_it start) start rest (value-unasked rest) none
+
+pub asked_starts_are_kept : AskedStartsAreKept
+asked_starts_are_kept table style tree index keeps creator name any =
+    ap (λ starts. start_in starts creator name) (keeps creator.key)
+    ∙ value-asked (document_starts table style tree) creator name (asked_at index creator.key) any
+
+pub other_starts_are_zero : OtherStartsAreZero
+other_starts_are_zero table style tree index keeps creator name none =
+    ap (λ starts. start_in starts creator name) (keeps creator.key)
+    ∙ value-unasked (document_starts table style tree) creator name (asked_at index creator.key) none
+
+-- starts that are told alike have the same values
+same-values : (told other : BoxId → List ℕ → ℤ) → ((creator : BoxId) (name : List ℕ) → told creator name ≡ other creator name) → (asked : List Start) → with_values told asked ≡ with_values other asked
+same-values told other same [] = refl
+same-values told other same (start ∷ rest) =
+    let value = same start.creator start.name in
+    let others = same-values told other same rest in
+    λ i. record { creator = start.creator; name = start.name; value = value i } ∷ others i
+
+-- starts that are told again
+module _ (table : List CounterStyle) (style : ℕ → Option Style → ElementStyle) (tree : Forest (Keyed Node)) (index : CounterIndex) (distinct : HasDistinctKeys tree) (keeps : KeepsDeeds table style tree index) where
+  told_again : (asked : List Start) → with_values (told_by_scope (counting_at index) tree) asked ≡ with_values (document_starts table style tree) asked
+  told_again asked =
+      same-values (told_by_scope (counting_at index) tree) (document_starts table style tree)
+      (λ creator name. sym (scopes_tell_starts table style tree index distinct keeps creator name)) asked
+
+  pub all_told_again : (keys : List ℕ) → told_entries (told_by_scope (counting_at index) tree) index keys ≡ told_entries (document_starts table style tree) index keys
+  all_told_again [] = refl
+  all_told_again (key ∷ keys) =
+      let first = told_again (asked_at index key) in
+      let rest = all_told_again keys in
+      λ i. (key, Some (first i)) ∷ rest i

@@ -1,0 +1,10 @@
+pub mod AskingIndex
+pub mod AskingLemmas
+pub mod EventTurns
+pub mod ExchangeLemmas
+pub mod IndexLemmas
+pub mod ListLemmas
+pub mod PutLemmas
+pub mod RowTurns
+pub mod ScopeLemmas
+pub mod TouchedLemmas

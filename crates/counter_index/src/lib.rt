@@ -1,0 +1,73 @@
+//! The index of a document: what its elements do to counters, and the starts of the reversed counters for which they ask.
+//!
+//! A reversed counter that is given no number starts with one that is told by all that boxes do to it in its scope (CSS Lists 3,
+//! 4.4). So an edit at one place can change the start of a counter that a box far from it creates. The index keeps of each element
+//! what it does to counters, as it is told where all starts are 0, since these are not changed by any start. An edit exchanges
+//! what is kept of the elements that it changes, and the starts that can be other now are told again by what is kept.
+//!
+//! | In an [`index::CounterIndex`] stands under the key of an element | as |
+//! |---|---|
+//! | the counters of its own box, the starts for which its boxes ask, and what they do to counters | [`deeds::CounterDeeds`] |
+//! | the starts for which its boxes ask, each with its value | a list of `Start` |
+//!
+//! An edit of a document takes these steps:
+//!
+//! | Step | Call | It takes |
+//! |---|---|---|
+//! | room for the keys of the elements that come | `reserve` | memory for a key |
+//! | the deeds of the elements that change, come and go | `exchange` | no memory; time in these elements |
+//! | which elements' starts can be other now | `touched` | time in what these elements do and did |
+//! | their starts, told by the scopes of their counters | `tell` | time in the nodes of these scopes |
+//! | these starts | `exchange_starts` | no memory |
+//! | which elements have other starts now | `with_other_starts` | time in these starts |
+//!
+//! An exchange leaves in the entries what was there before, so the same entries are its way back (`restore`,
+//! `restore_starts`), and a way back cannot fail. Keys may come several times in an exchange, as that of an element that goes and
+//! comes again: the last of them counts, and on the way back the first.
+//!
+//! An index is a [`Starts`](box_eval::starts::Starts): a walk asks it for the start of each counter that a box creates.
+//!
+//! # An example
+//!
+//! ```text
+//! 0 body
+//! 1   h2    counter-reset: reversed(c)
+//! 2   p     counter-increment: c -1
+//! 3   p     counter-increment: c -1
+//! 4   h2    counter-reset: reversed(c)
+//! ```
+//!
+//! The second paragraph goes:
+//!
+//! ```text
+//! let mut entries = [(3, None)];
+//! index.exchange(&mut entries);                                  // the entry has now what 3 did: -1 to the counter of 1
+//! let keys = index.touched(alloc, &entries, &[3])?;              // 1: its counter was changed by 3
+//! let mut starts = index.tell(alloc, &arena, keys.as_slice())?;  // 1: c starts with 2. Read were 1, 2 and the own set of 4
+//! index.exchange_starts(&mut starts);                            // the entry has now the start of before, 3
+//! let other = index.with_other_starts(alloc, &starts)?;          // 1
+//! ```
+//!
+//! That of 4 stays as it is, and nothing behind it is read.
+//!
+//! # What the layers above cite
+//!
+//! In contracts: `IsCounterIndex` with its parts `KeepsDeeds` and `KeepsStarts` (`specs/Documents.antt`); `deeds_at`, `asked_at`,
+//! `starts_at`, `value_at` and `counting_at` (`Indexes.antt`); `after_exchange`, `restored` and `IsWayBack` (`Exchanges.antt`);
+//! `IsUntouched` and `AreTouched` (`Touched.antt`); `told_entries` and `other_keys` (`Retold.antt`). What ties them to a document
+//! are the laws of [`laws`]; in proofs, by `proofs/IndexLemmas.antt` and `PutLemmas.antt`.
+#![tactic(auto)]
+
+mod asks;
+pub mod deeds;
+mod events;
+pub mod index;
+pub mod keys;
+pub mod laws;
+mod scope;
+mod slots;
+pub mod telling;
+#[cfg(test)]
+mod tests;
+pub mod touched;
+mod values;
