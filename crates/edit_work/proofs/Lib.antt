@@ -6,5 +6,5 @@ mod HandedInputs
 mod Points
 pub mod LawLemmas
 mod ReachedCounts
-mod ReachedPays
+pub mod ReachedPays
 pub mod ReachedLemmas

@@ -99,7 +99,7 @@ module _ (told : OfEachDocument AreItsInputs) (edit : Edit) (before after : Keye
       ap (weigh_elements is_styled_element f) forests.new ∙ weigh-styled new start f after.tree None in
       omega (arith, others, weighed, differing-few edit before after w)
 
-  paid : ArePaid (weight before after) (heavy before after) whole (placed edit before after) (around_places edit before after)
+  pub paid : ArePaid (weight before after) (heavy before after) whole (placed edit before after) (around_places edit before after)
   paid =
       let w = weight before after in
       let o = edit_reach edit before after in

@@ -40,9 +40,9 @@ module _ (edit : Edit) (before after : KeyedSource) where
       styled_merge (document_style (author before) before.tree) (document_style (author after) after.tree) was_start start None
       (edit_merge edit before.tree after.tree)
 
-  -- The work pays twice for a walk over this merge and for 2 steps at each node that it is led into, so that it pays for one
-  -- reading of what is kept for each change that it found, which are no more than its budget; and for taking out what was kept
-  -- of elements that go.
+  -- The work pays twice for a walk over this merge and for 2 steps at each node that it is led into: one that is turned, or has a
+  -- place under it. A walk finds no more changes than it takes steps, so one half pays for the walk, and the other for one reading
+  -- of what is kept for each change. And the work pays for taking out what was kept of elements that go.
   abbrev pub PaysForWalk : (was_start start : BoxId → List ℕ → ℤ) → Type 0
   PaysForWalk was_start start =
       let merge : Merge StyledNode = merge_with was_start start in

@@ -26,8 +26,8 @@ module _ (edit : Edit) (before after : KeyedSource) where
       styled_merge (document_style (author before) before.tree) (document_style (author after) after.tree) was_start start None
       (reached_merge (all_features agent_sheet (author before)) edit before.tree after.tree)
 
-  -- The work pays twice for a walk over this merge and for 2 steps at each node that it is led into, so that it pays for one
-  -- reading of what is kept for each change that it found; and for taking out what was kept of elements that go.
+  -- The work pays twice for a walk over this merge and for 2 steps at each node that it is led into: once for the walk, and once
+  -- for one reading of what is kept for each change that it found. And it pays for taking out what was kept of elements that go.
   abbrev pub PaysForReachedWalk : (was_start start : BoxId → List ℕ → ℤ) → Type 0
   PaysForReachedWalk was_start start =
       let merge : Merge StyledNode = reached_with was_start start in

@@ -26,7 +26,7 @@ module _ {L : Type 0} where
   abbrev pub come_count : (L → Bool) → Merge L → ℕ
   come_count is_element merge = weigh_places (λ _. 0) (count_of_elements is_element) merge
 
-  -- how many nodes are turned, or are kept and have a place under them: a walk has to enter them
+  -- how many nodes are turned, or are kept and have a place under them: a walk is led into them by its stops
   abbrev pub led_count : Merge L → ℕ
   led_count End = 0
   led_count (Kept node children after) = (if has_place children then 1 else 0) + (led_count children + led_count after)
@@ -79,7 +79,7 @@ abbrev pub set_aside : (stay come : ℕ) → ℕ
 set_aside stay come = 9 * stay + 6 * come
 
 -- The most steps that a walk over two merged forests takes, each put counted as one: also 2 for trees skipped behind
--- each place, and 2 for those skipped before the first stop.
+-- each tree that goes or comes, and 2 for those skipped before the first stop.
 abbrev pub budget : {L K H : Type 0} → Evaluator L K H → (handed was_handed : H) → Merge L → ℕ
 budget evaluator handed was_handed merge =
     set_aside (anew_count evaluator handed was_handed merge) (come_count evaluator.is_element merge)

@@ -14,7 +14,7 @@ is_inside Past = false
 is_inside Inside = true
 is_inside Anew = false
 
--- how many of these stops are at places
+-- how many of these stops are at trees that go or come
 abbrev pub places_ahead : List Stop → ℕ
 places_ahead [] = 0
 places_ahead (stop ∷ stops) = (if is_inside stop.way then 0 else 1) + places_ahead stops

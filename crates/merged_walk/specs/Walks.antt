@@ -175,7 +175,8 @@ module _ {L K H : Type 0} (evaluator : Evaluator L K H) where
     -- steps for trees that are skipped next; there are none right behind such trees, where the walk stands at a place
     pub credit : ℕ
     pub rested : (credit ≡ 2) ⊎ (from_place state.here ≡ state.here)
-    -- each open node has its steps to be left and put, and those for trees skipped behind it; each place those behind it
+    -- each open node has its steps to be left and put, and those for trees skipped behind it; each stop at a tree that goes or comes
+    -- has those behind it
     pub few :
         state.spent
         + set_aside (anew_left state.above state.handed state.was_handed state.here) (come_left state.above state.here)

@@ -17,6 +17,10 @@
 //! Each node that isn't kept is a place. A removal makes one `Gone`, an insertion one `Come`, another label `Gone` and
 //! `Come` of the same key, and a move a `Gone` here and a `Come` there. Where all comes there is no old document.
 //!
+//! A walk is *led into* the nodes that are turned, and into those that are kept and have a place under them: it has a stop
+//! at each (`led_count`). The other stops are at trees that go or come, which `place_count` counts. It counts no turned
+//! node: what is skipped behind one is paid for with the node itself, as behind each that is evaluated anew.
+//!
 //! An `Evaluator` hands something from node to node in tree order: to the first child of a node, and from behind its
 //! children to the node after it. What it keeps of an element tells what the element was handed, and what was handed on
 //! behind its children. So a walk needs no other memory of the old evaluation than what was kept of single elements:
@@ -67,7 +71,7 @@
 //! Item 5 counts 2 now and counted 3, so it is evaluated anew. Then the list is left. The changes are what is kept
 //! of item 5 and of the list, and the entry of item 3 is taken out.
 //!
-//! Two elements that stay are evaluated anew and none comes, and there is one place, so the budget of the walk is
+//! Two elements that stay are evaluated anew, none comes, and one tree goes, so the budget of the walk is
 //! `9 * 2 + 6 * 0 + 2 * 1 + 2`, which is 22 steps. It takes 11: 4 for the list, which is styled, evaluated, closed
 //! and put, 5 for item 5, which is read before, and 2 for the skip. The edit touches one element in the tree that
 //! goes, the list above it, and item 5, which is handed something else. Where each key weighs 1 the work is 3, and

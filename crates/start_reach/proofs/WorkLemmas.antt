@@ -38,7 +38,8 @@ use Rattle.edit_work.specs.KeyedSources.{KeyedSource, author, child_elements, ei
 use Rattle.edit_work.specs.Laws.{Leads}
 use Rattle.edit_work.specs.Work.{around_places, differing, edit_reach, placed, walk_work}
 use Rattle.edit_work.proofs.LawLemmas.{has-its, heavy, test_tells_inputs}
-use Rattle.start_reach.specs.Laws.{AreFew, AreTurned, BothWalksArePaid, OtherStartsDiffer, SecondWalksAreFew, plain_merge, started_merge}
+use Rattle.edit_work.proofs.ReachedLemmas.{paid}
+use Rattle.start_reach.specs.Laws.{AreFew, AreTurned, BothWalksArePaid, OtherStartsDiffer, PlacesArePaid, SecondWalksAreFew, plain_merge, started_merge}
 use Rattle.start_reach.specs.SecondMerges.{first_merge, turned_merge}
 use Rattle.start_reach.specs.TurnedElements.{turned_where}
 use Rattle.start_reach.proofs.CountLaws.{Has, LedDiffer, anew-few, led-few, listed, others}
@@ -269,8 +270,15 @@ pays : (anew led later_anew later_led come gone places placed differing around w
     → (((9 * anew + 6 * come + 2 * places + 2) + 2 * led) + ((9 * later_anew + 6 * come + 2 * places + 2) + 2 * later_led) + gone) ≤ 24 * (work + 1)
 pays anew led later_anew later_led come gone places placed differing around work h1 h2 h3 h4 h5 h6 = omega arith
 
+-- the places of an edit
+pub places_are_paid : PlacesArePaid
+places_are_paid edit before after leads somewhere =
+    let its = paid inputs-document edit before after leads somewhere in
+    record { few = its.few; places = its.places }
+
 pub both_walks_are_paid : BothWalksArePaid
-both_walks_are_paid edit before after leads somewhere keys turned paid =
+both_walks_are_paid edit before after leads somewhere keys turned =
+    let its = places_are_paid edit before after leads somewhere in
     let w = weight before after in
     let e = styled_evaluator (table after) in
     let plain = plain_merge edit before after in
@@ -284,5 +292,5 @@ both_walks_are_paid edit before after leads somewhere keys turned paid =
     (come_count is_styled_element plain) (gone_count is_styled_element plain) (place_count plain) (sum_by w (placed edit before after))
     (sum_by w (differing edit before after)) (sum_by w (around_places edit before after)) (walk_work edit before after)
     anew few.anew few.led
-    (omega (arith, shape.led, shape.come, shape.gone, paid.few)) (omega (arith, shape.places, paid.places)) (walk-least edit before after) in
+    (omega (arith, shape.led, shape.come, shape.gone, its.few)) (omega (arith, shape.places, its.places)) (walk-least edit before after) in
     omega (arith, sum, few.come, few.places)

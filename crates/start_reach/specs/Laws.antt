@@ -141,8 +141,8 @@ SecondMergesAreWalkable =
 
 -- Work.
 
--- The elements of these keys are turned in the second merge of an edit. Each of them stays, some box of it has another start than
--- before, and so it has other inputs; each element that is kept has the same starts.
+-- The elements of these keys are turned in the second merge of an edit. Each of them stays, a counter of some box of it has another
+-- start than before, and its inputs differ; each element that is kept has the same starts.
 pub record AreTurned (edit : Edit) (before after : KeyedSource) (keys : List ℕ) : Type 0 where
   pub stay : All (λ key. stays is_element key (first_merge edit before after) ≡ true) keys
   pub other : All (λ key. HasSameBoxStarts (own_starts before) (own_starts after) key → ⊥) keys
@@ -187,7 +187,7 @@ pub record AreFew (edit : Edit) (before after : KeyedSource) (keys : List ℕ) :
 abbrev pub SecondWalksAreFew : Type 0
 SecondWalksAreFew = OfTurned AreFew
 
--- what a walk over the merge of an edit has to enter, what comes and what goes is at the edit's places or around them, and
+-- what a walk over the merge of an edit is led into, what comes and what goes is at the edit's places or around them, and
 -- there are few places
 pub record ArePlacesPaid (edit : Edit) (before after : KeyedSource) : Type 0 where
   pub few :
@@ -197,11 +197,15 @@ pub record ArePlacesPaid (edit : Edit) (before after : KeyedSource) : Type 0 whe
       4 * place_count (first_merge edit before after)
       ≤ 20 + 2 * (sum_by (weight before after) (placed edit before after) + sum_by (weight before after) (around_places edit before after))
 
--- So the work of an edit pays for both walks and for 2 steps at each node that one of them is led into, and for taking out
--- what was kept of elements that go.
+-- so it is where the edit does not reach everywhere
+abbrev pub PlacesArePaid : Type 0
+PlacesArePaid = OfEachEdit (λ edit before after. edit_reach edit before after ≢ Everywhere → ArePlacesPaid edit before after)
+
+-- So the work of an edit pays for both walks, for 2 steps at each node that they are led into, once for each walk, and for taking
+-- out what was kept of elements that go.
 abbrev pub BothWalksArePaid : Type 0
 BothWalksArePaid =
-    OfTurned (λ edit before after keys. ArePlacesPaid edit before after
-    → let steps : Merge StyledNode → ℕ = λ merge. budget (styled_evaluator (table after)) root_surroundings root_surroundings merge + 2 * led_count merge in
+    OfTurned (λ edit before after keys.
+    let steps : Merge StyledNode → ℕ = λ merge. budget (styled_evaluator (table after)) root_surroundings root_surroundings merge + 2 * led_count merge in
     (steps (plain_merge edit before after) + steps (started_merge edit before after keys) + gone_count is_styled_element (plain_merge edit before after))
     ≤ 24 * (walk_work edit before after + 1))

@@ -1,7 +1,7 @@
 //! Laws of the starts of reversed counters under an edit. The functions do nothing: each contract is a law.
 
 ghost use Rattle.plain_types.specs.declared.node.Node.{Node};
-ghost use Rattle.start_reach.specs.Laws.{AskedStartsAreEnough, BothWalksArePaid, ComparedIsLeftAlone, EditsKeepStarts, EventsStay, OtherStartsDiffer, SecondMergesAreStarted, SecondMergesAreWalkable, SecondWalksAreFew, SkippedStartsStay, StartsStay, TurnedElementsStop, TurnedKeepForests, UnturnedAreEnough, WaysAreClimbed};
+ghost use Rattle.start_reach.specs.Laws.{AskedStartsAreEnough, BothWalksArePaid, ComparedIsLeftAlone, EditsKeepStarts, EventsStay, OtherStartsDiffer, PlacesArePaid, SecondMergesAreStarted, SecondMergesAreWalkable, SecondWalksAreFew, SkippedStartsStay, StartsStay, TurnedElementsStop, TurnedKeepForests, UnturnedAreEnough, WaysAreClimbed};
 
 /// A counter has the start that it had, where no tree that goes or comes does anything to it, and each element into which
 /// a walk with all starts 0 goes does the same to it as before. This can be told by comparing what is kept of each element,
@@ -34,10 +34,11 @@ pub fn second_merges_are_walkable()
 {}
 
 /// An element that has other starts has other inputs. Where the edit does not reach everywhere, the second of two walks goes
-/// into no more elements that stay than there are above its places and among those whose inputs differ. So the work of the
-/// edit pays for both walks, where it pays for the places and what is above them.
+/// into no more elements that stay than there are above its places and among those whose inputs differ. The work of the edit
+/// pays for its places: for what a walk is led into there, and for what goes and comes. So it pays for both walks.
 pub fn work_pays_for_both_walks()
     ensures differ { OtherStartsDiffer }
     ensures few { SecondWalksAreFew }
+    ensures places { PlacesArePaid }
     ensures both { BothWalksArePaid }
 {}

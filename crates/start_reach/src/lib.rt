@@ -29,8 +29,8 @@
 //!   enough to look at what each element asks for. [`laws::second_merges_are_walkable`]
 //! * Where the edit does not reach everywhere, the second walk goes into no more elements than there are above the places of
 //!   the edit and among those whose inputs differ: an element that is turned has other starts, which are among its inputs, and
-//!   the first walk goes into all that are above it. So the work of the edit pays for both walks, where it pays for the places
-//!   and what is above them.
+//!   the first walk goes into all that are above it. And the work of the edit pays for its places: for the elements that are
+//!   above them, into which a walk is led, and for those that go and come. So it pays for both walks.
 //!   [`laws::work_pays_for_both_walks`]
 //!
 //! # An example

@@ -44,10 +44,10 @@ use Rattle.reference_reach.specs.Laws.{evaluated, other_points}
 use Rattle.reference_reach.specs.MergedNodes.{entered_elements}
 use Rattle.reference_reach.specs.ToldLaws.{HasChangesInPoints, keys_of, told_of}
 use Rattle.reference_reach.proofs.LawLemmas.{entered_are_placed}
-use Rattle.start_reach.specs.Laws.{ArePlacesPaid, AreTurned, plain_merge, started_merge}
+use Rattle.start_reach.specs.Laws.{AreTurned, plain_merge, started_merge}
 use Rattle.start_reach.specs.SecondMerges.{first_merge, turned_merge}
 use Rattle.start_reach.proofs.LawLemmas.{author-stays, edits, edits_keep_starts, merges, plain-merges, same-styles, second_merges_are_started}
-use Rattle.start_reach.proofs.WorkLemmas.{second_walks_are_few}
+use Rattle.start_reach.proofs.WorkLemmas.{places_are_paid, second_walks_are_few}
 use Rattle.kept_elements.specs.RenewalSteps.{renewal_weight}
 use Rattle.kept_elements.specs.Renewals.{evaluated_as}
 use Rattle.kept_elements.proofs.ChangeLemmas.{some-kept, some_of}
@@ -238,17 +238,18 @@ module _ (edit : Edit) (before after : KeyedSource) (leads : Leads edit before a
     ]
 
     -- both walks, what goes, and what is made again
-    pub edits-paid : (paid : ArePlacesPaid edit before after)
-        → (walk_budget (table after) (plain_merge edit before after)
+    pub edits-paid :
+        (walk_budget (table after) (plain_merge edit before after)
         + walk_budget (table after) second
         + 3 * gone_count is_styled_element (plain_merge edit before after)
         + 4 * work edit before after)
         ≤ 24 * (work edit before after + 1)
-    edits-paid paid =
+    edits-paid =
         let w = weight before after in
         let e = styled_evaluator (table after) in
         let merge = plain_merge edit before after in
         let few = second_walks_are_few edit before after leads somewhere keys turned in
+        let paid = places_are_paid edit before after leads somewhere in
         pays (anew_count e root_surroundings root_surroundings merge) (led_count merge) (anew_count e root_surroundings root_surroundings second) (come_count is_styled_element merge)
         (gone_count is_styled_element merge) (place_count merge) (sum_by w (placed edit before after)) (sum_by w (differing edit before after)) (sum_by w (around_places edit before after))
         (walk_work edit before after) (work edit before after) (walk_budget (table after) merge) (walk_budget (table after) second)
@@ -284,4 +285,4 @@ started_news_are_paid edit before after leads somewhere keys turned styles news 
     (subst (λ (is : Evaluated). renewal_weight (evaluated before) is merge news ≤ work edit before after) (told-so after tells.tells.distinct_after) paid)
 
 pub started_edits_are_paid : StartedEditsArePaid
-started_edits_are_paid edit before after leads somewhere keys turned paid = edits-paid edit before after leads somewhere keys turned paid
+started_edits_are_paid edit before after leads somewhere keys turned = edits-paid edit before after leads somewhere keys turned

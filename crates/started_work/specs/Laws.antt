@@ -14,7 +14,7 @@ use Rattle.edit_work.specs.Work.{work}
 use Rattle.reference_reach.specs.Laws.{other_points}
 use Rattle.reference_reach.specs.MergedNodes.{entered_elements}
 use Rattle.reference_reach.specs.ToldLaws.{HasChangesInPoints, told_of}
-use Rattle.start_reach.specs.Laws.{ArePlacesPaid, OfTurned, plain_merge, started_merge}
+use Rattle.start_reach.specs.Laws.{OfTurned, plain_merge, started_merge}
 use Rattle.start_reach.specs.SecondMerges.{turned_merge}
 use Rattle.kept_elements.specs.declared.kept.Kept.{Kept}
 use Rattle.kept_elements.specs.News.{TellsNews}
@@ -45,14 +45,14 @@ StartedNewsArePaid =
 abbrev pub walk_budget : List CounterStyle → Merge StyledNode → ℕ
 walk_budget table merge = budget (styled_evaluator table) root_surroundings root_surroundings merge
 
--- And it pays for all steps of the edit together, where it pays for the places: for the most that both walks take, 3 for each
--- element that goes, and 4 for each unit of weight of those texts, which weigh no more than the work. To read the scopes of touched
--- counters again takes no step, since no board is read, so it is no part of the sum. It takes time: for that the sum leaves 20 steps
--- of the bound over for each element in these scopes.
+-- And it pays for all steps of the edit together: for the most that both walks take, 3 for each element that goes, and 4 for each
+-- unit of weight of those texts, which weigh no more than the work. To read the scopes of touched counters again takes no step, since
+-- no board is read, so it is no part of the sum. It takes time: for that the sum leaves 20 steps of the bound over for each element in
+-- these scopes.
 abbrev pub StartedEditsArePaid : Type 0
 StartedEditsArePaid =
-    OfTurned (λ edit before after keys. ArePlacesPaid edit before after
-    → (walk_budget (table after) (plain_merge edit before after)
+    OfTurned (λ edit before after keys.
+    (walk_budget (table after) (plain_merge edit before after)
     + walk_budget (table after) (started_merge edit before after keys)
     + 3 * gone_count is_styled_element (plain_merge edit before after)
     + 4 * work edit before after)

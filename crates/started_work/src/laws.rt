@@ -10,8 +10,7 @@ pub fn work_pays_for_second_news()
     ensures news { StartedNewsArePaid }
 {}
 
-/// And it pays for all steps of an edit that is walked twice, where it pays for the edit's places: for what a walk is led into
-/// there, and for what goes and comes. To read the scopes of touched counters takes none.
+/// And it pays for all steps of an edit that is walked twice. To read the scopes of touched counters takes none.
 pub fn work_pays_for_started_edits()
     ensures paid { StartedEditsArePaid }
 {}

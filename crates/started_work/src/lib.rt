@@ -30,8 +30,8 @@
 //! * So the work pays for the texts that are made again: those of the elements in the news, of those that refer to what is entered
 //!   or in the news, and of those that refer to these. What refers to a point is under that of references.
 //!   [`laws::work_pays_for_second_news`]
-//! * It pays for all steps of the edit together, where it pays for the places (`ArePlacesPaid` of `start_reach`): the most that both
-//!   walks take, 3 for each element that goes, and 4 for each unit of weight of those texts, which weigh no more than the work.
+//! * It pays for all steps of the edit together: the most that both walks take, 3 for each element that goes, and 4 for each unit of
+//!   weight of those texts, which weigh no more than the work.
 //!   [`laws::work_pays_for_started_edits`]
 //!
 //! To read the scopes of touched counters again is no part of this sum. It takes no step, since no board is read: what is read is
@@ -39,10 +39,7 @@
 //! at most 24, 20 for each unit of the part of the work that pays for walks (`walk_work`), and 4 for each unit of all of it.
 //!
 //! Of the elements that are turned it is asked that each has another start and other inputs, and that each element which is not
-//! turned has the starts that it had (`AreTurned` of `start_reach`). That the work pays for the places is for those to show who use
-//! the last law: what the first walk is led into, what comes and what goes are no more than what is placed or around a place weighs,
-//! and of places there are few. No law says so by itself. `edit_work` proves it of each edit that does not reach everywhere, on the way to
-//! `NodesReachedArePaid`, but in a lemma that no other crate can cite.
+//! turned has the starts that it had (`AreTurned` of `start_reach`).
 //!
 //! # An example
 //!
