@@ -13,9 +13,10 @@
 //! whole its index is made anew.
 //!
 //! An edit is planned and then committed. `plan` evaluates the edited document, and compares what is to be kept of each
-//! element with what the board keeps; the [`plan::Plan`] has what is new, with which of these elements show another text by it,
-//! and the keys of the elements that are gone. It does all that can want memory, and leaves the board as it is. `commit` takes and puts, and cannot fail; between the
-//! two the book isn't settled, and can't be asked. What is as before stays, with its texts and counters.
+//! element with what the board keeps; the [`plan::Plan`] has what is new, with which of these elements show another text
+//! by it, and the keys of the elements that are gone. It does all that can want memory, and leaves the board as it is.
+//! `commit` takes and puts, and cannot fail; between the two the book isn't settled, and can't be asked. What is as
+//! before stays, with its texts and counters.
 //!
 //! Where no box of a document asks for the start of a reversed counter, what is told of an element rests on its styles
 //! and on what it is handed. Then `plan` walks from the place of the edit (`document_walk::catch_up`), and evaluates

@@ -29,14 +29,14 @@ pub record DoesLine (text : List ℕ) (old new : StyledDocument) : Type 0 where
   pub done : Does edit old new
 
 -- between these numbers of steps are no more than the work of the edit of the line allows
-pub record TakesStepsOfLine (text : List ℕ) (old new : StyledDocument) (before after : ℕ) : Type 0 where
+pub record IsLineWithinWork (text : List ℕ) (old new : StyledDocument) (before after : ℕ) : Type 0 where
   pub edit : Edit
   pub line : IsLine text (Change edit)
   pub within : IsWithinWork edit (keyed_source old) (keyed_source new) before after
 
 -- between these numbers of steps are no more than so many an element of either document, and one for each line that is changed
-abbrev pub TakesStepsOfLines : (old new : StyledDocument) → (before after : ℕ) → Type 0
-TakesStepsOfLines old new before after =
+abbrev pub PaysForChangedLines : (old new : StyledDocument) → (before after : ℕ) → Type 0
+PaysForChangedLines old new before after =
     after ≤ before + ((12 * element_count (source_of new).tree + 2 * element_count (source_of old).tree) + length (changed_lines (keyed_source old) (keyed_source new)))
 
 -- Between these numbers of steps are no more than an edit takes that is not done: its work allows them, and they are so many an

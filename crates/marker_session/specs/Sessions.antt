@@ -1,7 +1,7 @@
 -- What a session stands for (our own).
-use Rattle.std.specs.Prelude.{◌≡◌, ℕ, List, [], None, Ok, refl}
+use Rattle.std.specs.Prelude.{◌≡◌, ℕ, List, [], Ok, refl}
 use Rattle.std.specs.Coded.{Coded, code_by, coded×, coded_list, coded_ℕ}
-use Rattle.changed_lines.specs.Changes.{entry_in, lines_between}
+use Rattle.changed_lines.specs.Listings.{lines_from_nothing}
 use Rattle.changed_lines.specs.declared.changed_line.ChangedLine.{ChangedLine}
 use Rattle.dirty_walk.specs.Books.{StyledDocument}
 use Rattle.dirty_walk.specs.WorkBounds.{keyed_source}
@@ -29,7 +29,7 @@ coded_open_document styled line =
 
 -- All lines of a document: those of each element in tree order, as if nothing of it had been shown before.
 abbrev pub all_lines : StyledDocument → List ChangedLine
-all_lines styled = lines_between styled.tree (λ _. None) (entry_in (keyed_source styled))
+all_lines styled = lines_from_nothing (keyed_source styled)
 
 -- an edit makes the one of the other; nodes that stay keep their keys
 pub record Does (edit : Edit) (old new : StyledDocument) : Type 0 where

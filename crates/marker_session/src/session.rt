@@ -20,7 +20,7 @@ ghost use Rattle.xml_definitions.specs.Faults.{FailsAsDocument};
 ghost use Rattle.xml_definitions.specs.Texts.{IsDocumentText};
 ghost use Rattle.marker_session.specs.declared.line_fault.LineFault.TheVariants as faults;
 ghost use Rattle.marker_session.specs.declared.listing.Listing.TheVariants.{Unlisted};
-ghost use Rattle.marker_session.specs.Lines.{DoesLine, IsLineFault, StopsOnEdit, StopsOnLine, TakesStepsOfLine, TakesStepsOfLines};
+ghost use Rattle.marker_session.specs.Lines.{DoesLine, IsLineFault, StopsOnEdit, StopsOnLine, IsLineWithinWork, PaysForChangedLines};
 ghost use Rattle.marker_session.specs.Machinery.{IsEditFault};
 ghost use Rattle.marker_session.specs.Sessions.{Does, all_lines, listed_after};
 
@@ -145,7 +145,7 @@ impl Session {
         ensures failed { OnErr result (self.new ≡ self.old) }
         ensures within_work { OnOk result (IsWithinWork edit.now (keyed_source self.old.styled) (keyed_source self.new.styled) steps.old steps.new) }
         ensures steps { OnOk result (steps.new ≤ steps.old + (13 * element_count (source_of self.new.styled).tree + 2 * element_count (source_of self.old.styled).tree)) }
-        ensures line_steps { OnOk result (TakesStepsOfLines self.old.styled self.new.styled steps.old steps.new) }
+        ensures line_steps { OnOk result (PaysForChangedLines self.old.styled self.new.styled steps.old steps.new) }
         ensures stops { OnErr result (StopsOnEdit edit.now self.old.styled steps.old steps.new) }
         ensures no_steps { IfErr result (λ fault. fault ≢ edit_faults.Memory → steps.new ≡ steps.old) }
     {
@@ -171,9 +171,9 @@ impl Session {
         ensures shown { self.new.shown ≡ self.old.shown }
         ensures fault { IfErr result (IsLineFault (chars line.now) self.old.styled) }
         ensures failed { OnErr result (self.new ≡ self.old) }
-        ensures within_work { OnOk result (TakesStepsOfLine (chars line.now) self.old.styled self.new.styled steps.old steps.new) }
+        ensures within_work { OnOk result (IsLineWithinWork (chars line.now) self.old.styled self.new.styled steps.old steps.new) }
         ensures steps { OnOk result (steps.new ≤ steps.old + (13 * element_count (source_of self.new.styled).tree + 2 * element_count (source_of self.old.styled).tree)) }
-        ensures line_steps { OnOk result (TakesStepsOfLines self.old.styled self.new.styled steps.old steps.new) }
+        ensures line_steps { OnOk result (PaysForChangedLines self.old.styled self.new.styled steps.old steps.new) }
         ensures stops { OnErr result (StopsOnLine (chars line.now) self.old.styled steps.old steps.new) }
         ensures no_steps { IfErr result (λ fault. fault ≢ faults.Memory → steps.new ≡ steps.old) }
     {
@@ -199,7 +199,7 @@ impl Session {
         ensures failed { OnErr result (self.new ≡ self.old) }
         ensures within_work { OnOk result (IsWithinWork (ReplaceSheet (chars css.now)) (keyed_source self.old.styled) (keyed_source self.new.styled) steps.old steps.new) }
         ensures steps { OnOk result (steps.new ≤ steps.old + (13 * element_count (source_of self.new.styled).tree + 2 * element_count (source_of self.old.styled).tree)) }
-        ensures line_steps { OnOk result (TakesStepsOfLines self.old.styled self.new.styled steps.old steps.new) }
+        ensures line_steps { OnOk result (PaysForChangedLines self.old.styled self.new.styled steps.old steps.new) }
         ensures stops { OnErr result (StopsOnEdit (ReplaceSheet (chars css.now)) self.old.styled steps.old steps.new) }
     {
         let edit = Edit::ReplaceSheet {

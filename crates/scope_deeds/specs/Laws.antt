@@ -24,17 +24,17 @@ DeedsAreKept =
     → map (λ (entry : ℕ × Counting). (entry.0, entry.1.deeds)) (counting_in table handed trees) ≡ deeds_in table handed trees
 
 -- a law of a document, and of a map that has what is kept of its elements
-abbrev pub OfEachKept : (List CounterStyle → Forest (Keyed StyledNode) → (ℕ → Option Counting) → Type 0) → Type 0
-OfEachKept law = OfEachDocument (λ table document. (kept : ℕ → Option Counting) → KeepsCounting table document kept → law table document kept)
+abbrev pub OfEachCounting : (List CounterStyle → Forest (Keyed StyledNode) → (ℕ → Option Counting) → Type 0) → Type 0
+OfEachCounting law = OfEachDocument (λ table document. (kept : ℕ → Option Counting) → KeepsCounting table document kept → law table document kept)
 
 -- all that boxes do is told by what is kept
 abbrev pub ChangesAreKept : Type 0
-ChangesAreKept = OfEachKept (λ table document kept. kept_changes kept document ≡ all_changes table document)
+ChangesAreKept = OfEachCounting (λ table document kept. kept_changes kept document ≡ all_changes table document)
 
 -- and so is what is done to a counter in its scope
 abbrev pub ScopesAreKept : Type 0
 ScopesAreKept =
-    OfEachKept (λ table document kept. (creator : BoxId) (name : List ℕ)
+    OfEachCounting (λ table document kept. (creator : BoxId) (name : List ℕ)
     → events_of (kept_scope kept creator name document) creator name ≡ events_of (scope_changes creator name table document) creator name)
 
 -- So the start of a reversed counter is told by what is kept of the elements with all starts 0, and by the keys of the document.

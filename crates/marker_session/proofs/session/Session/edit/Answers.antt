@@ -7,14 +7,14 @@ use Rattle.marker_engine.specs.Edited.{edited}
 use Rattle.marker_engine.specs.Engines.{source_of}
 use Rattle.plain_types.specs.declared.edit.Edit.{Edit}
 use Rattle.ports.proofs.GrownLemmas.{on_err}
-use Rattle.marker_session.specs.Lines.{StopsOnEdit, TakesStepsOfLines}
+use Rattle.marker_session.specs.Lines.{StopsOnEdit, PaysForChangedLines}
 use Rattle.marker_session.specs.Sessions.{OpenDocument}
 use Rattle.marker_session.proofs.session.Session.edit.Goals as goal
 
 -- where an edit is done, the document that it makes of the old one is the new one
 of_done : (edit : Edit) (old new : StyledDocument) (before after : ℕ) → edited (source_of old) edit ≡ Ok (source_of new)
     → IfOk (edited (source_of old) edit) (λ source. after ≤ before + ((12 * element_count source.tree + 2 * element_count (source_of old).tree) + length (changed_lines (keyed_source old) (keyed_source new))))
-    → TakesStepsOfLines old new before after
+    → PaysForChangedLines old new before after
 of_done edit old new before after done within = rw done at within
 
 -- the document is not changed any more once its lines are told
@@ -27,9 +27,9 @@ returns-clause-within_work g c =
 
 pub returns-clause-line_steps : goal.returns-clause-line_steps
 returns-clause-line_steps g c =
-    subst (λ (new : StyledDocument). TakesStepsOfLines c.args.self.now.styled new c.args.steps.now c.apply_and_tell.new.steps)
+    subst (λ (new : StyledDocument). PaysForChangedLines c.args.self.now.styled new c.args.steps.now c.apply_and_tell.new.steps)
     (sym c.list.ensures.styled)
-    (subst (λ (old : OpenDocument). TakesStepsOfLines old.styled c.apply_and_tell.new.self c.args.steps.now c.apply_and_tell.new.steps)
+    (subst (λ (old : OpenDocument). PaysForChangedLines old.styled c.apply_and_tell.new.self c.args.steps.now c.apply_and_tell.new.steps)
     c.self.view_is (of_done c.args.edit.now c.self.inside.engine c.apply_and_tell.new.self c.args.steps.now c.apply_and_tell.new.steps c.in_ok-told.ensures.ok c.apply_and_tell.ensures.line_steps))
 
 pub returns-in_err-told-clause-stops : goal.returns-in_err-told-clause-stops
