@@ -1,6 +1,6 @@
 //! Rules by their names.
 
-ghost use Rattle.std.specs.Prelude.{◌≡◌, ◌<◌, [], OnOk, Some, length};
+ghost use Rattle.std.specs.Prelude.{◌≡◌, ◌<◌, [], OnOk, OnErr, Some, length};
 ghost use Rattle.std.specs.List.{position, slice_get};
 ghost use Rattle.std.specs.Str.{chars};
 ghost use Rattle.plain_types.specs.StyleNames.{style_name};
@@ -54,6 +54,7 @@ impl Rules {
     /// Puts the rule in the place of the one with its name, or in the last place.
     pub fn put(&mut self, alloc: Global, rule: StyleDef) -> Result<(), Memory>
         ensures ok { OnOk result (self.new ≡ with_rule self.old rule) }
+        ensures err { OnErr result (self.new ≡ self.old) }
     {
         let name = String::from_str(alloc, style_name(rule.name.as_str()))?;
         self.by_name.insert(name, rule)?;

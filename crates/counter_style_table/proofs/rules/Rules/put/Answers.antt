@@ -13,11 +13,9 @@ invariant_of-self-2 c =
     (put_rule string_bytes IsUtf8-string_bytes c.self.inside.by_name.entries c.in_ok-name.name c.args.rule c.self.invariant
     (ap chars c.in_ok-name.ensures.ok ∙ c.style_name.ensures.name ∙ ap style_name c.as_str.ensures.characters)).1
 
-pub returns : goal.returns
-returns c = record {
-  ok =
-      rw c.in_ok-insert.ensures.entries
-      (put_rule string_bytes IsUtf8-string_bytes c.self.inside.by_name.entries c.in_ok-name.name c.args.rule c.self.invariant
-      (ap chars c.in_ok-name.ensures.ok ∙ c.style_name.ensures.name ∙ ap style_name c.as_str.ensures.characters)).0
-      ∙ ap (λ rules. with_rule rules c.args.rule) c.self.view_is;
-}
+pub returns-clause-ok : goal.returns-clause-ok
+returns-clause-ok c =
+    rw c.in_ok-insert.ensures.entries
+    (put_rule string_bytes IsUtf8-string_bytes c.self.inside.by_name.entries c.in_ok-name.name c.args.rule c.self.invariant
+    (ap chars c.in_ok-name.ensures.ok ∙ c.style_name.ensures.name ∙ ap style_name c.as_str.ensures.characters)).0
+    ∙ ap (λ rules. with_rule rules c.args.rule) c.self.view_is
