@@ -10,7 +10,6 @@ ghost use Rattle.content_eval.specs.Targets.{reference, target_id};
 ghost use Rattle.edit_work.specs.KeyedSources.{is_among, references_in, references_of};
 ghost use Rattle.generated_texts.specs.References.{first_holder, kept_at};
 ghost use Rattle.referring_elements.specs.Found.{is_named};
-ghost use Rattle.referring_elements.specs.Indexes.{IsIndexOf};
 ghost use Rattle.kept_elements.specs.Known.{IsKeptIn, flat_in};
 ghost use Rattle.kept_elements.specs.Machinery.Renewals.{held_of, its_counters, its_flat, kept_flat, some_names};
 
@@ -24,18 +23,16 @@ use content_eval::targets::{Targets, reference, target_id};
 use counter_sets::counter_set::CounterSet;
 use generated_texts::entry::{BoxText, NodeEntry};
 use indexmap::IndexSet;
-use node_arena::arena::Arena;
 use plain_types::content::Part;
 use plain_types::memory::Memory;
 use plain_types::text::Text;
-use referring_elements::holders::first_holder;
+use referring_elements::holder_lookup::HolderLookup;
 use snapshot_board::board::Board;
 use std::alloc::Global;
 use std::collections::HashMap;
 use std::sync::ledger::Ledger;
 use steps::Steps;
 use surroundings::told::Told;
-use target_index::index::Index;
 
 /// The counters of an element's own box, as it is told of, or else by what is held of it.
 fn its_counters<'a>(told: Option<&'a Told>, kept: Option<&'a Kept>) -> Option<&'a CounterSet>
@@ -110,8 +107,7 @@ fn its_flat<'a>(
 /// The elements of a document as target functions of those see them whose texts are made again.
 #[derive(Drop)]
 pub struct RenewedTargets<'a> {
-    pub arena: &'a Arena,
-    pub index: &'a Index,
+    pub lookup: &'a HolderLookup<'a>,
     /// What is told of those elements, and the same by key.
     pub listed: &'a [(usize, Told)],
     pub records: &'a HashMap<usize, &'a Told>,
@@ -122,7 +118,6 @@ pub struct RenewedTargets<'a> {
     pub board: &'a Board<Kept>,
     pub keys: &'a [usize],
     pub held: &'a HashMap<usize, &'a Kept>,
-    ghost indexed: { IsIndexOf index.now arena.now.tree },
     ghost kept: { IsKeptIn records.now listed.now },
     ghost kept_flats: { IsKeptIn flats.now listed_flats.now },
     ghost kept_held: { (key : ℕ) → option_copied (get nat_eq held.now key) ≡ held_of keys.now board.now.held key },
@@ -131,10 +126,10 @@ pub struct RenewedTargets<'a> {
 impl<'a> RenewedTargets<'a> {
     /// The element that a url names.
     fn target(&self, url: &str) -> Option<usize>
-        ensures target { result ≡ option_and_then (first_holder self.now.arena.now.tree) (target_id (chars url.now)) }
-        ensures live { IsLink self.now.arena.now.tree result }
+        ensures target { result ≡ option_and_then (first_holder self.now.lookup.now.arena.now.tree) (target_id (chars url.now)) }
+        ensures live { IsLink self.now.lookup.now.arena.now.tree result }
     {
-        first_holder(self.index, self.arena, target_id(url)?)
+        self.lookup.of(target_id(url)?)
     }
 }
 
@@ -142,7 +137,7 @@ impl<'a> Targets for RenewedTargets<'a> {
     ghost use Rattle.generated_texts.specs.References.{kept_at};
     ghost use Rattle.kept_elements.specs.Machinery.Renewals.{held_of, renewed_known};
 
-    ghost known = { λ targets. renewed_known targets.arena.now.tree (kept_at targets.listed.now) (kept_at targets.listed_flats.now) (held_of targets.keys.now targets.board.now.held) };
+    ghost known = { λ targets. renewed_known targets.lookup.now.arena.now.tree (kept_at targets.listed.now) (kept_at targets.listed_flats.now) (held_of targets.keys.now targets.board.now.held) };
 
     fn counters(&self, url: &str) -> Option<&CounterSet> {
         let key = self.target(url)?;
@@ -154,7 +149,7 @@ impl<'a> Targets for RenewedTargets<'a> {
 
     fn characters(&self, alloc: Global, url: &str) -> Result<Text, Memory> {
         match self.target(url) {
-            Some(key) => characters_under(alloc, self.arena, key),
+            Some(key) => characters_under(alloc, self.lookup.arena, key),
             None => Ok(Text::new(alloc)),
         }
     }
@@ -171,18 +166,18 @@ impl<'a> Targets for RenewedTargets<'a> {
 
 /// Adds the element that an id names, where there is one.
 fn add_target(
-    arena: &Arena,
-    index: &Index,
+    alloc: Global,
+    lookup: &mut HolderLookup<'_>,
     id: Option<&str>,
     keys: &mut IndexSet<usize>,
 ) -> Result<(), Memory>
-    requires indexed { IsIndexOf index.now arena.now.tree }
-    ensures ok { OnOk result ((other : ℕ) → is_among keys.new.keys other ≡ (is_among keys.old.keys other || option_map_or (is_named arena.now.tree other) (option_map chars (option_copied id.entry)) false)) }
+    ensures ok { OnOk result ((other : ℕ) → is_among keys.new.keys other ≡ (is_among keys.old.keys other || option_map_or (is_named lookup.old.arena.now.tree other) (option_map chars (option_copied id.entry)) false)) }
+    ensures tree { lookup.new.arena.now.tree ≡ lookup.old.arena.now.tree }
 {
     let Some(id) = id else {
         return Ok(());
     };
-    if let Some(key) = first_holder(index, arena, id) {
+    if let Some(key) = lookup.find(alloc, id)? {
         keys.insert(key)?;
     }
     Ok(())
@@ -190,64 +185,63 @@ fn add_target(
 
 /// Adds the elements to which pieces refer.
 fn add_pieces(
-    arena: &Arena,
-    index: &Index,
+    alloc: Global,
+    lookup: &mut HolderLookup<'_>,
     pieces: &[Piece],
     keys: &mut IndexSet<usize>,
 ) -> Result<(), Memory>
-    requires indexed { IsIndexOf index.now arena.now.tree }
-    ensures ok { OnOk result ((other : ℕ) → is_among keys.new.keys other ≡ (is_among keys.old.keys other || list_any (is_named arena.now.tree other) (filter_map reference pieces.now))) }
+    ensures ok { OnOk result ((other : ℕ) → is_among keys.new.keys other ≡ (is_among keys.old.keys other || list_any (is_named lookup.old.arena.now.tree other) (filter_map reference pieces.now))) }
+    ensures tree { lookup.new.arena.now.tree ≡ lookup.old.arena.now.tree }
 {
     for piece in pieces {
-        add_target(arena, index, reference(piece), keys)?;
+        add_target(alloc, lookup, reference(piece), keys)?;
     }
     Ok(())
 }
 
 /// Adds the elements to which a box refers.
 fn add_box(
-    arena: &Arena,
-    index: &Index,
+    alloc: Global,
+    lookup: &mut HolderLookup<'_>,
     made: &Option<Made>,
     keys: &mut IndexSet<usize>,
 ) -> Result<(), Memory>
-    requires indexed { IsIndexOf index.now arena.now.tree }
-    ensures ok { OnOk result ((other : ℕ) → is_among keys.new.keys other ≡ (is_among keys.old.keys other || list_any (is_named arena.now.tree other) (references_in made.now))) }
+    ensures ok { OnOk result ((other : ℕ) → is_among keys.new.keys other ≡ (is_among keys.old.keys other || list_any (is_named lookup.old.arena.now.tree other) (references_in made.now))) }
+    ensures tree { lookup.new.arena.now.tree ≡ lookup.old.arena.now.tree }
 {
     match made {
-        Some(made) => add_pieces(arena, index, made.pieces.as_slice(), keys),
+        Some(made) => add_pieces(alloc, lookup, made.pieces.as_slice(), keys),
         None => Ok(()),
     }
 }
 
 /// Adds the elements to which an element refers.
 fn add_element(
-    arena: &Arena,
-    index: &Index,
+    alloc: Global,
+    lookup: &mut HolderLookup<'_>,
     said: &ElementRecord,
     keys: &mut IndexSet<usize>,
 ) -> Result<(), Memory>
-    requires indexed { IsIndexOf index.now arena.now.tree }
-    ensures ok { OnOk result ((other : ℕ) → is_among keys.new.keys other ≡ (is_among keys.old.keys other || list_any (is_named arena.now.tree other) (references_of said.now))) }
+    ensures ok { OnOk result ((other : ℕ) → is_among keys.new.keys other ≡ (is_among keys.old.keys other || list_any (is_named lookup.old.arena.now.tree other) (references_of said.now))) }
+    ensures tree { lookup.new.arena.now.tree ≡ lookup.old.arena.now.tree }
 {
-    add_box(arena, index, &said.marker, keys)?;
-    add_box(arena, index, &said.before, keys)?;
-    add_box(arena, index, &said.after, keys)
+    add_box(alloc, lookup, &said.marker, keys)?;
+    add_box(alloc, lookup, &said.before, keys)?;
+    add_box(alloc, lookup, &said.after, keys)
 }
 
 /// The elements to which those refer of which this is told, each once.
 pub fn target_keys(
     alloc: Global,
-    arena: &Arena,
-    index: &Index,
+    lookup: &mut HolderLookup<'_>,
     records: &[(usize, Told)],
 ) -> Result<IndexSet<usize>, Memory>
-    requires indexed { IsIndexOf index.now arena.now.tree }
-    ensures keys { IfOk result (λ keys. (key : ℕ) → is_among keys.keys key ≡ some_names arena.now.tree records.now key) }
+    ensures keys { IfOk result (λ keys. (key : ℕ) → is_among keys.keys key ≡ some_names lookup.old.arena.now.tree records.now key) }
+    ensures tree { lookup.new.arena.now.tree ≡ lookup.old.arena.now.tree }
 {
     let mut keys = IndexSet::new(alloc);
     for (_key, told) in records {
-        add_element(arena, index, &told.said, &mut keys)?;
+        add_element(alloc, lookup, &told.said, &mut keys)?;
     }
     Ok(keys)
 }

@@ -32,6 +32,7 @@ use plain_types::memory::Memory;
 use plain_types::table::Table;
 use referring_elements::changed::changed_elements;
 use referring_elements::former::FormerTarget;
+use referring_elements::holder_lookup::HolderLookup;
 use referring_elements::referring::{Referring, referring_elements};
 use snapshot_board::board::Board;
 use std::alloc::Global;
@@ -80,8 +81,7 @@ fn changes_of<T: Targets, L: Ledger>(
 /// The flat texts that are made again.
 fn flat_texts_again(
     alloc: Global,
-    arena: &Arena,
-    index: &Index,
+    lookup: &HolderLookup<'_>,
     table: &Table,
     flat: &[(usize, Told)],
     listed: &[(usize, Told)],
@@ -90,16 +90,14 @@ fn flat_texts_again(
     keys: &[usize],
     held: &HashMap<usize, &Kept>,
 ) -> Result<List<(usize, FlatTexts)>, Memory>
-    requires indexed { IsIndexOf index.now arena.now.tree }
     requires kept { IsKeptIn records.now listed.now }
     requires held { (key : ℕ) → option_copied (get nat_eq held.now key) ≡ held_of keys.now board.now.held key }
-    ensures texts { IfOk result (λ texts. texts ≡ all_flat_texts_of table.now (renewed_known arena.now.tree (kept_at listed.now) (λ _. None) (held_of keys.now board.now.held)) flat.now) }
+    ensures texts { IfOk result (λ texts. texts ≡ all_flat_texts_of table.now (renewed_known lookup.now.arena.now.tree (kept_at listed.now) (λ _. None) (held_of keys.now board.now.held)) flat.now) }
 {
     let none: List<(usize, FlatTexts)> = List::new(alloc);
     let no_flats = by_key(alloc, none.as_slice())?;
     let targets = RenewedTargets {
-        arena,
-        index,
+        lookup,
         listed,
         records,
         listed_flats: none.as_slice(),
@@ -115,8 +113,7 @@ fn flat_texts_again(
 /// step for each of them.
 fn changes_again<L: Ledger>(
     alloc: Global,
-    arena: &Arena,
-    index: &Index,
+    lookup: &HolderLookup<'_>,
     table: &Table,
     told: &[usize],
     listed: &[(usize, Told)],
@@ -127,16 +124,14 @@ fn changes_again<L: Ledger>(
     held: &HashMap<usize, &Kept>,
     steps: &mut Steps<L>,
 ) -> Result<Vec<(usize, KeptChange)>, Memory>
-    requires indexed { IsIndexOf index.now arena.now.tree }
     requires kept { IsKeptIn records.now listed.now }
     requires held { (key : ℕ) → option_copied (get nat_eq held.now key) ≡ held_of keys.now board.now.held key }
-    ensures changes { IfOk result (λ changes. AreChanges board.now.held (renewed_kept table.now (renewed_known arena.now.tree (kept_at listed.now) (kept_at flats.now) (held_of keys.now board.now.held)) (λ key. option_copied (get nat_eq records.now key)) told.now) changes.items) }
+    ensures changes { IfOk result (λ changes. AreChanges board.now.held (renewed_kept table.now (renewed_known lookup.now.arena.now.tree (kept_at listed.now) (kept_at flats.now) (held_of keys.now board.now.held)) (λ key. option_copied (get nat_eq records.now key)) told.now) changes.items) }
     ensures steps { steps.new ≤ steps.old + length told.now }
 {
     let flats_by_key = by_key(alloc, flats)?;
     let targets = RenewedTargets {
-        arena,
-        index,
+        lookup,
         listed,
         records,
         listed_flats: flats,
@@ -152,8 +147,7 @@ fn changes_again<L: Ledger>(
 /// so many have flat texts that are made again. It is a step for each of both.
 fn changes_to<L: Ledger>(
     alloc: Global,
-    arena: &Arena,
-    index: &Index,
+    lookup: &HolderLookup<'_>,
     table: &Table,
     told: &[usize],
     listed: &[(usize, Told)],
@@ -162,17 +156,15 @@ fn changes_to<L: Ledger>(
     keys: &[usize],
     steps: &mut Steps<L>,
 ) -> Result<Vec<(usize, KeptChange)>, Memory>
-    requires indexed { IsIndexOf index.now arena.now.tree }
     requires within { flat_count ≤ length listed.now }
-    ensures changes { IfOk result (λ changes. AreChanges board.now.held (renewed_kept table.now (known_again arena.now.tree table.now board.now.held (take flat_count listed.now) listed.now keys.now) (kept_at listed.now) told.now) changes.items) }
+    ensures changes { IfOk result (λ changes. AreChanges board.now.held (renewed_kept table.now (known_again lookup.now.arena.now.tree table.now board.now.held (take flat_count listed.now) listed.now keys.now) (kept_at listed.now) told.now) changes.items) }
     ensures steps { steps.new ≤ steps.old + (length keys.now + length told.now) }
 {
     let records = by_key(alloc, listed)?;
     let held = held_of(alloc, board, keys, steps)?;
     let flats = flat_texts_again(
         alloc,
-        arena,
-        index,
+        lookup,
         table,
         &listed[..flat_count],
         listed,
@@ -183,8 +175,7 @@ fn changes_to<L: Ledger>(
     )?;
     changes_again(
         alloc,
-        arena,
-        index,
+        lookup,
         table,
         told,
         listed,
@@ -219,11 +210,11 @@ fn entries_again<L: Ledger>(
 {
     arena_holds_document(arena);
     let told = told_keys(alloc, listed)?;
-    let targets = target_keys(alloc, arena, index, listed)?;
+    let mut lookup = HolderLookup::new(alloc, arena, index);
+    let targets = target_keys(alloc, &mut lookup, listed)?;
     changes_to(
         alloc,
-        arena,
-        index,
+        &lookup,
         table,
         told.as_slice(),
         listed,

@@ -1,6 +1,6 @@
 //! Elements by ids.
 
-ghost use Rattle.std.specs.Prelude.{◌≡◌, ℕ, List, [], Some, None, OnOk, cond};
+ghost use Rattle.std.specs.Prelude.{◌≡◌, ℕ, List, [], Some, None, OnErr, OnOk, cond};
 ghost use Rattle.std.specs.Option.{option_or};
 ghost use Rattle.std.specs.Str.{bytes_eq, chars};
 ghost use Rattle.referring_elements.specs.ElementsById.{element_of};
@@ -46,6 +46,7 @@ impl ElementsById {
     /// Gives an id this element, where it has none.
     pub(crate) fn put_first(&mut self, alloc: Global, id: &str, key: usize) -> Result<(), Memory>
         ensures ok { OnOk result ((other : List ℕ) → element_of self.new other ≡ option_or (element_of self.old other) (cond (bytes_eq other (chars id.now)) (Some key) None)) }
+        ensures err { OnErr result (self.new ≡ self.old) }
     {
         if self.by_id.contains_key(id) {
             return Ok(());

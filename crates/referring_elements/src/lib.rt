@@ -13,7 +13,9 @@
 //!
 //! Which elements refer to which ids is put into an index by [`references::add_references`], once the document is evaluated.
 //! Where the references of a whole document are followed, the elements that its ids name are found at once, by one walk
-//! ([`first_holders::FirstHolders`]): the index looks at all elements that have an id, for each reference to it.
+//! ([`first_holders::FirstHolders`]): the index looks at all elements that have an id, for each reference to it. Where the
+//! references of some elements are followed, each id that several elements have is looked up once
+//! ([`holder_lookup::HolderLookup`]).
 //!
 //! ```text
 //! let former = FormerTarget::of(&arena, &index, id);      // before the edit, for each id that it can give another target
@@ -34,6 +36,7 @@ pub mod elements;
 mod elements_by_id;
 pub mod first_holders;
 pub mod former;
+pub mod holder_lookup;
 pub mod holders;
 pub mod references;
 pub mod referring;

@@ -14,7 +14,7 @@ ghost use Rattle.referring_elements.specs.Indexes.{AreLive, AreReferencesLive, I
 
 use crate::elements::Elements;
 use crate::former::FormerTarget;
-use crate::holders::first_holder;
+use crate::holder_lookup::HolderLookup;
 use node_arena::arena::Arena;
 use node_arena::laws::arena_holds_document;
 use plain_types::memory::Memory;
@@ -29,50 +29,64 @@ fn add_references(index: &Index, id: &str, found: &mut Elements) -> Result<(), M
 }
 
 /// Whether an id names another element than before, or none any longer.
-fn is_former(arena: &Arena, index: &Index, target: &FormerTarget) -> bool
-    requires indexed { IsIndexOf index.now arena.now.tree }
-    ensures test { result ≡ is_former arena.now.tree target.now }
+fn is_former(
+    alloc: Global,
+    lookup: &mut HolderLookup<'_>,
+    target: &FormerTarget,
+) -> Result<bool, Memory>
+    ensures test { IfOk result (λ test. test ≡ is_former lookup.old.arena.now.tree target.now) }
+    ensures tree { lookup.new.arena.now.tree ≡ lookup.old.arena.now.tree }
 {
-    target.element != first_holder(index, arena, target.id.as_str())
+    let named = lookup.find(alloc, target.id.as_str())?;
+    Ok(target.element != named)
 }
 
 /// Adds the elements that refer to an id, where it names another element than before.
 fn add_anew(
-    arena: &Arena,
+    alloc: Global,
+    lookup: &mut HolderLookup<'_>,
     index: &Index,
     target: &FormerTarget,
     found: &mut Elements,
 ) -> Result<(), Memory>
-    requires indexed { IsIndexOf index.now arena.now.tree }
-    ensures ok { OnOk result ((key : ℕ) → is_among found.new key ≡ (is_among found.old key || refers_anew arena.now.tree index.now key target.now)) }
+    ensures ok { OnOk result ((key : ℕ) → is_among found.new key ≡ (is_among found.old key || refers_anew lookup.old.arena.now.tree index.now key target.now)) }
+    ensures tree { lookup.new.arena.now.tree ≡ lookup.old.arena.now.tree }
 {
-    if is_former(arena, index, target) {
+    if is_former(alloc, lookup, target)? {
         add_references(index, target.id.as_str(), found)?;
     }
     Ok(())
 }
 
 /// Whether an id names this element.
-fn is_named(arena: &Arena, index: &Index, target: usize, id: &str) -> bool
-    requires indexed { IsIndexOf index.now arena.now.tree }
-    ensures test { result ≡ is_named arena.now.tree target (chars id.now) }
+fn is_named(
+    alloc: Global,
+    lookup: &mut HolderLookup<'_>,
+    target: usize,
+    id: &str,
+) -> Result<bool, Memory>
+    ensures test { IfOk result (λ test. test ≡ is_named lookup.old.arena.now.tree target (chars id.now)) }
+    ensures tree { lookup.new.arena.now.tree ≡ lookup.old.arena.now.tree }
 {
-    first_holder(index, arena, id) == Some(target)
+    let named = lookup.find(alloc, id)?;
+    Ok(named == Some(target))
 }
 
 /// Adds the elements that refer to an element by its id, where the id names it.
 fn add_by_id(
-    arena: &Arena,
+    alloc: Global,
+    lookup: &mut HolderLookup<'_>,
     index: &Index,
     target: usize,
     found: &mut Elements,
 ) -> Result<(), Memory>
-    requires indexed { IsIndexOf index.now arena.now.tree }
-    requires live { IsLive arena.now.tree target }
-    ensures ok { OnOk result ((key : ℕ) → is_among found.new key ≡ (is_among found.old key || refers_by_id arena.now.tree index.now key target)) }
+    requires live { IsLive lookup.old.arena.now.tree target }
+    ensures ok { OnOk result ((key : ℕ) → is_among found.new key ≡ (is_among found.old key || refers_by_id lookup.old.arena.now.tree index.now key target)) }
+    ensures tree { lookup.new.arena.now.tree ≡ lookup.old.arena.now.tree }
 {
+    let arena = lookup.arena;
     if let Some(id) = arena.attr(target, "id") {
-        if is_named(arena, index, target, id) {
+        if is_named(alloc, lookup, target, id)? {
             add_references(index, id, found)?;
         }
     }
@@ -81,17 +95,18 @@ fn add_by_id(
 
 /// Adds the elements that refer to one of these by its id.
 fn add_all_by_id(
-    arena: &Arena,
+    alloc: Global,
+    lookup: &mut HolderLookup<'_>,
     index: &Index,
     targets: &[usize],
     found: &mut Elements,
 ) -> Result<(), Memory>
-    requires indexed { IsIndexOf index.now arena.now.tree }
-    requires live { AreLive arena.now.tree targets.now }
-    ensures ok { OnOk result ((key : ℕ) → is_among found.new key ≡ (is_among found.old key || list_any (refers_by_id arena.now.tree index.now key) targets.now)) }
+    requires live { AreLive lookup.old.arena.now.tree targets.now }
+    ensures ok { OnOk result ((key : ℕ) → is_among found.new key ≡ (is_among found.old key || list_any (refers_by_id lookup.old.arena.now.tree index.now key) targets.now)) }
+    ensures tree { lookup.new.arena.now.tree ≡ lookup.old.arena.now.tree }
 {
     for target in targets {
-        add_by_id(arena, index, *target, found)?;
+        add_by_id(alloc, lookup, index, *target, found)?;
     }
     Ok(())
 }
@@ -99,16 +114,16 @@ fn add_all_by_id(
 /// The elements that refer to ids which name other elements than before.
 fn elements_anew(
     alloc: Global,
-    arena: &Arena,
+    lookup: &mut HolderLookup<'_>,
     index: &Index,
     former: &[FormerTarget],
 ) -> Result<Elements, Memory>
-    requires indexed { IsIndexOf index.now arena.now.tree }
-    ensures found { IfOk result (λ found. (key : ℕ) → is_among found key ≡ list_any (refers_anew arena.now.tree index.now key) former.now) }
+    ensures found { IfOk result (λ found. (key : ℕ) → is_among found key ≡ list_any (refers_anew lookup.old.arena.now.tree index.now key) former.now) }
+    ensures tree { lookup.new.arena.now.tree ≡ lookup.old.arena.now.tree }
 {
     let mut found = Elements::new(alloc);
     for target in former {
-        add_anew(arena, index, target, &mut found)?;
+        add_anew(alloc, lookup, index, target, &mut found)?;
     }
     Ok(found)
 }
@@ -116,17 +131,17 @@ fn elements_anew(
 /// The elements that refer to ids which name other elements than before, or to one of these elements.
 fn found_elements(
     alloc: Global,
-    arena: &Arena,
+    lookup: &mut HolderLookup<'_>,
     index: &Index,
     former: &[FormerTarget],
     targets: &[usize],
 ) -> Result<Elements, Memory>
-    requires indexed { IsIndexOf index.now arena.now.tree }
-    requires live { AreLive arena.now.tree targets.now }
-    ensures found { IfOk result (λ found. (key : ℕ) → is_among found key ≡ is_found arena.now.tree index.now former.now targets.now key) }
+    requires live { AreLive lookup.old.arena.now.tree targets.now }
+    ensures found { IfOk result (λ found. (key : ℕ) → is_among found key ≡ is_found lookup.old.arena.now.tree index.now former.now targets.now key) }
+    ensures tree { lookup.new.arena.now.tree ≡ lookup.old.arena.now.tree }
 {
-    let mut found = elements_anew(alloc, arena, index, former)?;
-    add_all_by_id(arena, index, targets, &mut found)?;
+    let mut found = elements_anew(alloc, lookup, index, former)?;
+    add_all_by_id(alloc, lookup, index, targets, &mut found)?;
     Ok(found)
 }
 
@@ -144,7 +159,7 @@ pub struct Referring {
 /// before, or one that is changed: the elements that refer to it may be many where it does not.
 ///
 /// It takes memory of these elements, and time in them and in the ids of the former targets, of the changed elements and of
-/// the first elements: it looks up each once, in time in the number of elements that hold the id, for each of them linear in
+/// the first elements: it looks up each id once, in time in the number of elements that hold it, for each of them linear in
 /// how deep they are; and it walks nowhere.
 pub fn referring_elements(
     alloc: Global,
@@ -160,7 +175,8 @@ pub fn referring_elements(
     ensures second { IfOk result (λ found. (before : Evaluated) (said : List (ℕ × ElementRecord)) → let after : Evaluated = record { tree = arena.now.tree; said = said } in AreFormerTargets former.now before after → TellsReferences index.now after → (key : ℕ) → is_among found.second key ≡ refers_through before after changed.now key) }
 {
     arena_holds_document(arena);
-    let first = found_elements(alloc, arena, index, former, changed)?;
-    let second = found_elements(alloc, arena, index, &[], first.as_slice())?;
+    let mut lookup = HolderLookup::new(alloc, arena, index);
+    let first = found_elements(alloc, &mut lookup, index, former, changed)?;
+    let second = found_elements(alloc, &mut lookup, index, &[], first.as_slice())?;
     Ok(Referring { first, second })
 }

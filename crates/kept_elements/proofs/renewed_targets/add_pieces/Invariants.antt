@@ -6,5 +6,7 @@ use Rattle.referring_elements.specs.Found.{is_named}
 use Rattle.kept_elements.proofs.renewed_targets.add_pieces.Given as goal
 
 abbrev pub invariant-loop-piece : goal.invariant-loop-piece
-invariant-loop-piece l =
-    (other : ℕ) → is_among l.keys.keys other ≡ (is_among l.initial.keys.keys other || list_any (is_named l.arena.tree other) (filter_map reference (take l.piece-index l.pieces)))
+invariant-loop-piece l = record {
+  named : (other : ℕ) → is_among l.keys.keys other ≡ (is_among l.initial.keys.keys other || list_any (is_named l.initial.lookup.arena.now.tree other) (filter_map reference (take l.piece-index l.pieces)));
+  tree : l.lookup.arena.now.tree ≡ l.initial.lookup.arena.now.tree;
+}

@@ -4,4 +4,7 @@ use Rattle.kept_elements.specs.Machinery.Renewals.{some_names}
 use Rattle.kept_elements.proofs.renewed_targets.target_keys.Given as goal
 
 abbrev pub invariant-loop-key : goal.invariant-loop-key
-invariant-loop-key l = (key : ℕ) → is_among l.keys.keys key ≡ some_names l.arena.tree (take l._key-index l.records) key
+invariant-loop-key l = record {
+  named : (key : ℕ) → is_among l.keys.keys key ≡ some_names l.initial.lookup.arena.now.tree (take l._key-index l.records) key;
+  tree : l.lookup.arena.now.tree ≡ l.initial.lookup.arena.now.tree;
+}

@@ -10,7 +10,7 @@ use Rattle.kept_elements.proofs.renewed_texts.changes_to.Goals as goal
 
 pub returns-clause-changes : goal.returns-clause-changes
 returns-clause-changes g c =
-    let tree = c.args.arena.now.tree in
+    let tree = c.args.lookup.now.arena.now.tree in
     let table = c.args.table.now in
     let held = c.args.board.now.held in
     let listed = c.args.listed.now in

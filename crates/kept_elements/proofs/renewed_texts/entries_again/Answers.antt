@@ -2,13 +2,17 @@ use Rattle.std.proofs.Common.{◌≤◌, ◌++◌, ◌∙◌, ℕ, List, [], ◌
 use Rattle.std.specs.List.{IsDistinct}
 use Rattle.std.specs.Option.{option_map_or}
 use Rattle.std.proofs.lemmas.Result.{IfOk-weaker}
+use Rattle.forest.specs.Forest.{Forest}
+use Rattle.forest.specs.Keys.{Keyed}
 use Rattle.plain_types.specs.declared.counter_style.CounterStyle.{CounterStyle}
+use Rattle.plain_types.specs.declared.node.Node.{Node}
 use Rattle.content_eval.specs.Targets.{Known}
 use Rattle.edit_work.specs.KeyedSources.{is_among}
 use Rattle.generated_texts.specs.References.{kept_at}
 use Rattle.surroundings.specs.declared.told.Told.{Told}
+use Rattle.kept_elements.specs.Changes.{AreChanges}
 use Rattle.kept_elements.specs.Evaluations.{kept_of}
-use Rattle.kept_elements.specs.Machinery.Renewals.{known_again, renewed_kept}
+use Rattle.kept_elements.specs.Machinery.Renewals.{known_again, renewed_kept, some_names}
 use Rattle.kept_elements.proofs.KeyWeights.{no_more}
 use Rattle.kept_elements.proofs.NamedKeys.{few_named, named_targets}
 use Rattle.kept_elements.proofs.RenewalLemmas.{renews}
@@ -33,8 +37,9 @@ returns-clause-renewal g c =
       targets = c.as_slice-2.result.now;
       once = subst (λ (ks : List ℕ). IsDistinct nat_eq ks) (sym c.as_slice.ensures.keys) c.as_slice.ensures.unique;
       keys_are = λ key. ap (λ (ks : List ℕ). is_among ks key) c.as_slice.ensures.keys ∙ c.in_ok-told.ensures.keys key;
-      targets_are = λ key. ap (λ (ks : List ℕ). is_among ks key) c.as_slice-2.ensures.keys ∙ c.in_ok-targets.ensures.keys key;
-      changes_are = are;
+      targets_are = λ key. ap (λ (ks : List ℕ). is_among ks key) c.as_slice-2.ensures.keys ∙ (c.in_ok-targets.ensures.keys key ∙ ap (λ (tree : Forest (Keyed Node)). some_names tree c.args.listed.now key) c.new-lookup.ensures.tree);
+      changes_are = subst (λ (tree : Forest (Keyed Node)). AreChanges c.args.board.now.held (renewed_kept c.args.table.now (known_again tree c.args.table.now c.args.board.now.held (take c.args.flat_count c.args.listed.now) c.args.listed.now c.as_slice-2.result.now) (kept_at c.args.listed.now) c.as_slice.result.now) changes.items)
+          (c.in_ok-targets.ensures.tree ∙ c.new-lookup.ensures.tree) are;
     })
     c.changes_to.ensures.changes
 
@@ -45,7 +50,7 @@ returns-clause-steps g c =
     let told = few_named tree distinct c.as_slice.result.now (subst (λ (ks : List ℕ). IsDistinct nat_eq ks) (sym c.as_slice.ensures.keys) c.as_slice.ensures.unique)
     (λ key among. c.requires.elements key (sym (c.in_ok-told.ensures.keys key) ∙ sym (ap (λ (ks : List ℕ). is_among ks key) c.as_slice.ensures.keys) ∙ among)) in
     let targets = few_named tree distinct c.as_slice-2.result.now (subst (λ (ks : List ℕ). IsDistinct nat_eq ks) (sym c.as_slice-2.ensures.keys) c.as_slice-2.ensures.unique)
-    (λ key among. named_targets tree distinct c.args.listed.now key (sym (c.in_ok-targets.ensures.keys key) ∙ sym (ap (λ (ks : List ℕ). is_among ks key) c.as_slice-2.ensures.keys) ∙ among)) in
+    (λ key among. named_targets tree distinct c.args.listed.now key (sym (c.in_ok-targets.ensures.keys key ∙ ap (λ (tree : Forest (Keyed Node)). some_names tree c.args.listed.now key) c.new-lookup.ensures.tree) ∙ sym (ap (λ (ks : List ℕ). is_among ks key) c.as_slice-2.ensures.keys) ∙ among)) in
     omega (arith, told, targets, c.changes_to.ensures.steps)
 
 pub returns-clause-fewer : goal.returns-clause-fewer
@@ -53,7 +58,7 @@ returns-clause-fewer g c = λ keys others told_among targets_among.
     let told = no_more c.as_slice.result.now keys (subst (λ (ks : List ℕ). IsDistinct nat_eq ks) (sym c.as_slice.ensures.keys) c.as_slice.ensures.unique)
     (λ key among. told_among key (sym (c.in_ok-told.ensures.keys key) ∙ sym (ap (λ (ks : List ℕ). is_among ks key) c.as_slice.ensures.keys) ∙ among)) in
     let targets = no_more c.as_slice-2.result.now others (subst (λ (ks : List ℕ). IsDistinct nat_eq ks) (sym c.as_slice-2.ensures.keys) c.as_slice-2.ensures.unique)
-    (λ key among. targets_among key (sym (c.in_ok-targets.ensures.keys key) ∙ sym (ap (λ (ks : List ℕ). is_among ks key) c.as_slice-2.ensures.keys) ∙ among)) in
+    (λ key among. targets_among key (sym (c.in_ok-targets.ensures.keys key ∙ ap (λ (tree : Forest (Keyed Node)). some_names tree c.args.listed.now key) c.new-lookup.ensures.tree) ∙ sym (ap (λ (ks : List ℕ). is_among ks key) c.as_slice-2.ensures.keys) ∙ among)) in
     omega (arith, told, targets, c.changes_to.ensures.steps)
 
 pub returns-clause-few : goal.returns-clause-few
@@ -69,6 +74,8 @@ returns-clause-few g c =
     (λ changes are others told_among.
     let told = no_more keys others (subst (λ (ks : List ℕ). IsDistinct nat_eq ks) (sym c.as_slice.ensures.keys) c.as_slice.ensures.unique)
     (λ key among. told_among key (sym (c.in_ok-told.ensures.keys key) ∙ sym (ap (λ (ks : List ℕ). is_among ks key) c.as_slice.ensures.keys) ∙ among)) in
-    let fewer : length changes.items ≤ length (renewed_kept table known (kept_at listed) keys) = (renews held (renewed_kept table known (kept_at listed) keys) changes.items are).few in
+    let these = subst (λ (tree : Forest (Keyed Node)). AreChanges c.args.board.now.held (renewed_kept c.args.table.now (known_again tree c.args.table.now c.args.board.now.held (take c.args.flat_count c.args.listed.now) c.args.listed.now c.as_slice-2.result.now) (kept_at c.args.listed.now) c.as_slice.result.now) changes.items)
+    (c.in_ok-targets.ensures.tree ∙ c.new-lookup.ensures.tree) are in
+    let fewer : length changes.items ≤ length (renewed_kept table known (kept_at listed) keys) = (renews held (renewed_kept table known (kept_at listed) keys) changes.items these).few in
     omega (arith, told, fewer, few_kept table known (kept_at listed) keys))
     c.changes_to.ensures.changes

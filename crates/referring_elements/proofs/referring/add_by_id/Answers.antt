@@ -5,28 +5,22 @@ use Rattle.edit_work.specs.KeyedSources.{is_among}
 use Rattle.referring_elements.proofs.FoundLemmas.{refers-none, refers-some}
 use Rattle.referring_elements.proofs.referring.add_by_id.Goals as goal
 
-pub returns-in_ok-add_references : goal.returns-in_ok-add_references
+pub returns-in_ok-add_references-clause-ok : goal.returns-in_ok-add_references-clause-ok
 unfolding chars
-returns-in_ok-add_references c = record {
-  ok = λ key.
-      c.in_ok-add_references.ensures.ok key
-      ∙ ap (λ b. is_among c.args.found.now key || b)
-      (refers-some c.args.arena.now.tree c.args.index.now key c.args.target (chars c.in-Some.id.now) true c.in-Some.ensures.characters c.if-is_named.ensures.test);
-}
+returns-in_ok-add_references-clause-ok c = λ key.
+    c.in_ok-add_references.ensures.ok key
+    ∙ ap (λ b. is_among c.args.found.now key || b)
+    (refers-some c.args.lookup.now.arena.now.tree c.args.index.now key c.args.target (chars c.in-Some.id.now) true c.in-Some.ensures.characters (sym c.if-branch.true ∙ c.in_ok-is_named.ensures.test))
 
-pub returns-else-is_named : goal.returns-else-is_named
+pub returns-else-branch-clause-ok : goal.returns-else-branch-clause-ok
 unfolding chars
-returns-else-is_named c = record {
-  ok = λ key.
-      sym (or-false (is_among c.args.found.now key))
-      ∙ ap (λ b. is_among c.args.found.now key || b)
-      (refers-some c.args.arena.now.tree c.args.index.now key c.args.target (chars c.in-Some.id.now) false c.in-Some.ensures.characters c.if-is_named.ensures.test);
-}
+returns-else-branch-clause-ok c = λ key.
+    sym (or-false (is_among c.args.found.now key))
+    ∙ ap (λ b. is_among c.args.found.now key || b)
+    (refers-some c.args.lookup.now.arena.now.tree c.args.index.now key c.args.target (chars c.in-Some.id.now) false c.in-Some.ensures.characters (sym c.if-branch.false ∙ c.in_ok-is_named.ensures.test))
 
-pub returns-in_default : goal.returns-in_default
+pub returns-in_default-clause-ok : goal.returns-in_default-clause-ok
 unfolding chars
-returns-in_default c = record {
-  ok = λ key.
-      sym (or-false (is_among c.args.found.now key))
-      ∙ ap (λ b. is_among c.args.found.now key || b) (refers-none c.args.arena.now.tree c.args.index.now key c.args.target c.in_default.ensures.characters);
-}
+returns-in_default-clause-ok c = λ key.
+    sym (or-false (is_among c.args.found.now key))
+    ∙ ap (λ b. is_among c.args.found.now key || b) (refers-none c.args.lookup.now.arena.now.tree c.args.index.now key c.args.target c.in_default.ensures.characters)

@@ -5,4 +5,7 @@ use Rattle.referring_elements.specs.Found.{refers_anew}
 use Rattle.referring_elements.proofs.referring.elements_anew.Given as goal
 
 abbrev pub invariant-loop-target : goal.invariant-loop-target
-invariant-loop-target l = (key : ℕ) → is_among l.found key ≡ list_any (refers_anew l.arena.tree l.index key) (take l.target-index l.former)
+invariant-loop-target l = record {
+  found : (key : ℕ) → is_among l.found key ≡ list_any (refers_anew l.initial.lookup.arena.now.tree l.index key) (take l.target-index l.former);
+  tree : l.lookup.arena.now.tree ≡ l.initial.lookup.arena.now.tree;
+}
