@@ -34,32 +34,21 @@ use Rattle.box_eval.proofs.BoxLemmas.{box_eq}
 use Rattle.merged_walk.specs.Entries.{first_at}
 use Rattle.merged_walk.specs.Evaluators.{past_all}
 use Rattle.surroundings.specs.declared.surroundings.Surroundings.{Surroundings}
-use Rattle.surroundings.specs.StyledEvaluators.{inside_node, is_element, past_styled, root_surroundings, styled_evaluator}
+use Rattle.surroundings.specs.StyledEvaluators.{inside_node, is_element, past_styled, root_surroundings, starts_in, starts_of, styled_evaluator}
 use Rattle.scope_deeds.specs.Counting.{Counting, counting_in, counting_of}
 use Rattle.scope_deeds.proofs.LawLemmas.{kept_scopes_tell_starts}
 use Rattle.counter_index.specs.declared.deeds.CounterDeeds.{CounterDeeds}
 use Rattle.counter_index.specs.declared.index.CounterIndex.{CounterIndex}
-use Rattle.counter_index.specs.Documents.{KeepsDeeds, asked_in, asked_of, counter_deeds_in, counter_deeds_of}
+use Rattle.counter_index.specs.Documents.{KeepsDeeds, counter_deeds_in, counter_deeds_of}
 use Rattle.counter_index.specs.Indexes.{asked_at, asked_by, counting_at, counting_by, told_by_scope, with_values}
 use Rattle.counter_index.specs.Laws.{AskedAreOwn, AskedStartsAreKept, IndexKeepsCounting, OtherStartsAreZero, ScopesTellStarts}
 use Rattle.counter_index.specs.Retold.{told_entries}
-use Rattle.counter_index.proofs.ListLemmas.{first-has}
+use Rattle.counter_index.proofs.ListLemmas.{first-has, first-mapped}
 
 -- What it has, by keys.
 
 abbrev counted : ℕ × CounterDeeds → ℕ × Counting
 counted entry = (entry.0, counting_by entry.1)
-
-first_step : (here : Bool) (deeds : CounterDeeds) (first : Option CounterDeeds)
-    → option_map counting_by (cond here (Some deeds) first) ≡ cond here (Some (counting_by deeds)) (option_map counting_by first)
-first_step true deeds first = refl
-first_step false deeds first = refl
-
-first-counted : (entries : List (ℕ × CounterDeeds)) (key : ℕ) → option_map counting_by (first_at entries key) ≡ first_at (map counted entries) key
-first-counted [] key = refl
-first-counted (entry ∷ entries) key =
-    first_step (entry.0 == key) entry.1 (first_at entries key)
-    ∙ ap (λ first. cond (entry.0 == key) (Some (counting_by entry.1)) first) (first-counted entries key)
 
 own-counted : (key : ℕ) (deeds : CounterDeeds) (here : Bool) → map counted (cond here ((key, deeds) ∷ []) []) ≡ cond here ((key, counting_by deeds) ∷ []) []
 own-counted key deeds true = refl
@@ -82,7 +71,7 @@ all-counted table handed (Tree n c r) =
 pub index_keeps_counting : IndexKeepsCounting
 index_keeps_counting table style tree index keeps key =
     ap (option_map counting_by) (keeps key)
-    ∙ first-counted (counter_deeds_in table root_surroundings (styled style no_starts tree)) key
+    ∙ sym (first-mapped counting_by (counter_deeds_in table root_surroundings (styled style no_starts tree)) key)
     ∙ ap (λ entries. first_at entries key) (all-counted table root_surroundings (styled style no_starts tree))
 
 pub scopes_tell_starts : ScopesTellStarts
@@ -116,12 +105,12 @@ module _ (key : ℕ) where
       (all-either IsOwnStart (has_pseudo_box style.after) (box_starts start (box_of key kind.After) style.after) [] (box-own start kind.After style.after) (All-nil IsOwnStart))))
       (All-nil IsOwnStart)
 
-  asked-in-own : (boxed : Bool) (element : Styled) → All IsOwnStart element.starts → All IsOwnStart (asked_in boxed (Element element))
+  asked-in-own : (boxed : Bool) (element : Styled) → All IsOwnStart element.starts → All IsOwnStart (starts_in boxed (Element element))
   asked-in-own true element all = all
   asked-in-own false element all = All-nil IsOwnStart
 
   asked-own : (element : Styled) (handed : Option Surroundings) → All IsOwnStart element.starts
-      → All IsOwnStart (asked_of (record { key = key; label = Element element }) handed)
+      → All IsOwnStart (starts_of (record { key = key; label = Element element }) handed)
   asked-own element None all = All-nil IsOwnStart
   asked-own element (Some around) all = asked-in-own (is_boxed true (Element element)) element all
 

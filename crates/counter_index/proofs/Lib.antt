@@ -7,4 +7,5 @@ pub mod ListLemmas
 pub mod PutLemmas
 pub mod RowTurns
 pub mod ScopeLemmas
+pub mod ToldLemmas
 pub mod TouchedLemmas

@@ -1,38 +1,28 @@
 -- The index of a document (our own, over CSS Lists 3, 4.4).
-use Rattle.std.specs.Prelude.{◌≡◌, ℕ, Bool, true, List, [], ◌∷◌, ◌++◌, Option, Some, None, if◌then◌else◌}
+use Rattle.std.specs.Prelude.{◌≡◌, ℕ, List, [], ◌∷◌, ◌++◌, Option, if◌then◌else◌}
 use Rattle.forest.specs.Forest.{Forest, Empty, Tree}
 use Rattle.forest.specs.Keys.{Keyed}
 use Rattle.plain_types.specs.declared.counter_style.CounterStyle.{CounterStyle}
 use Rattle.plain_types.specs.declared.node.Node.{Node}
 use Rattle.plain_types.specs.declared.style.ElementStyle.{ElementStyle}
 use Rattle.plain_types.specs.declared.style.Style.{Style}
-use Rattle.box_eval.specs.declared.inputs.Start.{Start}
-use Rattle.box_eval.specs.Evaluation.{Element, StyledNode, is_boxed, styled}
+use Rattle.box_eval.specs.Evaluation.{StyledNode, styled}
 use Rattle.box_eval.specs.Starts.{document_starts, no_starts}
 use Rattle.merged_walk.specs.Entries.{first_at}
 use Rattle.merged_walk.specs.Evaluators.{past_all}
 use Rattle.surroundings.specs.declared.surroundings.Surroundings.{Surroundings}
-use Rattle.surroundings.specs.StyledEvaluators.{inside_node, is_element, past_styled, root_surroundings, styled_evaluator}
+use Rattle.surroundings.specs.StyledEvaluators.{inside_node, is_element, past_styled, root_surroundings, starts_of, styled_evaluator}
 use Rattle.scope_deeds.specs.Counting.{Counting, counting_of}
 use Rattle.counter_index.specs.declared.deeds.CounterDeeds.{CounterDeeds}
 use Rattle.counter_index.specs.declared.index.CounterIndex.{CounterIndex}
 use Rattle.counter_index.specs.Indexes.{asked_at, deeds_at, starts_at, with_values}
-
--- the starts for which the boxes of a node ask, which has a box or not
-abbrev pub asked_in : Bool → StyledNode → List Start
-asked_in true (Element element) = element.starts
-asked_in _ label = []
-
-abbrev pub asked_of : Keyed StyledNode → Option Surroundings → List Start
-asked_of node None = []
-asked_of node (Some around) = asked_in (is_boxed true node.label) node.label
 
 module _ (table : List CounterStyle) where
   -- what is to be kept of an element that is handed this, where that is handed on behind its children
   abbrev pub counter_deeds_of : Keyed StyledNode → (handed behind : Option Surroundings) → CounterDeeds
   counter_deeds_of node handed behind =
       let its : Counting = counting_of table node handed behind in
-      record { own = its.own; asked = asked_of node handed; before_children = its.deeds.before_children; after_children = its.deeds.after_children }
+      record { own = its.own; asked = starts_of node handed; before_children = its.deeds.before_children; after_children = its.deeds.after_children }
 
   -- and of the elements of trees, of which the first is handed this, in the order in which they are left
   abbrev pub counter_deeds_in : Option Surroundings → Forest (Keyed StyledNode) → List (ℕ × CounterDeeds)

@@ -1,5 +1,5 @@
 -- Laws of the index of a document.
-use Rattle.std.specs.Prelude.{◌≡◌, ◌++◌, ℕ, ℤ, pos, true, false, All, List, Option, Some, if◌then◌else◌}
+use Rattle.std.specs.Prelude.{◌≡◌, ◌↔◌, ◌++◌, ℕ, ℤ, pos, true, false, All, List, [], Option, Some, None, if◌then◌else◌, option_map}
 use Rattle.forest.specs.Forest.{Forest}
 use Rattle.forest.specs.Keys.{Keyed, HasDistinctKeys}
 use Rattle.forest.specs.Spots.{IsLive}
@@ -9,17 +9,22 @@ use Rattle.plain_types.specs.declared.node.Node.{Node}
 use Rattle.plain_types.specs.declared.style.ElementStyle.{ElementStyle}
 use Rattle.plain_types.specs.declared.style.Style.{Style}
 use Rattle.box_eval.specs.declared.inputs.Start.{Start}
-use Rattle.box_eval.specs.Evaluation.{styled}
+use Rattle.box_eval.specs.Evaluation.{StyledNode, styled}
 use Rattle.box_eval.specs.Starts.{document_starts, no_starts}
-use Rattle.merged_walk.specs.Entries.{put_over}
+use Rattle.merged_walk.specs.Entries.{first_at, put_over}
+use Rattle.merged_walk.specs.Evaluators.{told_all}
+use Rattle.surroundings.specs.declared.surroundings.Surroundings.{Surroundings}
+use Rattle.surroundings.specs.declared.told.Told.{Told}
+use Rattle.surroundings.specs.StyledEvaluators.{styled_evaluator}
 use Rattle.edit_work.specs.KeyedSources.{is_among}
 use Rattle.scope_deeds.specs.Counting.{KeepsCounting}
 use Rattle.counter_index.specs.declared.deeds.CounterDeeds.{CounterDeeds}
 use Rattle.counter_index.specs.declared.index.CounterIndex.{CounterIndex}
 use Rattle.counter_index.specs.Exchanges.{after_exchange, puts_in, takes_out}
-use Rattle.counter_index.specs.Documents.{KeepsDeeds, KeepsStarts}
-use Rattle.counter_index.specs.Indexes.{asked_at, counting_at, is_asked, told_by_scope, value_at, with_values}
+use Rattle.counter_index.specs.Documents.{KeepsDeeds, KeepsStarts, counter_deeds_in}
+use Rattle.counter_index.specs.Indexes.{asked_at, counting_at, deeds_at, is_asked, told_by_scope, value_at, with_values}
 use Rattle.counter_index.specs.Retold.{told_entries}
+use Rattle.counter_index.specs.Told.{TellsWithoutStarts, all_deeds_told, deeds_told, told_exchange, told_without_starts}
 
 -- a law of an index and of a document
 abbrev pub OfEachIndex : ((table : List CounterStyle) (style : ℕ → Option Style → ElementStyle) (tree : Forest (Keyed Node)) → CounterIndex → Type 0) → Type 0
@@ -53,6 +58,45 @@ abbrev pub OtherStartsAreZero : Type 0
 OtherStartsAreZero =
     OfEachIndex (λ table style tree index. KeepsStarts table style tree index
     → (creator : BoxId) (name : List ℕ) → is_asked index creator name ≡ false → value_at index creator name ≡ pos 0)
+
+-- What is told of elements gives what is kept of them.
+abbrev pub DeedsAreTold : Type 0
+DeedsAreTold =
+    (table : List CounterStyle) (handed : Option Surroundings) (trees : Forest (Keyed StyledNode))
+    → all_deeds_told (told_all (styled_evaluator table) handed trees) ≡ counter_deeds_in table handed trees
+
+-- so the index of a document has of each element what is told of it
+abbrev pub IndexKeepsWhatIsTold : Type 0
+IndexKeepsWhatIsTold =
+    OfEachIndex (λ table style tree index.
+    KeepsDeeds table style tree index ↔ ((key : ℕ) → deeds_at index key ≡ option_map deeds_told (first_at (told_without_starts table style tree) key)))
+
+-- a law of a document that an edit made of another one, and of what a walk has caught of it
+abbrev pub OfEachCaught :
+    ((was_table table : List CounterStyle) (was_style style : ℕ → Option Style → ElementStyle) (old new : Forest (Keyed Node)) → (takes : List ℕ) (caught : List (ℕ × Told)) → Type 0) → Type 0
+OfEachCaught law =
+    (was_table table : List CounterStyle) (was_style style : ℕ → Option Style → ElementStyle) (old new : Forest (Keyed Node)) (takes : List ℕ) (caught : List (ℕ × Told))
+    → TellsWithoutStarts was_table table was_style style old new takes caught → law was_table table was_style style old new takes caught
+
+-- what was told before the edit, with what is caught put over it, is what is told after it
+abbrev pub CaughtIsPutOver : Type 0
+CaughtIsPutOver =
+    OfEachCaught (λ was_table table was_style style old new takes caught. (key : ℕ)
+    → put_over caught takes (first_at (told_without_starts was_table was_style old)) key ≡ first_at (told_without_starts table style new) key)
+
+-- so the index of the document before it, in which that is exchanged, has the deeds of the document after it
+abbrev pub ExchangesKeepDeeds : Type 0
+ExchangesKeepDeeds =
+    OfEachCaught (λ was_table table was_style style old new takes caught. (was now : CounterIndex)
+    → KeepsDeeds was_table was_style old was → ((key : ℕ) → deeds_at now key ≡ after_exchange (told_exchange takes caught) (deeds_at was) key)
+    → KeepsDeeds table style new now)
+
+-- and an empty one, in which all that is told of a document is exchanged, has the deeds of that
+abbrev pub NewIndexesKeepDeeds : Type 0
+NewIndexesKeepDeeds =
+    OfEachIndex (λ table style tree now. HasDistinctKeys tree → (was : CounterIndex) → ((key : ℕ) → deeds_at was key ≡ None)
+    → ((key : ℕ) → deeds_at now key ≡ after_exchange (told_exchange [] (told_without_starts table style tree)) (deeds_at was) key)
+    → KeepsDeeds table style tree now)
 
 -- Exchanges, by what is taken out and what is put in.
 abbrev pub ExchangesArePutOver : Type 0

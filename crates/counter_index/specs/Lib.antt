@@ -5,4 +5,5 @@ pub mod Indexes
 pub mod Laws
 pub mod Retold
 pub mod Rows
+pub mod Told
 pub mod Touched

@@ -1,6 +1,6 @@
 //! Laws of the index. The functions do nothing: each contract is a law.
 
-ghost use Rattle.counter_index.specs.Laws.{AskedAreOwn, AskedStartsAreKept, ExchangesArePutOver, IndexKeepsCounting, OtherStartsAreZero, ScopesTellStarts, ToldAreExchanged};
+ghost use Rattle.counter_index.specs.Laws.{AskedAreOwn, AskedStartsAreKept, CaughtIsPutOver, DeedsAreTold, ExchangesArePutOver, ExchangesKeepDeeds, IndexKeepsCounting, IndexKeepsWhatIsTold, NewIndexesKeepDeeds, OtherStartsAreZero, ScopesTellStarts, ToldAreExchanged};
 
 /// The index of a document has what tells the starts of its counters, and so the scopes tell them. Each element asks for starts
 /// of counters that its own boxes create. Of a counter for which an element asks the index has the start, and of others 0.
@@ -17,4 +17,16 @@ pub fn index_tells_starts()
 pub fn exchanges_are_put_over()
     ensures over { ExchangesArePutOver }
     ensures told { ToldAreExchanged }
+{}
+
+/// What a walk with all starts 0 tells of elements gives what the index of their document keeps of them. So it is enough to tell
+/// of a document that an edit made what a walk has caught: put over what was told before, where the elements that the document
+/// has no more are taken out, that is all that is told; and exchanged in the index of the document before the edit, it leaves the
+/// deeds of the document after it. An empty index has them once all that is told is exchanged.
+pub fn indexes_follow_walks()
+    ensures deeds { DeedsAreTold }
+    ensures index { IndexKeepsWhatIsTold }
+    ensures over { CaughtIsPutOver }
+    ensures edits { ExchangesKeepDeeds }
+    ensures whole { NewIndexesKeepDeeds }
 {}

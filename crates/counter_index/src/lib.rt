@@ -14,8 +14,9 @@
 //!
 //! | Step | Call | It takes |
 //! |---|---|---|
+//! | the deeds of the elements that change, come and go, as a walk with all starts 0 tells of them | [`deeds::told_exchange`] | memory for what they do; it shares sets |
 //! | room for the keys of the elements that come | `reserve` | memory for a key |
-//! | the deeds of the elements that change, come and go | `exchange` | no memory; time in these elements |
+//! | these deeds | `exchange` | no memory; time in these elements |
 //! | which elements' starts can be other now | `touched` | time in what these elements do and did |
 //! | their starts, told by the scopes of their counters | `tell` | time in the nodes of these scopes |
 //! | these starts | `exchange_starts` | no memory |
@@ -37,25 +38,28 @@
 //! 4   h2    counter-reset: reversed(c)
 //! ```
 //!
-//! The second paragraph goes:
+//! The second paragraph goes. A walk with all starts 0 tells of 4, which is handed another set by its sibling before it, and of
+//! 0, in which the paragraph was; both do what they did.
 //!
 //! ```text
-//! let mut entries = [(3, None)];
-//! index.exchange(&mut entries);                                  // the entry has now what 3 did: -1 to the counter of 1
+//! let mut entries = told_exchange(alloc, &[3], &told)?;          // 3 goes, 4 and 0 come
+//! index.exchange(&mut entries);                                  // the first entry has now what 3 did: -1 to the counter of 1
 //! let keys = index.touched(alloc, &entries, &[3])?;              // 1: its counter was changed by 3
-//! let mut starts = index.tell(alloc, &arena, keys.as_slice())?;  // 1: c starts with 2. Read were 1, 2 and the own set of 4
+//! let mut starts = index.tell(alloc, &arena, keys.as_slice())?;  // 1: c starts with 2
 //! index.exchange_starts(&mut starts);                            // the entry has now the start of before, 3
 //! let other = index.with_other_starts(alloc, &starts)?;          // 1
 //! ```
 //!
-//! That of 4 stays as it is, and nothing behind it is read.
+//! Read were what 1 and 2 do, the own set of 4, which has another counter, so that the scope ends there, and what the after box
+//! of 0 does. The start of 4 stays as it is, and nothing behind it is read.
 //!
 //! # What the layers above cite
 //!
 //! In contracts: `IsCounterIndex` with its parts `KeepsDeeds` and `KeepsStarts` (`specs/Documents.antt`); `deeds_at`, `asked_at`,
-//! `starts_at`, `value_at` and `counting_at` (`Indexes.antt`); `after_exchange`, `restored` and `IsWayBack` (`Exchanges.antt`);
-//! `IsUntouched` and `AreTouched` (`Touched.antt`); `told_entries` and `other_keys` (`Retold.antt`). What ties them to a document
-//! are the laws of [`laws`]; in proofs, by `proofs/IndexLemmas.antt` and `PutLemmas.antt`.
+//! `starts_at`, `value_at` and `counting_at` (`Indexes.antt`); `deeds_told`, `told_exchange` and `TellsWithoutStarts`
+//! (`Told.antt`); `after_exchange`, `restored` and `IsWayBack` (`Exchanges.antt`); `IsUntouched` and `AreTouched`
+//! (`Touched.antt`); `told_entries` and `other_keys` (`Retold.antt`). What ties them to a document are the laws of [`laws`]; in
+//! proofs, by `proofs/IndexLemmas.antt`, `PutLemmas.antt` and `ToldLemmas.antt`.
 #![tactic(auto)]
 
 mod asks;

@@ -1,12 +1,15 @@
-//! An exchange and its way back, what it touches, and starts that are kept.
+//! An exchange and its way back, what it touches, starts that are kept, and what is told.
 
 ghost use Rattle.std.specs.Prelude.{◌≡◌, ◌<◌, OnOk};
 
-use crate::deeds::CounterDeeds;
+use crate::deeds::{CounterDeeds, told_exchange};
 use crate::index::CounterIndex;
 use box_eval::change::Change;
+use box_eval::element_record::ElementRecord;
 use box_eval::inputs::Start;
+use box_eval::made::Made;
 use box_eval::starts::Starts;
+use counter_sets::counter_set::CounterSet;
 use plain_types::box_id::BoxId;
 use plain_types::box_kind::BoxKind;
 use plain_types::count::Count;
@@ -16,6 +19,8 @@ use plain_types::text::Text;
 use reversed_start::event::Event;
 use std::alloc::Global;
 use std::test::Fail;
+use surroundings::told::Told;
+use surroundings::walked::Walked;
 
 /// The list that creates the counter, and its item.
 const LIST: usize = 1;
@@ -32,33 +37,43 @@ fn list_box() -> BoxId {
     }
 }
 
-/// The deeds of an item that increments the counter of the list.
-fn item_deeds(alloc: Global, by: Count) -> Result<CounterDeeds, Memory> {
+/// That a box increments the counter of the list.
+fn increment(alloc: Global, by: Count) -> Result<List<Change>, Memory> {
     let mut changes = List::new(alloc);
     changes.push(Change {
         creator: list_box(),
         name: Text::from_str(alloc, "c")?,
         event: Event { by, assigned: None },
     })?;
+    Ok(changes)
+}
+
+/// The deeds of an item that increments the counter of the list.
+fn item_deeds(alloc: Global, by: Count) -> Result<CounterDeeds, Memory> {
     Ok(CounterDeeds {
         own: None,
         asked: List::new(alloc),
-        before_children: changes,
+        before_children: increment(alloc, by)?,
         after_children: List::new(alloc),
     })
 }
 
-/// The deeds of the list: it asks for the start of its counter.
-fn list_deeds(alloc: Global) -> Result<CounterDeeds, Memory> {
-    let mut asked = List::new(alloc);
-    asked.push(Start {
+/// The start of the list's counter.
+fn list_starts(alloc: Global, value: Count) -> Result<List<Start>, Memory> {
+    let mut starts = List::new(alloc);
+    starts.push(Start {
         creator: list_box(),
         name: Text::from_str(alloc, "c")?,
-        value: 0,
+        value,
     })?;
+    Ok(starts)
+}
+
+/// The deeds of the list: it asks for the start of its counter.
+fn list_deeds(alloc: Global) -> Result<CounterDeeds, Memory> {
     Ok(CounterDeeds {
         own: None,
-        asked,
+        asked: list_starts(alloc, 0)?,
         before_children: List::new(alloc),
         after_children: List::new(alloc),
     })
@@ -107,13 +122,7 @@ fn is_touched(alloc: Global, index: &mut CounterIndex) -> Result<bool, Memory>
 fn starts_and_ends(alloc: Global, index: &mut CounterIndex, value: Count) -> Result<bool, Memory>
     requires room { LIST < index.old.starts.room }
 {
-    let mut starts = List::new(alloc);
-    starts.push(Start {
-        creator: list_box(),
-        name: Text::from_str(alloc, "c")?,
-        value,
-    })?;
-    let mut entries = [(LIST, Some(starts))];
+    let mut entries = [(LIST, Some(list_starts(alloc, value)?))];
     index.exchange_starts(&mut entries);
     let between = index.start(list_box(), "c");
     let other = index.start(list_box(), "d");
@@ -130,5 +139,71 @@ fn exchanges_are_taken_back(rt: HostRuntime) -> Result<(), Fail> {
     assert!(rt; is_touched(alloc, &mut index)?);
     assert!(rt; !index.asks());
     assert!(rt; starts_and_ends(alloc, &mut index, 5)?);
+    Ok(())
+}
+
+/// A pseudo-element's box that increments the counter of the list.
+fn made(alloc: Global, by: Count) -> Result<Made, Memory> {
+    Ok(Made {
+        set: CounterSet::empty(alloc)?,
+        pieces: List::new(alloc),
+        changes: increment(alloc, by)?,
+    })
+}
+
+/// What is told of the list: it asks for a start, its own box does -1, its before box -2, and its after box -3.
+fn told_list(alloc: Global) -> Result<Told, Memory> {
+    let said = ElementRecord {
+        has_box: true,
+        own: CounterSet::empty(alloc)?,
+        exit: CounterSet::empty(alloc)?,
+        depth_before: 0,
+        depth_after: 0,
+        marker: None,
+        before: Some(made(alloc, -2)?),
+        after: Some(made(alloc, -3)?),
+    };
+    Ok(Told {
+        said,
+        walked: Walked {
+            handed: None,
+            behind: None,
+        },
+        asks: true,
+        starts: list_starts(alloc, 0)?,
+        changes: increment(alloc, -1)?,
+    })
+}
+
+/// By how much each of these increments a counter, one after the other.
+fn are_steps(changes: &[Change], steps: &[Count]) -> bool {
+    changes.len() == steps.len()
+        && changes
+            .iter()
+            .zip(steps)
+            .all(|(change, step)| change.event.by == *step)
+}
+
+/// Whether these are the deeds of the list.
+fn are_told(deeds: &CounterDeeds) -> bool {
+    deeds.own.is_some()
+        && deeds.asked.len() == 1
+        && are_steps(deeds.before_children.as_slice(), &[-1, -2])
+        && are_steps(deeds.after_children.as_slice(), &[-3])
+}
+
+/// Whether the item goes and the list comes.
+fn are_exchanged(alloc: Global) -> Result<bool, Memory> {
+    let told = [(LIST, told_list(alloc)?)];
+    let entries = told_exchange(alloc, &[ITEM], &told)?;
+    Ok(match entries.as_slice() {
+        [(gone, None), (come, Some(deeds))] => *gone == ITEM && *come == LIST && are_told(deeds),
+        _ => false,
+    })
+}
+
+#[test]
+fn what_is_told_is_exchanged(rt: HostRuntime) -> Result<(), Fail> {
+    assert!(rt; are_exchanged(rt.alloc())?);
     Ok(())
 }
