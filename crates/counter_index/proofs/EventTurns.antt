@@ -163,8 +163,5 @@ module _ (f : Forest (Keyed Node)) (kept : ℕ → Option Counting) where
               omega (arith, turn.1),
             )
 
-        pub leave_live : Gathers all (reverse stack) link events → stack ≡ stack' ++ key ∷ [] → IsLive f key
-        leave_live gathers more = (subst (λ keys. Gathers all keys link events) (pushed stack' stack key more) gathers).live.0
-
     pub done : (all events : List Event) → Gathers all [] None events → events ≡ all
     done all events gathers = sym (append-nil events) ∙ gathers.to_do

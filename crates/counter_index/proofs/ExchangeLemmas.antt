@@ -37,15 +37,6 @@ module _ {T : Type 0} where
   room_of : (room other : ℕ) (entries : List (ℕ × Option T)) → other ≡ room → HasRoomFor room entries → HasRoomFor other entries
   room_of room other entries e has = rw e has
 
-  pub room_one : (room key : ℕ) (kept : Option T) → key < room → HasRoomFor room ((key, kept) ∷ [])
-  room_one room key kept inside = All-cons (λ (k : ℕ). k < room) key [] inside (All-nil (λ (k : ℕ). k < room))
-
-  pub room_two : (room key other : ℕ) (kept more : Option T) → key < room → other < room → HasRoomFor room ((key, kept) ∷ (other, more) ∷ [])
-  room_two room key other kept more inside beside = All-cons (λ (k : ℕ). k < room) key (other ∷ []) inside (room_one room other more beside)
-
-  pub room_again : (room other : ℕ) (entries former : List (ℕ × Option T)) → keys_in former ≡ keys_in entries → other ≡ room → HasRoomFor room entries → HasRoomFor other former
-  room_again room other entries former same e has = rw (e, same) has
-
   room_first : (room : ℕ) (entry : ℕ × Option T) (entries : List (ℕ × Option T)) → HasRoomFor room (entry ∷ entries) → entry.0 < room
   room_first room entry entries has = has 0 entry.0 (omega arith)
 

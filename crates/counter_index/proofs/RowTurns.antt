@@ -70,9 +70,6 @@ module _ (f : Forest (Keyed Node)) (kept : ℕ → Option Counting) (creator : B
   row-begins link events is = record { link_is = is; to_do = refl }
 
   module _ (all : List Event) (link link' : Option ℕ) (key : ℕ) (events events' : List Event) where
-    pub row-live : IsRow all link events → link ≡ Some key → IsLive f key
-    row-live turn at = (subst (λ l. IsRow all l events) at turn).link_is
-
     -- a sibling is read, or passed
     pub row-turn : HasDistinctKeys f → IsRow all link events → link ≡ Some key → lacks_it kept creator name key ≡ false
         → events' ≡ events ++ events_of (boxed_changes kept key (children_of f key)) creator name → link' ≡ next_sibling_of f key
@@ -97,15 +94,3 @@ module _ (f : Forest (Keyed Node)) (kept : ℕ → Option Counting) (creator : B
           },
           omega (arith, step.1, ap size beside.0),
         )
-
-    -- the row ends at one that lacks the counter
-    pub row-ends : IsRow all link events → link ≡ Some key → lacks_it kept creator name key ≡ true → events ≡ all
-    row-ends turn at lacks =
-        let here = subst (λ l. IsRow all l events) at turn in
-        let rest : List Change = boxed_changes kept key (children_of f key) ++ kept_row kept creator name (after_of f key) in
-        let none : row_at (Some key) ≡ [] = (row-step key here.link_is).0 ∙ ap (λ b. cond b [] rest) lacks in
-        sym (append-nil events) ∙ ap (λ read. events ++ events_of read creator name) (sym none) ∙ here.to_do
-
-  -- or at the last
-  pub row-done : (all events : List Event) (link : Option ℕ) → IsRow all link events → link ≡ None → events ≡ all
-  row-done all events link turn at = sym (append-nil events) ∙ (subst (λ l. IsRow all l events) at turn).to_do

@@ -4,7 +4,7 @@ use Rattle.forest.specs.Spots.{on_link}
 use Rattle.box_eval.specs.Starts.{events_of}
 use Rattle.scope_deeds.specs.KeptScopes.{kept_row}
 use Rattle.counter_index.specs.Indexes.{countings}
-use Rattle.counter_index.proofs.RowTurns.{row-begins, row-done, row-ends, row-live, row-turn}
+use Rattle.counter_index.proofs.RowTurns.{row-begins, row-turn}
 use Rattle.counter_index.proofs.scope.add_row.Goals as goal
 
 pub row-init : goal.row-init
