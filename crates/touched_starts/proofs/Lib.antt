@@ -1,0 +1,12 @@
+pub mod AskedLemmas
+pub mod EntryCounts
+pub mod GoneLemmas
+pub mod IndexedDeeds
+pub mod IndexedNodes
+pub mod InputNodes
+pub mod KeptNodes
+pub mod LawLemmas
+pub mod MovedLemmas
+pub mod NodeFacts
+pub mod OtherLemmas
+pub mod TurnedLemmas
