@@ -49,8 +49,8 @@ module _ (former : List (ℕ × Option CounterDeeds)) (moved : List ℕ) (index 
     pub alike : (key : ℕ) → AreAlike counter (does key) (did key)
     pub idle : All (λ (key : ℕ). IsIdle counter (did key)) moved
 
-  -- The creator of each counter whose start is asked for is among these elements, or the counter is untouched. And so is each
-  -- element that asks for other starts than before.
+  -- The creator of each counter whose start is asked for is among these elements, or the counter is untouched. Each element that
+  -- asks for other starts than before is among these elements too.
   pub record AreTouched (keys : List ℕ) : Type 0 where
     pub others : (counter : Identity) → is_asked index counter.creator counter.name ≡ true → (is_among keys counter.creator.key ≡ true) ⊎ IsUntouched counter
     pub own : (key : ℕ) → (is_among keys key ≡ true) ⊎ (asked_at index key ≡ asked_by (was_kept key))

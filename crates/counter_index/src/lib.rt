@@ -17,14 +17,14 @@
 //! | the deeds of the elements that change, come and go, as a walk with all starts 0 tells of them | [`deeds::told_exchange`] | memory for what they do; it shares sets |
 //! | room for the keys of the elements that come | `reserve` | memory for a key |
 //! | these deeds | `exchange` | no memory; time in these elements |
-//! | which elements' starts can be other now | `touched` | time in what these elements do and did |
+//! | which elements' starts can be other now | `touched` | time in the square of what each exchanged element does and did, and in what each other one does |
 //! | their starts, told by the scopes of their counters | `tell` | time in the nodes of these scopes |
 //! | these starts | `exchange_starts` | no memory |
 //! | which elements have other starts now | `with_other_starts` | time in these starts |
 //!
 //! An exchange leaves in the entries what was there before, so the same entries are its way back (`restore`,
-//! `restore_starts`), and a way back cannot fail. Keys may come several times in an exchange, as that of an element that goes and
-//! comes again: the last of them counts, and on the way back the first.
+//! `restore_starts`), and a way back cannot fail. A key may come several times in an exchange: the last entry counts, and on the
+//! way back the first.
 //!
 //! An index is a [`Starts`](box_eval::starts::Starts): a walk asks it for the start of each counter that a box creates.
 //!
@@ -42,7 +42,7 @@
 //! 0, in which the paragraph was; both do what they did.
 //!
 //! ```text
-//! let mut entries = told_exchange(alloc, &[3], &told)?;          // 3 goes, 4 and 0 come
+//! let mut entries = told_exchange(alloc, &[3], &told)?;          // 3 goes; of 4 and 0 it is told again
 //! index.exchange(&mut entries);                                  // the first entry has now what 3 did: -1 to the counter of 1
 //! let keys = index.touched(alloc, &entries, &[3])?;              // 1: its counter was changed by 3
 //! let mut starts = index.tell(alloc, &arena, keys.as_slice())?;  // 1: c starts with 2

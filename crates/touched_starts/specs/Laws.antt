@@ -42,8 +42,8 @@ module _ (source : KeyedSource) (index : CounterIndex) where
   abbrev pub IsIndexOf : Type 0
   IsIndexOf = IsCounterIndex (table source) (document_style (author source) source.tree) source.tree index
 
--- An index has what the elements did before an edit, and one what they do after it; these were kept of the elements that were
--- exchanged, and each element in a tree that goes is among those that are moved.
+-- One index has what the elements did before an edit, another what they do after it. `former` has what was kept of the elements
+-- that were exchanged; `moved` has each element in a tree that goes.
 pub record IsBrought (edit : Edit) (before after : KeyedSource) (was now : CounterIndex) (former : List (ℕ × Option CounterDeeds)) (moved : List ℕ) : Type 0 where
   pub did : HasDeeds before was
   pub does : HasDeeds after now
@@ -63,7 +63,7 @@ UntouchedStartsStay =
     OfEachBrought (λ edit before after was now former moved. (counter : Identity) → IsUntouched former moved now counter
     → own_starts after counter.creator counter.name ≡ own_starts before counter.creator counter.name)
 
--- So one that had the starts of the document before is brought to the document after the edit, where the starts of touched elements
+-- So an index that had the starts of the document before is brought to the document after the edit, where the starts of touched elements
 -- are told again and exchanged for those that it had.
 abbrev pub StartsAreBrought : Type 0
 StartsAreBrought =
@@ -72,8 +72,8 @@ StartsAreBrought =
     → ((key : ℕ) → get told.starts.held key ≡ after_exchange (told_entries (own_starts after) now keys) (get was.starts.held) key)
     → IsIndexOf after told)
 
--- The elements that are moved. Where these are taken, each element of the document before that is not in the one after is among
--- them; and the others in trees that go come again at the stops of the edit.
+-- The elements that are moved. Let `takes` have each element of the document before that is not in the one after. The other elements
+-- in trees that go come again at the stops of the edit.
 abbrev pub GoneAreMoved : Type 0
 GoneAreMoved =
     OfEachEdit (λ edit before after. (was : CounterIndex) → HasDeeds before was

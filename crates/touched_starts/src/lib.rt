@@ -28,7 +28,7 @@
 //!
 //! # An example
 //!
-//! That of `counter_index` and `start_reach`: two headings, whose second paragraph goes by `remove /2`.
+//! That of `start_reach`, which `counter_index` has without its last paragraph. The second paragraph goes: `remove /2`.
 //!
 //! ```text
 //! 0 body

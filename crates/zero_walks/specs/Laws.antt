@@ -8,7 +8,8 @@ use Rattle.surroundings.specs.declared.walked.Walked.{Walked}
 use Rattle.snapshot_board.specs.Records.{put_all, take_all}
 use Rattle.zero_walks.specs.Told.{walked_of}
 
--- of each element that which was told of it last is kept, and nothing of others
+-- of each element of which something is told, what it was handed and what was handed on behind its children is kept; nothing of
+-- others
 abbrev pub KeepsWalks : FinMap nat_cmp Walked → (ℕ → Option Told) → Type 0
 KeepsWalks held told = (key : ℕ) → get held key ≡ option_map (λ (told : Told). told.walked) (told key)
 

@@ -16,7 +16,7 @@
 //! So a caller takes all memory first, and what cannot fail comes last. Only reading is a step, of a [`steps::Steps`]: to
 //! put what a walk found costs no more than to find it, and the walk's steps are counted.
 //!
-//! Where nothing asks for a start nothing is kept here: the board tells what it would.
+//! Where nothing asks for a start a caller need keep nothing here: the board tells what it would.
 //!
 //! # An example
 //!
