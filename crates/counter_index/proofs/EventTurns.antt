@@ -4,7 +4,7 @@ use Rattle.std.specs.Prelude.{filter}
 use Rattle.std.specs.Str.{bytes_eq}
 use Rattle.std.proofs.lemmas.List.{map-append, reverse-append}
 use Rattle.std.proofs.lemmas.List.Elements.{filter-append}
-use Rattle.forest.specs.Forest.{Forest, Empty, Tree, size}
+use Rattle.forest.specs.Forest.{Forest, Tree, size}
 use Rattle.forest.specs.Keys.{Keyed, HasDistinctKeys}
 use Rattle.forest.specs.Spots.{IsLink, IsLive, after_of, children_of, first_child_of, label_of, next_sibling_of, on_link}
 use Rattle.forest.proofs.SpotLaws.{live-spot, on_first, on_key, on_next}

@@ -1,5 +1,5 @@
 -- What the index of a document tells.
-use Rattle.std.proofs.Common.{◌≡◌, ◌==◌, ◌++◌, ◌∷◌, ◌&&◌, ◌||◌, ◌<◌, ◌+◌, ℕ, ℤ, pos, Bool, true, false, not, All, List, [], map, Option, Some, None, cond, refl, sym, ap, subst, ◌∙◌, arith, eq-eqb}
+use Rattle.std.proofs.Common.{◌≡◌, ◌++◌, ◌∷◌, ◌&&◌, ◌||◌, ◌<◌, ℕ, ℤ, pos, Bool, true, false, not, All, List, [], map, Option, Some, None, cond, refl, sym, ap, subst, ◌∙◌, arith, eq-eqb}
 use Rattle.std.specs.Prelude.{filter, is_some, option_map}
 use Rattle.std.specs.List.{find, list_any}
 use Rattle.std.specs.Option.{option_map_or}
@@ -23,19 +23,18 @@ use Rattle.plain_types.specs.declared.style.ResetOp.{ResetOp}
 use Rattle.plain_types.specs.declared.style.Style.{Style}
 use Rattle.counter_sets.specs.Sets.{is_same_box}
 use Rattle.reversed_start.specs.Starts.{start}
-use Rattle.box_eval.specs.declared.change.Change.{Change}
 use Rattle.box_eval.specs.declared.inputs.Start.{Start}
 use Rattle.box_eval.specs.Boxes.{box_of, generates_box, has_pseudo_box}
 use Rattle.box_eval.specs.Elements.{Styled}
 use Rattle.box_eval.specs.Evaluation.{Element, StyledNode, box_starts, element_starts, is_boxed, style_within, styled, styled_node, styled_trees}
 use Rattle.box_eval.specs.Properties.{last_resets, start_in}
-use Rattle.box_eval.specs.Starts.{document_starts, events_of, no_starts}
+use Rattle.box_eval.specs.Starts.{document_starts, no_starts}
 use Rattle.box_eval.proofs.BoxLemmas.{box_eq}
 use Rattle.merged_walk.specs.Entries.{first_at}
 use Rattle.merged_walk.specs.Evaluators.{past_all}
 use Rattle.surroundings.specs.declared.surroundings.Surroundings.{Surroundings}
 use Rattle.surroundings.specs.StyledEvaluators.{inside_node, is_element, past_styled, root_surroundings, starts_in, starts_of, styled_evaluator}
-use Rattle.scope_deeds.specs.Counting.{Counting, counting_in, counting_of}
+use Rattle.scope_deeds.specs.Counting.{Counting, counting_in}
 use Rattle.scope_deeds.proofs.LawLemmas.{kept_scopes_tell_starts}
 use Rattle.counter_index.specs.declared.deeds.CounterDeeds.{CounterDeeds}
 use Rattle.counter_index.specs.declared.index.CounterIndex.{CounterIndex}

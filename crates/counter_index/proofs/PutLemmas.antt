@@ -1,5 +1,5 @@
 -- Exchanges, by what is taken out and what is put in.
-use Rattle.std.proofs.Common.{◌≡◌, ◌==◌, ◌++◌, ◌∷◌, ◌||◌, ℕ, ℤ, Bool, true, false, List, [], map, Option, Some, None, cond, refl, sym, ap, ◌∙◌, eqb-true}
+use Rattle.std.proofs.Common.{◌≡◌, ◌==◌, ◌++◌, ◌∷◌, ◌||◌, ℕ, ℤ, Bool, true, false, List, [], Option, Some, None, cond, refl, ap, ◌∙◌, eqb-true}
 use Rattle.std.specs.Prelude.{option_map, unwrap_or}
 use Rattle.std.specs.List.{list_any}
 use Rattle.std.specs.Option.{option_or}

@@ -1,8 +1,8 @@
 -- The turns of a walk over siblings that gathers the events of a counter: one after the other, up to the first that lacks it.
-use Rattle.std.proofs.Common.{◌≡◌, ◌<◌, ◌+◌, ◌++◌, ◌∷◌, ℕ, Bool, true, false, not, cond, List, [], Option, Some, None, refl, sym, ap, subst, ◌∙◌, arith, append_assoc, append-nil}
+use Rattle.std.proofs.Common.{◌≡◌, ◌<◌, ◌++◌, ℕ, Bool, true, false, not, cond, List, [], Option, Some, None, refl, sym, ap, subst, ◌∙◌, arith, append_assoc}
 use Rattle.std.specs.Prelude.{is_some}
 use Rattle.std.specs.Option.{option_map_or}
-use Rattle.forest.specs.Forest.{Forest, Empty, Tree, size}
+use Rattle.forest.specs.Forest.{Forest, Tree, size}
 use Rattle.forest.specs.Keys.{Keyed, HasDistinctKeys}
 use Rattle.forest.specs.Spots.{IsLink, IsLive, after_of, children_of, first_child_of, keyed, label_of, next_sibling_of, on_link}
 use Rattle.forest.proofs.SpotLaws.{live-spot, on_first, on_key, on_next}
@@ -15,7 +15,7 @@ use Rattle.box_eval.specs.Starts.{events_of}
 use Rattle.scope_reading.specs.ScopeChanges.{has_it}
 use Rattle.scope_deeds.specs.Counting.{Counting}
 use Rattle.scope_deeds.specs.KeptScopes.{kept_after, kept_before, kept_changes, kept_own, kept_row}
-use Rattle.counter_index.specs.Rows.{boxed_changes, lacks_it, tree_changes}
+use Rattle.counter_index.specs.Rows.{boxed_changes, lacks_it}
 use Rattle.counter_index.proofs.EventTurns.{events-append}
 
 module _ (creator : BoxId) (name : List ℕ) where

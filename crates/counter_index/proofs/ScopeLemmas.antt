@@ -1,11 +1,11 @@
 -- The scope of a counter, read from where its creator's element stands.
-use Rattle.std.proofs.Common.{◌≡◌, ◌==◌, ◌<◌, ◌≤◌, ◌+◌, ◌++◌, ◌∷◌, ◌||◌, ℕ, Bool, true, false, cond, List, [], Option, Some, None, inl, inr, refl, sym, ap, ◌∙◌, arith, append_assoc, append-nil, eqb-true}
+use Rattle.std.proofs.Common.{◌≡◌, ◌==◌, ◌<◌, ◌+◌, ◌++◌, ◌∷◌, ◌||◌, ℕ, Bool, true, false, cond, List, [], Option, Some, None, inl, inr, refl, sym, ap, ◌∙◌, arith, append-nil, eqb-true}
 use Rattle.std.specs.Option.{option_map_or}
 use Rattle.std.proofs.lemmas.Option.{none-some, same_Some}
 use Rattle.forest.specs.Forest.{Forest, Empty, Tree}
 use Rattle.forest.specs.Keys.{Keyed, HasDistinctKeys, times}
-use Rattle.forest.specs.Spots.{IsLive, Spot, after_of, children_of, parent_of, root_keys, spot, spot_of}
-use Rattle.forest.proofs.SpotLaws.{below-or-after, chosen, distinct-parts, first_found, live-spot, spot-counted, the_spot}
+use Rattle.forest.specs.Spots.{IsLive, Spot, after_of, children_of, parent_of, root_keys, spot}
+use Rattle.forest.proofs.SpotLaws.{below-or-after, chosen, distinct-parts, first_found, live-spot, spot-counted}
 use Rattle.plain_types.specs.declared.box_id.BoxId.{BoxId}
 use Rattle.box_eval.specs.declared.change.Change.{Change}
 use Rattle.edit_work.specs.KeyedSources.{is_among}

@@ -2,7 +2,6 @@
 use Rattle.std.proofs.Common.{◌≡◌, ◌==◌, ◌≤◌, ◌++◌, ◌∷◌, ◌&&◌, ◌||◌, ◌⊎◌, ℕ, Bool, true, false, not, cond, List, [], map, Option, Some, None, refl, sym, ap, ap₂, ◌∙◌, inl, inr, arith}
 use Rattle.std.specs.Prelude.{Contains, is_some, option_map}
 use Rattle.std.specs.List.{list_any}
-use Rattle.std.specs.Option.{option_or}
 use Rattle.std.proofs.lemmas.Bool.{cases_Bool}
 use Rattle.std.proofs.lemmas.List.{map-append}
 use Rattle.std.proofs.lemmas.List.Elements.{All-contains, All-contains_itself, All-weaker}
@@ -20,7 +19,7 @@ use Rattle.box_eval.specs.Elements.{Handed, by_parent}
 use Rattle.box_eval.specs.Evaluation.{Element, StyledNode, Text, changes_in, first_changes, is_boxed, style_within, styled_node, styled_trees}
 use Rattle.box_eval.specs.Starts.{no_starts}
 use Rattle.generated_texts.proofs.EntryKeys.{has_element, named-element}
-use Rattle.merged_walk.specs.Entries.{AgreeByKeys, Holds, first_at, last_at, put_over}
+use Rattle.merged_walk.specs.Entries.{AgreeByKeys, Holds, first_at}
 use Rattle.merged_walk.specs.Evaluators.{past_all, told, told_all}
 use Rattle.merged_walk.proofs.LawLemmas.{changes_are_enough}
 use Rattle.surroundings.specs.declared.surroundings.Surroundings.{Surroundings}
@@ -29,15 +28,12 @@ use Rattle.surroundings.specs.StyledEvaluators.{inside_node, is_element, kept_of
 use Rattle.surroundings.specs.Surroundings.{handed_by}
 use Rattle.document_walk.specs.TreeChanges.{changes_after_children, changes_before_children}
 use Rattle.document_walk.proofs.StyledKeys.{styled_distinct}
-use Rattle.edit_work.specs.KeyedSources.{is_among}
 use Rattle.scope_deeds.specs.Counting.{own_set}
 use Rattle.counter_index.specs.declared.deeds.CounterDeeds.{CounterDeeds}
-use Rattle.counter_index.specs.declared.index.CounterIndex.{CounterIndex}
-use Rattle.counter_index.specs.Documents.{KeepsDeeds, counter_deeds_in, counter_deeds_of}
-use Rattle.counter_index.specs.Exchanges.{after_exchange}
+use Rattle.counter_index.specs.Documents.{counter_deeds_in, counter_deeds_of}
 use Rattle.counter_index.specs.Indexes.{deeds_at}
 use Rattle.counter_index.specs.Laws.{CaughtIsPutOver, DeedsAreTold, ExchangesKeepDeeds, IndexKeepsWhatIsTold, NewIndexesKeepDeeds}
-use Rattle.counter_index.specs.Told.{TellsWithoutStarts, all_deeds_told, deeds_told, told_exchange, told_without_starts}
+use Rattle.counter_index.specs.Told.{all_deeds_told, deeds_told, told_without_starts}
 use Rattle.counter_index.proofs.ListLemmas.{first-has, first-mapped, once-held, over-mapped, times-append, times_in}
 use Rattle.counter_index.proofs.PutLemmas.{exchanges_are_put_over}
 

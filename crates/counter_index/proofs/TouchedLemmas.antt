@@ -1,10 +1,9 @@
 -- What is found by looking at the elements that were exchanged is enough.
-use Rattle.std.proofs.Common.{◌≡◌, ◌==◌, ◌<◌, ◌+◌, ◌++◌, ◌∷◌, ◌&&◌, ◌||◌, ◌⊎◌, ℕ, Bool, true, false, All, List, [], Option, Some, None, ℤ, cond, length, inl, inr, refl, sym, ap, subst, ◌∙◌, arith, eqb-true, eq-eqb}
-use Rattle.std.specs.Prelude.{flat_map, map, option_map, unwrap_or}
-use Rattle.std.specs.Cmp.Lexicographic.{pointwise}
-use Rattle.std.specs.List.{list_all, list_any, zip}
+use Rattle.std.proofs.Common.{◌≡◌, ◌==◌, ◌++◌, ◌∷◌, ◌&&◌, ◌||◌, ◌⊎◌, ℕ, Bool, true, false, All, List, [], Option, Some, None, ℤ, cond, length, inl, inr, refl, sym, ap, ◌∙◌, arith, eqb-true, eq-eqb}
+use Rattle.std.specs.Prelude.{flat_map, option_map, unwrap_or}
+use Rattle.std.specs.List.{list_all, zip}
 use Rattle.std.specs.Bool.{Decides}
-use Rattle.std.specs.Option.{option_eq, option_map_or}
+use Rattle.std.specs.Option.{option_eq}
 use Rattle.std.specs.Ordering.{int_eq}
 use Rattle.std.specs.Str.{bytes_eq}
 use Rattle.std.proofs.lemmas.Bool.{and_parts, cases_Bool}
@@ -13,7 +12,6 @@ use Rattle.std.proofs.lemmas.List.Elements.{All-cons, All-nil, All-weaker}
 use Rattle.std.proofs.lemmas.List.Folds.{list_any-append}
 use Rattle.std.proofs.lemmas.Option.{same_Some}
 use Rattle.std.proofs.lemmas.Slice.Eq.{bytes_eq-Decides, slice_eq-Decides}
-use Rattle.plain_types.specs.declared.box_id.BoxId.{BoxId}
 use Rattle.counter_sets.specs.Sets.{is_same_box}
 use Rattle.reversed_start.specs.declared.event.Event.{Event}
 use Rattle.box_eval.specs.declared.change.Change.{Change}
@@ -26,9 +24,8 @@ use Rattle.edit_work.specs.KeyedSources.{is_among}
 use Rattle.start_reach.specs.Deeds.{AreAlike, IsIdle, events_after, events_before}
 use Rattle.counter_index.specs.declared.deeds.CounterDeeds.{CounterDeeds}
 use Rattle.counter_index.specs.declared.index.CounterIndex.{CounterIndex}
-use Rattle.counter_index.specs.Exchanges.{restored}
 use Rattle.counter_index.specs.Indexes.{asked_at, asked_by, deeds_at, is_asked}
-use Rattle.counter_index.specs.Touched.{AreTouched, IsUntouched, are_same_starts, asking, asking_other, by_exchanged, by_moved, changes_after, changes_before, deeds_by, did, do_same, does, is_alike, is_same_start, touched_by, touched_in, touched_keys, was_kept}
+use Rattle.counter_index.specs.Touched.{AreTouched, IsUntouched, are_same_starts, asking, asking_other, by_exchanged, by_moved, changes_after, changes_before, deeds_by, did, do_same, does, is_alike, is_same_start, touched_by, touched_in, touched_keys}
 use Rattle.counter_index.proofs.ListLemmas.{first-has}
 
 -- Membership.

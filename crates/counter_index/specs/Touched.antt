@@ -6,7 +6,6 @@ use Rattle.std.specs.Ordering.{int_eq}
 use Rattle.std.specs.Str.{bytes_eq}
 use Rattle.plain_types.specs.declared.box_id.BoxId.{BoxId}
 use Rattle.counter_sets.specs.Sets.{is_same_box}
-use Rattle.reversed_start.specs.declared.event.Event.{Event}
 use Rattle.box_eval.specs.declared.change.Change.{Change}
 use Rattle.box_eval.specs.declared.inputs.Start.{Start}
 use Rattle.box_eval.specs.Starts.{events_of}
