@@ -1,0 +1,3 @@
+pub mod Countings
+pub mod Exchanges
+pub mod Walks
