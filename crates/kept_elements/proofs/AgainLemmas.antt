@@ -1,5 +1,5 @@
 -- What is told again of elements, looked up by key.
-use Rattle.std.proofs.Common.{◌≡◌, ◌==◌, ◌≤◌, ◌+◌, ◌++◌, ◌||◌, ◌∙◌, ℕ, nat_eq, Bool, true, false, cond, List, [], ◌∷◌, length, Option, Some, None, arith, flat_map, refl, sym, ap, ap₂, eqb-true, inl, inr}
+use Rattle.std.proofs.Common.{◌≡◌, ◌==◌, ◌≤◌, ◌+◌, ◌++◌, ◌||◌, ◌∙◌, ℕ, nat_eq, Bool, true, false, cond, List, [], ◌∷◌, length, Option, Some, None, arith, flat_map, refl, sym, ap, ap₂, eqb-true, inl, inr, if◌then◌else◌}
 use Rattle.std.specs.Prelude.{option_map}
 use Rattle.std.specs.FinMap.{FinMap, get}
 use Rattle.std.specs.List.{AllByRecursion, IsDistinct}
@@ -19,7 +19,7 @@ use Rattle.surroundings.specs.declared.told.Told.{Told}
 use Rattle.kept_elements.specs.declared.kept.Kept.{Kept}
 use Rattle.kept_elements.specs.Evaluations.{kept_of}
 use Rattle.kept_elements.specs.Known.{flat_texts_of}
-use Rattle.kept_elements.specs.Machinery.Renewals.{again, told_again}
+use Rattle.kept_elements.specs.Machinery.Renewals.{AreRead, again, told_again}
 use Rattle.kept_elements.proofs.ChangeLemmas.{has_key, kept-first}
 
 -- Lists.
@@ -143,6 +143,10 @@ module _ (held : FinMap nat_cmp Kept) where
       kept-append (again held k) (flat_map (again held) keys) key
       ∙ ap₂ (λ a b. option_or a b) (again-own k key) (all-again keys key)
       ∙ join (k == key) (is_among keys key) (own key)
+
+-- What was read of an element is what is held of it.
+pub read_there : (keys : List ℕ) (read : ℕ → Option Kept) (held : FinMap nat_cmp Kept) → AreRead keys read held → (key : ℕ) → is_among keys key ≡ true → read key ≡ get held key
+read_there keys read held are key there = are key ∙ ap (λ (b : Bool). if b then get held key else None) there
 
 -- Elements of which the same is told, as far as what is kept of them and of those that refer to them rests on it.
 

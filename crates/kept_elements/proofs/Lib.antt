@@ -11,12 +11,15 @@ pub mod NamedKeys
 pub mod NewsLemmas
 pub mod NoReferences
 pub mod PaidLemmas
+pub mod PassedLemmas
 pub mod RecordLemmas
 pub mod RenewalLemmas
 pub mod RenewedLemmas
 pub mod RenewedLoops
 pub mod SaidLemmas
 pub mod ToldLemmas
+pub mod StayingElements
 pub mod StepLemmas
 pub mod StopLemmas
+pub mod StoppedLemmas
 pub mod WalkedLemmas

@@ -41,7 +41,7 @@ same_news entered others held same told =
     same_filter (is_news entered held) (is_news others held) (λ (x : ℕ × Told). ap (λ b. b || not (is_handed_as_held held x.0 x.1.walked)) (same x.0)) told
 
 -- what passes a test is kept
-kept : {X : Type 0} (p : X → Bool) (xs : List X) → All (λ x. p x ≡ true → Contains (filter p xs) x) xs
+pub kept : {X : Type 0} (p : X → Bool) (xs : List X) → All (λ x. p x ≡ true → Contains (filter p xs) x) xs
 kept {X} p [] = All-nil (λ (x : X). p x ≡ true → Contains [] x)
 kept {X} p (x ∷ xs) =
     All-cons (λ (y : X). p y ≡ true → Contains (filter p (x ∷ xs)) y) x xs (λ is. own (p x) is)

@@ -37,11 +37,11 @@ use Rattle.kept_elements.proofs.ToldLemmas.{said_is}
 
 -- The elements of trees stand there once.
 
-apart_all : (k : ℕ) (ks : List ℕ) → is_among ks k ≡ false → AllByRecursion (λ y. nat_eq k y ≡ false) ks
+pub apart_all : (k : ℕ) (ks : List ℕ) → is_among ks k ≡ false → AllByRecursion (λ y. nat_eq k y ≡ false) ks
 apart_all k [] apart = tt
 apart_all k (y ∷ ks) apart = let parts = or_parts (y == k) (is_among ks k) apart in (nat_eq_equiv.symm k y ∙ parts.0, apart_all k ks parts.1)
 
-none_once : IsDistinct nat_eq []
+pub none_once : IsDistinct nat_eq []
 unfolding IsDistinct
 none_once = tt
 
@@ -108,6 +108,15 @@ module _ (test : ℕ → Bool) where
       weigh_less w (filter test (elements_in trees)) points
       (subst (λ (ks : List ℕ). IsDistinct nat_eq (filter test ks)) (sym (elements_labels trees)) (once (labels trees) (λ k. omega (arith, times-often k trees, distinct k))))
       (λ k among. there k (passes (elements_in trees) k among))
+
+all_pass : (ks : List ℕ) → filter (λ (k : ℕ). true) ks ≡ ks
+all_pass [] = refl
+all_pass (k ∷ ks) = ap (λ rest. k ∷ rest) (all_pass ks)
+
+pub elements_once : (trees : Forest (Keyed Node)) → HasDistinctKeys trees → IsDistinct nat_eq (elements_in trees)
+elements_once trees distinct =
+    subst (λ (ks : List ℕ). IsDistinct nat_eq ks) (all_pass (flat_map element_key (labels trees)) ∙ sym (elements_labels trees))
+    (once (λ (k : ℕ). true) (labels trees) (λ k. omega (arith, times-often k trees, distinct k)))
 
 work_is : (edit : Edit) (before after : KeyedSource) → let w = weight before after in work edit before after ≡ sum_by w (other_points edit before after) + sum_by w (referring edit before after)
 unfolding work walk_work

@@ -46,7 +46,7 @@ use Rattle.kept_elements.specs.Changes.{AreChanges, Renews, puts_of}
 use Rattle.kept_elements.specs.Evaluations.{all_kept_of, kept_of, said_of}
 use Rattle.kept_elements.specs.Known.{all_flat_texts_of, flat_in, flat_text_of, flat_texts_of}
 use Rattle.kept_elements.specs.Renewals.{TellsOfEdit, is_told}
-use Rattle.kept_elements.specs.Machinery.Renewals.{again, held_of, its_counters, its_flat, kept_flat, known_again, known_below, names, renewed_kept, some_names, told_again, with_again}
+use Rattle.kept_elements.specs.Machinery.Renewals.{again, its_counters, its_flat, kept_flat, known_again, known_below, names, renewed_kept, some_names, told_again, with_again}
 use Rattle.kept_elements.proofs.AgainLemmas.{Tells, again_tells, all-again, kept-append, no_more_keys, own, tells_itself, told_counters}
 use Rattle.kept_elements.proofs.ChangeLemmas.{HasKeysOnce, some-kept, some_of}
 use Rattle.kept_elements.proofs.HolderNames.{holder_named}
@@ -393,15 +393,15 @@ module _ (table : List CounterStyle) (merge : Merge Node) (old new : Forest (Key
 
   -- What is known of the targets.
 
-  module _ (targets : List ℕ) (targets_are : (key : ℕ) → is_among targets key ≡ some_names new all key) where
+  module _ (read : ℕ → Option Kept) (read_are : (key : ℕ) → some_names new all key ≡ true → read key ≡ get held key) where
     abbrev below_known : Known
-    below_known = known_below new table held some all targets
+    below_known = known_below new table some all read
 
     abbrev again_known : Known
-    again_known = known_again new table held some all targets
+    again_known = known_again new table some all read
 
     abbrev Reached : List ℕ → Type 0
-    Reached id = (k : ℕ) → first_holder new id ≡ Some k → is_among targets k ≡ true
+    Reached id = (k : ℕ) → first_holder new id ≡ Some k → read k ≡ get held k
 
     same_key : (k : ℕ) → nat_eq k k ≡ true
     same_key k = grind arith
@@ -409,7 +409,7 @@ module _ (table : List CounterStyle) (merge : Merge Node) (old new : Forest (Key
     named_so : (k : ℕ) (id : List ℕ) → first_holder new id ≡ Some k → is_named new k id ≡ true
     named_so k id e = ap (λ (o : Option ℕ). option_eq nat_eq o (Some k)) e ∙ same_key k
 
-    each_reached : (ids : List (List ℕ)) → ((k : ℕ) → list_any (is_named new k) ids ≡ true → is_among targets k ≡ true) → AllByRecursion Reached ids
+    each_reached : (ids : List (List ℕ)) → ((k : ℕ) → list_any (is_named new k) ids ≡ true → read k ≡ get held k) → AllByRecursion Reached ids
     each_reached [] seen = tt
     each_reached (id ∷ ids) seen = (
       λ k e. seen k (ap (λ b. b || list_any (is_named new k) ids) (named_so k id e)),
@@ -423,35 +423,35 @@ module _ (table : List CounterStyle) (merge : Merge Node) (old new : Forest (Key
     reached : (key : ℕ) (a t : Told) → kept_at all key ≡ Some a → Tells table a t → AllByRecursion Reached (references_of t.said)
     reached key a t e tells =
         subst (AllByRecursion Reached) tells.references
-        (each_reached (references_of a.said) (λ k does. targets_are k ∙ any_at (names new k) all key a e does))
+        (each_reached (references_of a.said) (λ k does. read_are k (any_at (names new k) all key a e does)))
 
     holder : (id : List ℕ) (k : ℕ) → first_holder new id ≡ Some k → (t : Told) × (kept_at is k ≡ Some t)
     holder id k e = some_of (kept_at is k) (r.walk.named k ∙ holder_named id new k r.walk.distinct_after e)
 
-    held_there : (k : ℕ) (t : Told) → is_among targets k ≡ true → kept_at was k ≡ Some t → held_of targets held k ≡ Some (kept_of table known_before t)
-    held_there k t does e = ap (λ (b : Bool). if b then get held k else None) does ∙ holding k t e
+    held_there : (k : ℕ) (t : Told) → read k ≡ get held k → kept_at was k ≡ Some t → read k ≡ Some (kept_of table known_before t)
+    held_there k t does e = does ∙ holding k t e
 
-    its : (k : ℕ) (t : Told) → kept_at is k ≡ Some t → is_among targets k ≡ true → its_counters (kept_at all k) (held_of targets held k) ≡ told_counters t
+    its : (k : ℕ) (t : Told) → kept_at is k ≡ Some t → read k ≡ get held k → its_counters (kept_at all k) (read k) ≡ told_counters t
     its k t there does = by (kept_at all k) refl
       where
-        by : (o : Option Told) → kept_at all k ≡ o → its_counters (kept_at all k) (held_of targets held k) ≡ told_counters t
-        by (Some a) e = ap (λ (o : Option Told). its_counters o (held_of targets held k)) e ∙ (all_tells k t there a e).counters
+        by : (o : Option Told) → kept_at all k ≡ o → its_counters (kept_at all k) (read k) ≡ told_counters t
+        by (Some a) e = ap (λ (o : Option Told). its_counters o (read k)) e ∙ (all_tells k t there a e).counters
         by None e =
             ap₂ its_counters e (held_there k t does (was_there k t there (missing_caught k t there (missing_some k t there e))))
 
-    counters_agree : (id : List ℕ) → Reached id → option_and_then (λ key. its_counters (kept_at all key) (held_of targets held key)) (first_holder new id) ≡ known_after.counters id
+    counters_agree : (id : List ℕ) → Reached id → option_and_then (λ key. its_counters (kept_at all key) (read key)) (first_holder new id) ≡ known_after.counters id
     counters_agree id reach = by (first_holder new id) refl
       where
         abbrev_counters : ElementRecord → Option (List Counter)
         abbrev_counters element = cond element.has_box (Some element.own) None
 
-        by : (o : Option ℕ) → first_holder new id ≡ o → option_and_then (λ key. its_counters (kept_at all key) (held_of targets held key)) (first_holder new id) ≡ known_after.counters id
+        by : (o : Option ℕ) → first_holder new id ≡ o → option_and_then (λ key. its_counters (kept_at all key) (read key)) (first_holder new id) ≡ known_after.counters id
         by None e =
-            ap (option_and_then (λ key. its_counters (kept_at all key) (held_of targets held key))) e
+            ap (option_and_then (λ key. its_counters (kept_at all key) (read key))) e
             ∙ sym (ap (λ (o : Option ℕ). option_and_then abbrev_counters (option_and_then (kept_at (said_of is)) o)) e)
         by (Some k) e =
             let t = holder id k e in
-            ap (option_and_then (λ key. its_counters (kept_at all key) (held_of targets held key))) e
+            ap (option_and_then (λ key. its_counters (kept_at all key) (read key))) e
             ∙ its k t.0 t.1 (reach k e)
             ∙ sym (ap (λ (o : Option ℕ). option_and_then abbrev_counters (option_and_then (kept_at (said_of is)) o)) e
             ∙ ap (option_and_then abbrev_counters) (kept_mapped said_in is k ∙ ap (option_map said_in) t.1))
@@ -463,15 +463,15 @@ module _ (table : List CounterStyle) (merge : Merge Node) (old new : Forest (Key
     flat_lookup k = kept_mapped (λ (t : Told). flat_texts_of table below_known t.said) some k
 
     -- the flat text of a target's box
-    target_flat : (k : ℕ) (t : Told) (part : Part) → kept_at is k ≡ Some t → is_among targets k ≡ true
-        → its_flat (kept_at (all_flat_texts_of table below_known some) k) (held_of targets held k) part ≡ option_map (flat_text_of table flat_after) (asked_box t.said part)
+    target_flat : (k : ℕ) (t : Told) (part : Part) → kept_at is k ≡ Some t → read k ≡ get held k
+        → its_flat (kept_at (all_flat_texts_of table below_known some) k) (read k) part ≡ option_map (flat_text_of table flat_after) (asked_box t.said part)
     target_flat k t part there does = by (kept_at some k) refl
       where
-        by : (o : Option Told) → kept_at some k ≡ o → its_flat (kept_at (all_flat_texts_of table below_known some) k) (held_of targets held k) part ≡ option_map (flat_text_of table flat_after) (asked_box t.said part)
+        by : (o : Option Told) → kept_at some k ≡ o → its_flat (kept_at (all_flat_texts_of table below_known some) k) (read k) part ≡ option_map (flat_text_of table flat_after) (asked_box t.said part)
         by (Some a) e =
             let tells = some_tells k t there a e in
             let in_all : kept_at all k ≡ Some a = all_at k ∙ ap (λ o. option_or o (cond (is_among second k) (own held k) None)) e in
-            ap (λ (o : Option FlatTexts). its_flat o (held_of targets held k) part) (flat_lookup k ∙ ap (option_map (λ (t : Told). flat_texts_of table below_known t.said)) e)
+            ap (λ (o : Option FlatTexts). its_flat o (read k) part) (flat_lookup k ∙ ap (option_map (λ (t : Told). flat_texts_of table below_known t.said)) e)
             ∙ ap (λ (texts : FlatTexts). flat_in texts part) (tells.flats below_known)
             ∙ asked_flat table below_known t.said part
             ∙ box_flat table below_known flat_after (asked_box t.said part)
@@ -500,11 +500,11 @@ module _ (table : List CounterStyle) (merge : Merge Node) (old new : Forest (Key
 
         by : (o : Option ℕ) → first_holder new id ≡ o → again_known.flat id part ≡ known_after.flat id part
         by None e =
-            ap (option_and_then (λ key. its_flat (kept_at (all_flat_texts_of table below_known some) key) (held_of targets held key) part)) e
+            ap (option_and_then (λ key. its_flat (kept_at (all_flat_texts_of table below_known some) key) (read key) part)) e
             ∙ sym (ap (λ (o : Option ℕ). made_flat (option_and_then (kept_at (said_of is)) o)) e)
         by (Some k) e =
             let t = holder id k e in
-            ap (option_and_then (λ key. its_flat (kept_at (all_flat_texts_of table below_known some) key) (held_of targets held key) part)) e
+            ap (option_and_then (λ key. its_flat (kept_at (all_flat_texts_of table below_known some) key) (read key) part)) e
             ∙ target_flat k t.0 part t.1 (reach k e)
             ∙ sym (ap (λ (o : Option ℕ). made_flat (option_and_then (kept_at (said_of is)) o)) e
             ∙ ap made_flat (kept_mapped said_in is k ∙ ap (option_map said_in) t.1))

@@ -1,7 +1,7 @@
 //! What is told again of elements, from what is kept of them.
 
-ghost use Rattle.std.specs.Prelude.{◌≡◌, ◌≤◌, ◌+◌, ◌++◌, flat_map, length, IfOk, OnOk, option_map};
-ghost use Rattle.kept_elements.specs.Machinery.Renewals.{again, box_again, told_again};
+ghost use Rattle.std.specs.Prelude.{◌≡◌, ◌++◌, ℕ, flat_map, take, IfOk, OnErr, OnOk, option_map};
+ghost use Rattle.kept_elements.specs.Machinery.Renewals.{again_by, box_again, read_in, told_again};
 
 use crate::kept::Kept;
 use box_eval::element_record::ElementRecord;
@@ -12,10 +12,8 @@ use counter_sets::counter_set::CounterSet;
 use plain_types::duplicate::Duplicate;
 use plain_types::list::List;
 use plain_types::memory::Memory;
-use snapshot_board::board::Board;
 use std::alloc::Global;
-use std::sync::ledger::Ledger;
-use steps::Steps;
+use std::collections::HashMap;
 use surroundings::told::Told;
 
 /// A box of these pieces, of whose counters nothing is said.
@@ -55,18 +53,17 @@ fn told_again(alloc: Global, kept: &Kept, pieces: &BoxPieces) -> Result<Told, Me
     })
 }
 
-/// Appends what is told again of an element, where its pieces are kept. It is a step.
-fn put_again<L: Ledger>(
+/// Appends what is told again of an element, where its pieces are kept.
+fn put_again(
     alloc: Global,
-    board: &Board<Kept>,
+    held: &HashMap<usize, &Kept>,
     key: usize,
     records: &mut List<(usize, Told)>,
-    steps: &mut Steps<L>,
 ) -> Result<(), Memory>
-    ensures ok { OnOk result (records.new ≡ records.old ++ again board.now.held key) }
-    ensures step { steps.new ≡ steps.old + 1 }
+    ensures ok { OnOk result (records.new ≡ records.old ++ again_by (read_in held.now) key) }
+    ensures err { OnErr result (records.new ≡ records.old) }
 {
-    let Some(kept) = board.get(key, steps) else {
+    let Some(kept) = held.get(&key) else {
         return Ok(());
     };
     match &kept.pieces {
@@ -75,19 +72,18 @@ fn put_again<L: Ledger>(
     }
 }
 
-/// Appends what is told again of these elements, of those whose pieces are kept. It is a step for each.
-pub fn put_all_again<L: Ledger>(
+/// Appends what is told again of these elements, of those whose pieces are kept.
+pub fn put_all_again(
     alloc: Global,
-    board: &Board<Kept>,
+    held: &HashMap<usize, &Kept>,
     keys: &[usize],
     records: &mut List<(usize, Told)>,
-    steps: &mut Steps<L>,
 ) -> Result<(), Memory>
-    ensures ok { OnOk result (records.new ≡ records.old ++ flat_map (again board.now.held) keys.now) }
-    ensures steps { steps.new ≤ steps.old + length keys.now }
+    ensures ok { OnOk result (records.new ≡ records.old ++ flat_map (again_by (read_in held.now)) keys.now) }
+    ensures err { OnErr result ((count : ℕ) × records.new ≡ records.old ++ flat_map (again_by (read_in held.now)) (take count keys.now)) }
 {
     for key in keys {
-        put_again(alloc, board, *key, records, steps)?;
+        put_again(alloc, held, *key, records)?;
     }
     Ok(())
 }

@@ -11,8 +11,10 @@
 //! other target are read there.
 //!
 //! Of what the walk told, that is enough which can be told otherwise than before ([`news::news_of`]): an element that the walk had
-//! no need to evaluate anew is left out. The steps of `walked_entries` are within the weights of the elements that were told and of
-//! those that refer to what the edit touches (`renewal_weight` of `specs/RenewalSteps.antt`).
+//! no need to evaluate anew is left out. No board is asked for an element that the walk's merge enters, as for each that was not there
+//! before (`PassedElementsStay` of `specs/News.antt`). The steps of `walked_entries` are within the weights of the elements that were
+//! told and of those that refer to what the edit touches (`renewal_weight` of `specs/RenewalSteps.antt`), and no more than two an
+//! element: one to read it, whether it refers or is referred to, and one to compare what comes with what is held.
 //!
 //! What comes to a board of an element tells, too, whether a box of the element shows another text than by what the board has
 //! ([`kept_change::KeptChange`]): it is compared with that anyway. So who tells the lines that an edit changes need look at no
@@ -33,6 +35,7 @@ mod again;
 pub mod by_key;
 pub mod characters;
 pub mod flat_texts;
+mod held_elements;
 pub mod kept;
 pub mod kept_change;
 pub mod laws;

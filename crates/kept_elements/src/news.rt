@@ -1,10 +1,11 @@
 //! What a walk tells otherwise than before.
 
-ghost use Rattle.std.specs.Prelude.{◌≡◌, ◌≤◌, ◌+◌, All, IfOk, filter, length};
+ghost use Rattle.std.specs.Prelude.{◌≡◌, ◌≤◌, ◌+◌, if◌then◌else◌, All, IfOk, filter, length};
 ghost use Rattle.forest.specs.Spots.{IsLink};
+ghost use Rattle.edit_work.specs.KeyedSources.{is_among};
 ghost use Rattle.merged_walk.specs.declared.stop.Stop.{Stop};
 ghost use Rattle.reference_reach.specs.MergedNodes.{elements_at_stops};
-ghost use Rattle.kept_elements.specs.News.{AreNewsOf, is_handed_as_held, is_news};
+ghost use Rattle.kept_elements.specs.News.{AreNewsOf, is_handed_as_held, is_news, passed_among};
 
 use crate::kept::Kept;
 use box_eval::element_record::ElementRecord;
@@ -97,7 +98,8 @@ fn is_handed_as_held<L: Ledger>(
     }
 }
 
-/// Whether an element is one of those that a merge enters, or is handed something else than is held of it. It is a step.
+/// Whether an element is one of those that a merge enters, or is handed something else than is held of it. It is a step, and none
+/// for one that the merge enters.
 fn is_news<L: Ledger>(
     entered: &Elements,
     board: &Board<Kept>,
@@ -106,12 +108,12 @@ fn is_news<L: Ledger>(
     steps: &mut Steps<L>,
 ) -> bool
     ensures test { result ≡ is_news entered.now board.now.held (key, told.now) }
-    ensures step { steps.new ≤ steps.old + 1 }
+    ensures step { steps.new ≡ steps.old + (if is_among entered.now key then 0 else 1) }
 {
     entered.has(key) || !is_handed_as_held(board, key, &told.walked, steps)
 }
 
-/// Of what was told those that are news. It is a step for each.
+/// Of what was told those that are news. It is a step for each that the merge does not enter.
 fn news_among<L: Ledger>(
     alloc: Global,
     entered: &Elements,
@@ -120,7 +122,7 @@ fn news_among<L: Ledger>(
     steps: &mut Steps<L>,
 ) -> Result<List<(usize, Told)>, Memory>
     ensures news { IfOk result (λ news. news ≡ filter (is_news entered.now board.now.held) told.now) }
-    ensures steps { steps.new ≤ steps.old + length told.now }
+    ensures steps { steps.new ≤ steps.old + length (passed_among entered.now told.now) }
 {
     let mut news = List::new(alloc);
     for (key, one) in told {
@@ -134,8 +136,9 @@ fn news_among<L: Ledger>(
 /// Of what a walk from these stops has told of the elements of an edited document: that of those which the merge enters, and of
 /// those that are handed something else than a board holds of them, or hand on something else. All others are told as before.
 ///
-/// It is a step for each element that was told. It takes memory of the size of the news, and time linear in what was told, in the
-/// stops, and in the nodes of the trees that are new.
+/// It is a step for each element that was told and that the merge does not enter: what the edit put in was not there before, and no
+/// board is asked for it. It takes memory of the size of the news, and time linear in what was told, in the stops, and in the nodes
+/// of the trees that are new.
 pub fn news_of<L: Ledger>(
     alloc: Global,
     arena: &Arena,
@@ -148,6 +151,7 @@ pub fn news_of<L: Ledger>(
     ensures found { IfOk result (λ news. news ≡ filter (is_news (elements_at_stops arena.now.tree stops.now) board.now.held) told.now) }
     ensures news { IfOk result (λ news. AreNewsOf stops.now arena.now.tree told.now board.now.held news) }
     ensures steps { steps.new ≤ steps.old + length told.now }
+    ensures passed { steps.new ≤ steps.old + length (passed_among (elements_at_stops arena.now.tree stops.now) told.now) }
 {
     let none: List<usize> = List::new(alloc);
     let entered = changed_elements(alloc, arena, stops, none.as_slice())?;

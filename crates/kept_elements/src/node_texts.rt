@@ -1,6 +1,6 @@
 //! What is kept of elements, from what their evaluation tells.
 
-ghost use Rattle.std.specs.Prelude.{◌≡◌, ◌↔◌, ◌+◌, ◌≤◌, ◌++◌, ◌∷◌, [], length, IfNone, IfOk, IfSome, IsTrue, OnOk, Some, option_copied, option_map};
+ghost use Rattle.std.specs.Prelude.{◌≡◌, ◌↔◌, ◌+◌, ◌≤◌, ◌++◌, ◌∷◌, ℕ, [], length, take, IfNone, IfOk, IfSome, IsTrue, OnErr, OnOk, Some, option_copied, option_map};
 ghost use Rattle.std.specs.FinMap.{get};
 ghost use Rattle.generated_texts.specs.Entries.{box_text, node_entry};
 ghost use Rattle.snapshot_board.specs.Records.{put_all};
@@ -136,6 +136,7 @@ pub fn put_entries<T: Targets, L: Ledger>(
 ) -> Result<(), Memory>
     requires room { AreBelow board.old.room records.now }
     ensures held { OnOk result (board.new.held ≡ put_all (all_kept_of table.now (T.known targets.now) records.now) board.old.held) }
+    ensures err { OnErr result ((count : ℕ) × board.new.held ≡ put_all (all_kept_of table.now (T.known targets.now) (take count records.now)) board.old.held) }
     ensures room { board.new.room ≡ board.old.room }
     ensures steps { steps.new ≤ steps.old + length records.now }
 {

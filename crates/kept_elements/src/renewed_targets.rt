@@ -1,7 +1,6 @@
 //! What is known of the elements that ids name, where texts are made again.
 
-ghost use Rattle.std.specs.Prelude.{◌≡◌, ◌≤◌, ◌+◌, ◌||◌, false, ℕ, nat_eq, length, IfOk, OnOk, option_copied, option_map};
-ghost use Rattle.std.specs.HashMap.{get};
+ghost use Rattle.std.specs.Prelude.{◌≡◌, ◌||◌, false, ℕ, IfOk, OnOk, option_copied, option_map};
 ghost use Rattle.std.specs.List.{filter_map, list_any};
 ghost use Rattle.std.specs.Option.{option_and_then, option_map_or};
 ghost use Rattle.std.specs.Str.{chars};
@@ -11,7 +10,7 @@ ghost use Rattle.edit_work.specs.KeyedSources.{is_among, references_in, referenc
 ghost use Rattle.generated_texts.specs.References.{first_holder, kept_at};
 ghost use Rattle.referring_elements.specs.Found.{is_named};
 ghost use Rattle.kept_elements.specs.Known.{IsKeptIn, flat_in};
-ghost use Rattle.kept_elements.specs.Machinery.Renewals.{held_of, its_counters, its_flat, kept_flat, some_names};
+ghost use Rattle.kept_elements.specs.Machinery.Renewals.{its_counters, its_flat, kept_flat, some_names};
 
 use crate::characters::characters_under;
 use crate::flat_texts::FlatTexts;
@@ -27,11 +26,8 @@ use plain_types::content::Part;
 use plain_types::memory::Memory;
 use plain_types::text::Text;
 use referring_elements::holder_lookup::HolderLookup;
-use snapshot_board::board::Board;
 use std::alloc::Global;
 use std::collections::HashMap;
-use std::sync::ledger::Ledger;
-use steps::Steps;
 use surroundings::told::Told;
 
 /// The counters of an element's own box, as it is told of, or else by what is held of it.
@@ -114,13 +110,10 @@ pub struct RenewedTargets<'a> {
     /// Their flat texts, as far as they are made again, and the same by key.
     pub listed_flats: &'a [(usize, FlatTexts)],
     pub flats: &'a HashMap<usize, &'a FlatTexts>,
-    /// What a board holds of these elements, by key.
-    pub board: &'a Board<Kept>,
-    pub keys: &'a [usize],
+    /// What is held of elements, by key.
     pub held: &'a HashMap<usize, &'a Kept>,
     ghost kept: { IsKeptIn records.now listed.now },
     ghost kept_flats: { IsKeptIn flats.now listed_flats.now },
-    ghost kept_held: { (key : ℕ) → option_copied (get nat_eq held.now key) ≡ held_of keys.now board.now.held key },
 }
 
 impl<'a> RenewedTargets<'a> {
@@ -135,9 +128,9 @@ impl<'a> RenewedTargets<'a> {
 
 impl<'a> Targets for RenewedTargets<'a> {
     ghost use Rattle.generated_texts.specs.References.{kept_at};
-    ghost use Rattle.kept_elements.specs.Machinery.Renewals.{held_of, renewed_known};
+    ghost use Rattle.kept_elements.specs.Machinery.Renewals.{read_in, renewed_known};
 
-    ghost known = { λ targets. renewed_known targets.lookup.now.arena.now.tree (kept_at targets.listed.now) (kept_at targets.listed_flats.now) (held_of targets.keys.now targets.board.now.held) };
+    ghost known = { λ targets. renewed_known targets.lookup.now.arena.now.tree (kept_at targets.listed.now) (kept_at targets.listed_flats.now) (read_in targets.held.now) };
 
     fn counters(&self, url: &str) -> Option<&CounterSet> {
         let key = self.target(url)?;
@@ -244,23 +237,4 @@ pub fn target_keys(
         add_element(alloc, lookup, &told.said, &mut keys)?;
     }
     Ok(keys)
-}
-
-/// What a board holds of these elements, by key. It is a step for each.
-pub fn held_of<'a, L: Ledger>(
-    alloc: Global,
-    board: &'a Board<Kept>,
-    keys: &[usize],
-    steps: &mut Steps<L>,
-) -> Result<HashMap<usize, &'a Kept>, Memory>
-    ensures held { IfOk result (λ map. (key : ℕ) → option_copied (get nat_eq map key) ≡ held_of keys.now board.now.held key) }
-    ensures steps { steps.new ≤ steps.old + length keys.now }
-{
-    let mut map = HashMap::new(alloc);
-    for key in keys {
-        if let Some(kept) = board.get(*key, steps) {
-            map.insert(*key, kept)?;
-        }
-    }
-    Ok(map)
 }

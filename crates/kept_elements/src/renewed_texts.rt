@@ -2,6 +2,7 @@
 
 ghost use Rattle.std.specs.Prelude.{◌≡◌, ◌≤◌, ◌+◌, ◌*◌, ℕ, nat_eq, true, length, flat_map, IfOk, IsSome, OnOk, option_copied, take};
 ghost use Rattle.std.specs.HashMap.{get};
+ghost use Rattle.std.specs.List.{IsDistinct};
 ghost use Rattle.forest.specs.Keys.{without_keys};
 ghost use Rattle.document_walk.specs.Elements.{element_count};
 ghost use Rattle.node_arena.specs.Nodes.{name_of};
@@ -13,15 +14,16 @@ ghost use Rattle.kept_elements.specs.Evaluations.{all_kept_of, said_of};
 ghost use Rattle.kept_elements.specs.Known.{IsKeptIn, all_flat_texts_of};
 ghost use Rattle.kept_elements.specs.RenewalSteps.{renewal_weight};
 ghost use Rattle.kept_elements.specs.Renewals.{IsSomeEdit, IsSomeWalk, evaluated_as, is_told};
-ghost use Rattle.kept_elements.specs.Machinery.Renewals.{IsRenewal, IsWithinLists, ListsAll, held_of, known_again, renewed_kept, renewed_known};
+ghost use Rattle.kept_elements.specs.Machinery.Renewals.{AreRead, IsRenewal, IsWithinLists, ListsAll, known_again, read_in, renewed_kept, renewed_known};
 
 use crate::again::put_all_again;
 use crate::by_key::by_key;
 use crate::flat_texts::{FlatTexts, all_flat_texts};
+use crate::held_elements::HeldElements;
 use crate::kept::Kept;
 use crate::kept_change::KeptChange;
 use crate::node_texts::{kept_of, push, unless_held};
-use crate::renewed_targets::{RenewedTargets, held_of, target_keys};
+use crate::renewed_targets::{RenewedTargets, target_keys};
 use content_eval::targets::Targets;
 use indexmap::IndexSet;
 use merged_walk::stop::Stop;
@@ -86,13 +88,10 @@ fn flat_texts_again(
     flat: &[(usize, Told)],
     listed: &[(usize, Told)],
     records: &HashMap<usize, &Told>,
-    board: &Board<Kept>,
-    keys: &[usize],
     held: &HashMap<usize, &Kept>,
 ) -> Result<List<(usize, FlatTexts)>, Memory>
     requires kept { IsKeptIn records.now listed.now }
-    requires held { (key : ℕ) → option_copied (get nat_eq held.now key) ≡ held_of keys.now board.now.held key }
-    ensures texts { IfOk result (λ texts. texts ≡ all_flat_texts_of table.now (renewed_known lookup.now.arena.now.tree (kept_at listed.now) (λ _. None) (held_of keys.now board.now.held)) flat.now) }
+    ensures texts { IfOk result (λ texts. texts ≡ all_flat_texts_of table.now (renewed_known lookup.now.arena.now.tree (kept_at listed.now) (λ _. None) (read_in held.now)) flat.now) }
 {
     let none: List<(usize, FlatTexts)> = List::new(alloc);
     let no_flats = by_key(alloc, none.as_slice())?;
@@ -102,8 +101,6 @@ fn flat_texts_again(
         records,
         listed_flats: none.as_slice(),
         flats: &no_flats,
-        board,
-        keys,
         held,
     };
     all_flat_texts(alloc, table, flat, &targets)
@@ -120,13 +117,11 @@ fn changes_again<L: Ledger>(
     records: &HashMap<usize, &Told>,
     flats: &[(usize, FlatTexts)],
     board: &Board<Kept>,
-    keys: &[usize],
     held: &HashMap<usize, &Kept>,
     steps: &mut Steps<L>,
 ) -> Result<Vec<(usize, KeptChange)>, Memory>
     requires kept { IsKeptIn records.now listed.now }
-    requires held { (key : ℕ) → option_copied (get nat_eq held.now key) ≡ held_of keys.now board.now.held key }
-    ensures changes { IfOk result (λ changes. AreChanges board.now.held (renewed_kept table.now (renewed_known lookup.now.arena.now.tree (kept_at listed.now) (kept_at flats.now) (held_of keys.now board.now.held)) (λ key. option_copied (get nat_eq records.now key)) told.now) changes.items) }
+    ensures changes { IfOk result (λ changes. AreChanges board.now.held (renewed_kept table.now (renewed_known lookup.now.arena.now.tree (kept_at listed.now) (kept_at flats.now) (read_in held.now)) (λ key. option_copied (get nat_eq records.now key)) told.now) changes.items) }
     ensures steps { steps.new ≤ steps.old + length told.now }
 {
     let flats_by_key = by_key(alloc, flats)?;
@@ -136,15 +131,13 @@ fn changes_again<L: Ledger>(
         records,
         listed_flats: flats,
         flats: &flats_by_key,
-        board,
-        keys,
         held,
     };
     changes_of(alloc, table, told, records, &targets, board, steps)
 }
 
-/// What comes to a board of the elements of which this is told, where these are the others to which they refer, and the first
-/// so many have flat texts that are made again. It is a step for each of both.
+/// What comes to a board of the elements of which this is told, where this was read of those to which they refer, and the first
+/// so many have flat texts that are made again. It is a step for each.
 fn changes_to<L: Ledger>(
     alloc: Global,
     lookup: &HolderLookup<'_>,
@@ -153,15 +146,14 @@ fn changes_to<L: Ledger>(
     listed: &[(usize, Told)],
     flat_count: usize,
     board: &Board<Kept>,
-    keys: &[usize],
+    held: &HashMap<usize, &Kept>,
     steps: &mut Steps<L>,
 ) -> Result<Vec<(usize, KeptChange)>, Memory>
     requires within { flat_count ≤ length listed.now }
-    ensures changes { IfOk result (λ changes. AreChanges board.now.held (renewed_kept table.now (known_again lookup.now.arena.now.tree table.now board.now.held (take flat_count listed.now) listed.now keys.now) (kept_at listed.now) told.now) changes.items) }
-    ensures steps { steps.new ≤ steps.old + (length keys.now + length told.now) }
+    ensures changes { IfOk result (λ changes. AreChanges board.now.held (renewed_kept table.now (known_again lookup.now.arena.now.tree table.now (take flat_count listed.now) listed.now (read_in held.now)) (kept_at listed.now) told.now) changes.items) }
+    ensures steps { steps.new ≤ steps.old + length told.now }
 {
     let records = by_key(alloc, listed)?;
-    let held = held_of(alloc, board, keys, steps)?;
     let flats = flat_texts_again(
         alloc,
         lookup,
@@ -169,9 +161,7 @@ fn changes_to<L: Ledger>(
         &listed[..flat_count],
         listed,
         &records,
-        board,
-        keys,
-        &held,
+        held,
     )?;
     changes_again(
         alloc,
@@ -182,29 +172,33 @@ fn changes_to<L: Ledger>(
         &records,
         flats.as_slice(),
         board,
-        keys,
-        &held,
+        held,
         steps,
     )
 }
 
-/// What comes to a board of the elements of which this is told, of which the first so many have flat texts that are made again.
-/// It is a step for each element to which any of them refers, and one for each of them.
-fn entries_again<L: Ledger>(
+/// What comes to a board of the elements of which this is told, of which the first so many have flat texts that are made again,
+/// where this was read of others already. It is a step for each element to which any of them refers, unless it was read, and one
+/// for each of them.
+fn entries_again<'a, L: Ledger>(
     alloc: Global,
     arena: &Arena,
     index: &Index,
     table: &Table,
     listed: &[(usize, Told)],
     flat_count: usize,
-    board: &Board<Kept>,
+    board: &'a Board<Kept>,
+    read: HeldElements<'a>,
     steps: &mut Steps<L>,
 ) -> Result<Vec<(usize, KeptChange)>, Memory>
     requires indexed { IsIndexOf index.now arena.now.tree }
     requires within { flat_count ≤ length listed.now }
     requires elements { (key : ℕ) → is_told listed.now key ≡ true → IsSome (name_of arena.now.tree key) }
+    requires read { AreRead read.keys.keys (read_in read.kept) board.now.held }
+    requires unique { IsDistinct nat_eq read.keys.keys }
+    requires live { (key : ℕ) → is_among read.keys.keys key ≡ true → IsSome (name_of arena.now.tree key) }
     ensures renewal { IfOk result (λ changes. IsRenewal arena.now.tree table.now board.now.held (take flat_count listed.now) listed.now changes.items) }
-    ensures steps { steps.new ≤ steps.old + 2 * element_count (without_keys arena.now.tree) }
+    ensures steps { steps.new + length read.entry.keys.keys ≤ steps.old + 2 * element_count (without_keys arena.now.tree) }
     ensures fewer { IsWithinLists arena.now.tree listed.now steps.old steps.new }
     ensures few { IfOk result (λ changes. ListsAll listed.now (length changes.items)) }
 {
@@ -212,6 +206,8 @@ fn entries_again<L: Ledger>(
     let told = told_keys(alloc, listed)?;
     let mut lookup = HolderLookup::new(alloc, arena, index);
     let targets = target_keys(alloc, &mut lookup, listed)?;
+    let mut held = read;
+    held.add_all(board, targets.as_slice(), steps)?;
     changes_to(
         alloc,
         &lookup,
@@ -220,15 +216,15 @@ fn entries_again<L: Ledger>(
         listed,
         flat_count,
         board,
-        targets.as_slice(),
+        &held.kept,
         steps,
     )
 }
 
 /// What comes to a board where this is told of the elements that were evaluated, and these others refer to what they touch.
 ///
-/// It is a step for each of the others, one for each element to which any of these refers, and one for each whose texts are
-/// made again.
+/// It is a step for each of the others and of the elements to which any of these refers, each of which is read once, and one for
+/// each whose texts are made again.
 pub fn renewed_entries<L: Ledger>(
     alloc: Global,
     arena: &Arena,
@@ -242,15 +238,20 @@ pub fn renewed_entries<L: Ledger>(
     requires indexed { IsIndexOf index.now arena.now.tree }
     requires edit { IsSomeEdit table.now arena.now.tree told board.now.held found.now.first found.now.second }
     ensures renewal { IfOk result (λ changes. (edit : IsSomeEdit table.now arena.now.tree told board.now.held found.now.first found.now.second) → Renews board.now.held (all_kept_of table.now (known_targets table.now arena.now.tree (said_of edit.is)) edit.is) changes.items) }
-    ensures steps { steps.new ≤ steps.old + 4 * element_count (without_keys arena.now.tree) }
+    ensures steps { steps.new ≤ steps.old + 2 * element_count (without_keys arena.now.tree) }
     ensures fewer { (edit : IsSomeEdit table.now arena.now.tree told board.now.held found.now.first found.now.second) → steps.new ≤ steps.old + renewal_weight (evaluated_as edit.old edit.was) (evaluated_as arena.now.tree edit.is) edit.merge told }
     ensures few { IfOk result (λ changes. (edit : IsSomeEdit table.now arena.now.tree told board.now.held found.now.first found.now.second) → length changes.items ≤ renewal_weight (evaluated_as edit.old edit.was) (evaluated_as arena.now.tree edit.is) edit.merge told) }
 {
     arena_holds_document(arena);
+    let first = found.first.as_slice();
+    let second = found.second.as_slice();
+    let mut held = HeldElements::new(alloc);
+    held.add_all(board, first, steps)?;
+    held.add_all(board, second, steps)?;
     let mut records = told;
-    put_all_again(alloc, board, found.first.as_slice(), &mut records, steps)?;
+    put_all_again(alloc, &held.kept, first, &mut records)?;
     let flat_count = records.len();
-    put_all_again(alloc, board, found.second.as_slice(), &mut records, steps)?;
+    put_all_again(alloc, &held.kept, second, &mut records)?;
     entries_again(
         alloc,
         arena,
@@ -259,6 +260,7 @@ pub fn renewed_entries<L: Ledger>(
         records.as_slice(),
         flat_count,
         board,
+        held,
         steps,
     )
 }
@@ -281,7 +283,7 @@ pub fn walked_entries<L: Ledger>(
     requires indexed { IsIndexOf index.now arena.now.tree }
     requires walk { IsSomeWalk table.now index.now former.now stops.now arena.now.tree told board.now.held }
     ensures renewal { IfOk result (λ changes. (walk : IsSomeWalk table.now index.now former.now stops.now arena.now.tree told board.now.held) → Renews board.now.held (all_kept_of table.now (known_targets table.now arena.now.tree (said_of walk.is)) walk.is) changes.items) }
-    ensures steps { steps.new ≤ steps.old + 4 * element_count (without_keys arena.now.tree) }
+    ensures steps { steps.new ≤ steps.old + 2 * element_count (without_keys arena.now.tree) }
     ensures fewer { (walk : IsSomeWalk table.now index.now former.now stops.now arena.now.tree told board.now.held) → steps.new ≤ steps.old + renewal_weight (evaluated_as walk.old walk.was) (evaluated_as arena.now.tree walk.is) walk.merge told }
     ensures few { IfOk result (λ changes. (walk : IsSomeWalk table.now index.now former.now stops.now arena.now.tree told board.now.held) → length changes.items ≤ renewal_weight (evaluated_as walk.old walk.was) (evaluated_as arena.now.tree walk.is) walk.merge told) }
 {

@@ -1,5 +1,5 @@
 -- Drafts that grow.
-use Rattle.std.proofs.Common.{◌≡◌, ◌<◌, ◌≤◌, ◌+◌, ◌-◌, ◌*◌, ◌/◌, ◌≢◌, ℕ, zero, suc, List, [], ◌∷◌, ◌++◌, Option, Some, None, length, Bool, true, false, cond, refl, sym, ap, ◌∙◌, arith, append_assoc, length-append, append-nil, add-one, inl, inr}
+use Rattle.std.proofs.Common.{◌≡◌, ◌<◌, ◌≤◌, ◌+◌, ◌-◌, ◌*◌, ◌/◌, ◌≢◌, ℕ, zero, suc, List, [], ◌∷◌, ◌++◌, Option, Some, None, Result, Ok, Err, OnErr, length, Bool, true, false, cond, refl, sym, ap, ◌∙◌, arith, append_assoc, length-append, append-nil, add-one, inl, inr}
 use Rattle.std.specs.List.{repeat}
 use Rattle.std.proofs.lemmas.Bool.{le-leb, lt-leb, cases_lt}
 use Rattle.std.proofs.lemmas.Nat.{div-add-mod', mul-le, le-div}
@@ -91,6 +91,11 @@ pub stays_within : (value : Option (List ℕ)) (is_over is_over' : Bool) (text t
 stays_within value is_over is_over' text text' piece room size times v f f' fits e h grew =
     let few : times * size ≤ room = few_enough room times size h in
     rw (f', grew, open_view value is_over text v f) (sym (extended-within text (repeat times piece) (omega (arith, length-append text (repeat times piece), length-repeat times piece, ap (λ n. times * n) e))))
+
+pub stops_short : {T E : Type 0} (r : Result T E) (value : Option (List ℕ)) (is_over is_over' : Bool) (text text' piece : List ℕ) (room size times done : ℕ) → view is_over text ≡ value → is_over ≡ false → is_over' ≡ false → length text + room ≡ 120 → size ≡ length piece → times ≤ room / size → done < times → text' ≡ text ++ repeat done piece → OnErr r ((done : ℕ) × (done < times) × view is_over' text' ≡ extended value (repeat done piece))
+stops_short (Ok x) value is_over is_over' text text' piece room size times done v f f' fits e h d grew = tt
+stops_short (Err x) value is_over is_over' text text' piece room size times done v f f' fits e h d grew =
+    (done, d, stays_within value is_over is_over' text text' piece room size done v f f' fits e (omega arith) grew)
 
 pub grows : (text before after piece : List ℕ) (done : ℕ) → before ≡ text ++ repeat done piece → after ≡ before ++ piece → after ≡ text ++ repeat (done + 1) piece
 grows text before after piece done e f = rw (f, e, repeat-more done piece) (append_assoc text (repeat done piece) piece)

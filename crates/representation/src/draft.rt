@@ -1,6 +1,6 @@
 //! Texts that are given up once they are too long.
 
-ghost use Rattle.std.specs.Prelude.{◌≡◌, [], Some, OnOk, IfOk, length};
+ghost use Rattle.std.specs.Prelude.{◌≡◌, ◌<◌, ℕ, [], Some, OnOk, OnErr, IfOk, length};
 ghost use Rattle.std.specs.List.{repeat};
 ghost use Rattle.std.specs.Str.{chars};
 ghost use Rattle.representation.specs.Draft.{extended};
@@ -48,6 +48,7 @@ impl Draft {
     /// times are asked for.
     pub fn push(&mut self, piece: &str, times: u64) -> Result<(), Memory>
         ensures ok { OnOk result (self.new ≡ extended self.old (repeat times (chars piece.now))) }
+        ensures err { OnErr result ((done : ℕ) × (done < times) × self.new ≡ extended self.old (repeat done (chars piece.now))) }
     {
         let length = character_count(piece) as u64;
         if self.is_over || length == 0 || times == 0 {

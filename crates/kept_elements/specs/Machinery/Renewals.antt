@@ -1,6 +1,8 @@
 -- What is told again of elements whose texts are made again, and what is known for these texts.
-use Rattle.std.specs.Prelude.{◌≡◌, ◌≤◌, ◌+◌, ℕ, nat_eq, Bool, true, false, if◌then◌else◌, flat_map, length, List, [], ◌∷◌, ◌++◌, Option, Some, None, cond, option_map}
+use Rattle.std.specs.Prelude.{◌≡◌, ◌≤◌, ◌+◌, ℕ, nat_eq, Bool, true, false, if◌then◌else◌, flat_map, length, List, [], ◌∷◌, ◌++◌, Option, Some, None, cond, option_copied, option_map}
+use Rattle.std.specs.Borrow.{Bor}
 use Rattle.std.specs.FinMap.{FinMap, get}
+use Rattle.std.specs.HashMap as hash_map
 use Rattle.std.specs.List.{IsDistinct, list_any}
 use Rattle.std.specs.Option.{option_and_then, option_map_or}
 use Rattle.std.specs.Ordering.{nat_cmp}
@@ -54,10 +56,13 @@ told_again kept pieces = record {
   changes = [];
 }
 
+-- of the element of this key, where its pieces are kept, as what was read of elements says
+abbrev pub again_by : (read : ℕ → Option Kept) → ℕ → List (ℕ × Told)
+again_by read key = option_map_or (λ (kept : Kept). option_map_or (λ (pieces : BoxPieces). (key, told_again kept pieces) ∷ []) kept.pieces []) (read key) []
+
 module _ (held : FinMap nat_cmp Kept) where
-  -- of the element of this key, where its pieces are kept
   abbrev pub again : ℕ → List (ℕ × Told)
-  again key = option_map_or (λ (kept : Kept). option_map_or (λ (pieces : BoxPieces). (key, told_again kept pieces) ∷ []) kept.pieces []) (get held key) []
+  again key = again_by (get held) key
 
   -- with what is told of elements, what is told again of others
   abbrev pub with_again : List (ℕ × Told) → (keys : List ℕ) → List (ℕ × Told)
@@ -84,9 +89,17 @@ IsWithinLists document told old new =
 abbrev pub ListsAll : List (ℕ × Told) → ℕ → Type 0
 ListsAll told count = (keys : List ℕ) → ((key : ℕ) → is_told told key ≡ true → is_among keys key ≡ true) → count ≤ length keys
 
+-- what a map has under a key of what was read of elements
+abbrev pub read_in : {S : Type 0} → hash_map.HashMap ℕ (Bor Kept) S → ℕ → Option Kept
+read_in read = λ key. option_copied (hash_map.get nat_eq read key)
+
 -- what is held of those of these elements
 abbrev pub held_of : List ℕ → FinMap nat_cmp Kept → ℕ → Option Kept
 held_of keys held key = if is_among keys key then get held key else None
+
+-- that was read
+abbrev pub AreRead : (keys : List ℕ) → (read : ℕ → Option Kept) → FinMap nat_cmp Kept → Type 0
+AreRead keys read held = (key : ℕ) → read key ≡ held_of keys held key
 
 -- the counters of an element, as it is told of, or else by what is held of it
 abbrev pub its_counters : Option Told → Option Kept → Option (List Counter)
@@ -121,21 +134,21 @@ abbrev pub renewed_kept : List CounterStyle → Known → (ℕ → Option Told) 
 renewed_kept table known told keys = flat_map (λ key. option_map_or (λ (one : Told). (key, kept_of table known one) ∷ []) (told key) []) keys
 
 -- Where this is told, and told again, of those whose flat texts are made again, and of all whose texts are.
-module _ (document : Forest (Keyed Node)) (table : List CounterStyle) (held : FinMap nat_cmp Kept) (flat full : List (ℕ × Told)) where
-  module _ (targets : List ℕ) where
-    -- what flat texts rest on
+module _ (document : Forest (Keyed Node)) (table : List CounterStyle) (flat full : List (ℕ × Told)) where
+  module _ (read : ℕ → Option Kept) where
+    -- what flat texts rest on, where this was read of targets
     abbrev pub known_below : Known
-    known_below = renewed_known document (kept_at full) (λ key. None) (held_of targets held)
+    known_below = renewed_known document (kept_at full) (λ key. None) read
 
     -- and what full texts do
     abbrev pub known_again : Known
-    known_again = renewed_known document (kept_at full) (kept_at (all_flat_texts_of table known_below flat)) (held_of targets held)
+    known_again = renewed_known document (kept_at full) (kept_at (all_flat_texts_of table known_below flat)) read
 
-  -- these come to what is held
-  pub record IsRenewal (changes : List (ℕ × KeptChange)) : Type 0 where
-    pub keys : List ℕ
-    pub targets : List ℕ
-    pub once : IsDistinct nat_eq keys
-    pub keys_are : (key : ℕ) → is_among keys key ≡ is_told full key
-    pub targets_are : (key : ℕ) → is_among targets key ≡ some_names document full key
-    pub changes_are : AreChanges held (renewed_kept table (known_again targets) (kept_at full) keys) changes
+-- these come to what is held
+pub record IsRenewal (document : Forest (Keyed Node)) (table : List CounterStyle) (held : FinMap nat_cmp Kept) (flat full : List (ℕ × Told)) (changes : List (ℕ × KeptChange)) : Type 0 where
+  pub keys : List ℕ
+  pub read : ℕ → Option Kept
+  pub once : IsDistinct nat_eq keys
+  pub keys_are : (key : ℕ) → is_among keys key ≡ is_told full key
+  pub read_are : (key : ℕ) → some_names document full key ≡ true → read key ≡ get held key
+  pub changes_are : AreChanges held (renewed_kept table (known_again document table flat full read) (kept_at full) keys) changes

@@ -3,6 +3,7 @@ use Rattle.std.specs.FinMap.{insert}
 use Rattle.kept_elements.specs.declared.kept.Kept.{Kept}
 use Rattle.kept_elements.specs.Evaluations.{kept_of}
 use Rattle.kept_elements.proofs.ChangeLemmas.{put_more}
+use Rattle.kept_elements.proofs.StoppedLemmas.{stopped_at}
 use Rattle.kept_elements.proofs.node_texts.put_entries.Goals as goal
 
 pub loop-key-preserved : goal.loop-key-preserved
@@ -18,3 +19,6 @@ loop-key-preserved g c =
       room = c.put.ensures.room ∙ c.loop-key.invariant.room;
       steps = omega arith;
     }
+
+pub returns-in_err-kept-clause-err : goal.returns-in_err-kept-clause-err
+returns-in_err-kept-clause-err g c = stopped_at c.from_residual.result _ c.loop-key.key-index c.loop-key.invariant.held

@@ -1,12 +1,12 @@
 use Rattle.std.proofs.Common.{arith, ap, ◌∙◌, ◌++◌, length}
 use Rattle.std.specs.List.{repeat}
 use Rattle.std.specs.Str.{chars}
-use Rattle.representation.proofs.DraftLemmas.{extended-by_nothing, repeat-nil, goes_over, stays_within, grows, room_left, room_falls, was_over}
+use Rattle.representation.proofs.DraftLemmas.{extended-by_nothing, repeat-nil, goes_over, stays_within, stops_short, grows, room_left, room_falls, was_over}
 use Rattle.representation.proofs.draft.Draft.push.Goals.{then-self-via-then-self, then-self-via-else-self+then-length-eq0, then-self-via-else-self+else-length-eq0+then-times-eq0}
 use Rattle.representation.proofs.draft.Draft.push.Goals as goal
 
-pub returns-then-times-self : goal.returns-then-times-self
-returns-then-times-self c = record { ok = goes_over _ _ _ _ _ _ _ c.self.view_is c.if-self.false c.self.invariant c.character_count-length.ensures.count c.if-length-eq0.false c.if-times-self.true }
+pub returns-then-times-self-clause-ok : goal.returns-then-times-self-clause-ok
+returns-then-times-self-clause-ok c = goes_over _ _ _ _ _ _ _ c.self.view_is c.if-self.false c.self.invariant c.character_count-length.ensures.count c.if-length-eq0.false c.if-times-self.true
 
 pub invariant_of-self-in-loop-done : goal.invariant_of-self-in-loop-done
 invariant_of-self-in-loop-done c =
@@ -23,18 +23,19 @@ loop-done-preserved c = record {
   is_over = c.loop-done.invariant.is_over;
 }
 
-pub returns : goal.returns
-returns c = record {
-  ok =
-      stays_within _ _ _ _ _ _ _ _ _ c.self.view_is c.if-self.false c.loop-done.invariant.is_over c.self.invariant c.character_count-length.ensures.count c.if-times-self.false
-      (c.loop-done.invariant.text ∙ ap (λ n. c.self.inside.text ++ repeat n (chars c.args.piece.now)) (omega arith));
-}
+pub returns-clause-ok : goal.returns-clause-ok
+returns-clause-ok c =
+    stays_within _ _ _ _ _ _ _ _ _ c.self.view_is c.if-self.false c.loop-done.invariant.is_over c.self.invariant c.character_count-length.ensures.count c.if-times-self.false
+    (c.loop-done.invariant.text ∙ ap (λ n. c.self.inside.text ++ repeat n (chars c.args.piece.now)) (omega arith))
 
-pub returns-then-self : goal.returns-then-self
-returns-then-self c = record {
-  ok = elim c.then-self.branch [
-    | then-self-via-then-self w ↦ was_over _ _ _ _ c.self.view_is w.if-self.true
-    | then-self-via-else-self+then-length-eq0 w ↦ extended-by_nothing _ c.args.times (chars c.args.piece.now) (repeat-nil c.args.times (chars c.args.piece.now) (omega (arith, c.character_count-length.ensures.count)))
-    | then-self-via-else-self+else-length-eq0+then-times-eq0 w ↦ extended-by_nothing _ c.args.times (chars c.args.piece.now) (ap (λ n. repeat n (chars c.args.piece.now)) w.if-times-eq0.true)
-  ];
-}
+pub returns-then-self-clause-ok : goal.returns-then-self-clause-ok
+returns-then-self-clause-ok c = elim c.then-self.branch [
+  | then-self-via-then-self w ↦ was_over _ _ _ _ c.self.view_is w.if-self.true
+  | then-self-via-else-self+then-length-eq0 w ↦ extended-by_nothing _ c.args.times (chars c.args.piece.now) (repeat-nil c.args.times (chars c.args.piece.now) (omega (arith, c.character_count-length.ensures.count)))
+  | then-self-via-else-self+else-length-eq0+then-times-eq0 w ↦ extended-by_nothing _ c.args.times (chars c.args.piece.now) (ap (λ n. repeat n (chars c.args.piece.now)) w.if-times-eq0.true)
+]
+
+pub returns-in_err-push_str-clause-err : goal.returns-in_err-push_str-clause-err
+returns-in_err-push_str-clause-err c =
+    stops_short c.from_residual.result _ _ _ _ _ _ _ _ _ _ c.self.view_is c.if-self.false c.loop-done.invariant.is_over c.self.invariant c.character_count-length.ensures.count c.if-times-self.false c.loop-done-test.true
+    (c.in_err-push_str.ensures.err ∙ c.loop-done.invariant.text)
