@@ -1,5 +1,9 @@
+pub mod AskingLemmas
 pub mod BringLemmas
+pub mod CountedLemmas
+pub mod CountingLemmas
 pub mod EditLemmas
 pub mod ToldKeys
 pub mod TurnedLemmas
+pub mod TwiceLemmas
 pub mod WalkLemmas

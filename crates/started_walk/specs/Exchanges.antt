@@ -30,8 +30,8 @@ pub record AreToldAgain (former : List (ℕ × Option CounterDeeds)) (moved : Li
   pub touched : AreTouched former moved index keys
   pub are : (table : List CounterStyle) (style : ℕ → Option Style → ElementStyle) → KeepsDeeds table style tree index → starts ≡ told_entries (document_starts table style tree) index keys
 
--- The deeds of an index are those of a document, and these were kept before of the elements that were exchanged; then the starts of
--- those that are touched were told again and exchanged, and these were kept before.
+-- The deeds of an index are those of a document, and these were kept before of the elements whose deeds were exchanged. Then the
+-- starts of those that are touched were told again and exchanged; of them these starts were kept before.
 pub record BringsStarts (deeds : List (ℕ × Option CounterDeeds)) (moved : List ℕ) (tree : Forest (Keyed Node)) (was now : CounterIndex) (former : List (ℕ × Option (List Start))) : Type 0 where
   pub keys : List ℕ
   pub touched : AreTouched deeds moved now keys
@@ -42,7 +42,7 @@ pub record BringsStarts (deeds : List (ℕ × Option CounterDeeds)) (moved : Lis
   pub back : IsWayBack former (get now.starts.held) (get was.starts.held)
   pub room : HasRoomFor now.starts.room former
 
--- exchanged once more, these take an index back to what it kept before, whose starts were exchanged once for each element
+-- put back, the last first, these take an index to what it kept before, whose starts were exchanged once for each element
 pub record TakesBack (back : WayBack) (now was : CounterIndex) : Type 0 where
   pub deeds : IsWayBack back.deeds.items (deeds_at now) (deeds_at was)
   pub once : IsDistinct nat_eq (keys_in back.starts.items)

@@ -1,3 +1,5 @@
 pub mod Countings
 pub mod Exchanges
+pub mod Laws
+pub mod Twice
 pub mod Walks

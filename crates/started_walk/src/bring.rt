@@ -68,7 +68,7 @@ fn bring_starts(
 /// Brings an index from a document to the one that an edit made of it, where this is exchanged of what elements do, and these
 /// elements go or come. It answers the way back. After `Memory` the index keeps what it kept.
 ///
-/// It takes time in what is exchanged, and in the scopes of the counters that can have another start.
+/// It takes time in what is exchanged, and in the scopes of all counters for which the elements ask that can have another start.
 pub fn bring_index(
     alloc: Global,
     arena: &Arena,

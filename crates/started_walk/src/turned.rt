@@ -57,8 +57,8 @@ fn turned_keys(
 /// Brings an index from a document to the one that an edit made of it, and tells which elements are turned. After `Memory` the
 /// index keeps what it kept.
 ///
-/// It takes time in what is exchanged, in the scopes of the counters that can have another start, and, for each element that has
-/// one, in its depth and the stops.
+/// It takes time in what is exchanged, in the scopes of all counters for which the elements ask that can have another start, and,
+/// for each element that has one, in its depth and the stops.
 pub fn turn(
     alloc: Global,
     arena: &Arena,
