@@ -1,6 +1,7 @@
 #!/usr/bin/env bash
 # The peak resident memory of `marker dump`, and its time, over documents of 100,000 elements: sections with a heading,
-# a list and a reference each, and paragraphs in the scope of eight counters, which no element of theirs changes. With
+# a list and a reference each, paragraphs in the scope of eight counters, which no element of theirs changes, and lists of four
+# items that count up, and then down. With
 # two programs, also how many times as much memory and time the second takes as the first, so that a change can be
 # compared with what was before.
 #   bench/memory.sh [PROGRAM [OTHER]] [ELEMENTS..]      the repository's program where none is named
@@ -43,6 +44,13 @@ def paragraphs(elements):
     yield "</body>"
 
 
+def lists(elements):
+    yield "<body>"
+    for _ in range(elements // 5):
+        yield "<ol><li/><li/><li/><li/></ol>"
+    yield "</body>"
+
+
 DOCUMENTS = {
     "sections": (
         sections,
@@ -51,6 +59,8 @@ DOCUMENTS = {
         'a::after{content:"("target-counter(attr(href),s)")"}',
     ),
     "paragraphs": (paragraphs, "body{counter-reset:a b c d e f g h}"),
+    "lists that count up": (lists, "ol{counter-reset:list-item}"),
+    "lists that count down": (lists, "ol{counter-reset:reversed(list-item)}"),
 }
 
 

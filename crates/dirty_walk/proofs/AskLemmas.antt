@@ -59,7 +59,7 @@ module _ (style : ℕ → Option Style → ElementStyle) (start : BoxId → List
   node_same true one other same = same
   node_same false one other same = refl
 
-  asks_same : (nodes : Forest (Keyed Node)) (boxed : Bool) (parent : Option Style)
+  pub asks_same : (nodes : Forest (Keyed Node)) (boxed : Bool) (parent : Option Style)
       → any_asks_for_start boxed (styled_trees style start parent nodes) ≡ any_asks_for_start boxed (styled_trees style no_starts parent nodes)
   asks_same Empty boxed parent = refl
   asks_same (Tree first children after) boxed parent = tree first.key first.label (asks_same children) (asks_same after boxed parent)

@@ -1,29 +1,33 @@
 -- What is kept of a document's elements is what a fresh evaluation keeps.
-use Rattle.std.proofs.Common.{◌≡◌, ℕ, List, ap, ◌∙◌}
+use Rattle.std.proofs.Common.{◌≡◌, ℕ, ℤ, List, ap, ◌∙◌}
 use Rattle.std.specs.Prelude.{option_map}
 use Rattle.forest.specs.Forest.{Forest}
 use Rattle.forest.specs.Keys.{HasDistinctKeys, Keyed}
+use Rattle.plain_types.specs.declared.box_id.BoxId.{BoxId}
 use Rattle.plain_types.specs.declared.node.Node.{Node}
 use Rattle.plain_types.specs.declared.sheet.Sheet.{Sheet}
 use Rattle.mini_cascade.specs.Styles.{element_style}
+use Rattle.box_eval.specs.Evaluation.{styled}
 use Rattle.generated_texts.specs.Documents.{agent_sheet, counter_styles}
 use Rattle.generated_texts.specs.References.{known_targets}
 use Rattle.generated_texts.specs.StyleElements.{author_sheet}
 use Rattle.surroundings.specs.declared.told.Told.{Told}
+use Rattle.surroundings.specs.Laws.{told_document}
+use Rattle.reference_reach.specs.ToldLaws.{told_with}
 use Rattle.dirty_walk.specs.declared.document_styles.DocumentStyles.{DocumentStyles}
 use Rattle.dirty_walk.specs.DocumentStyles.{document_styles, read_styles}
 use Rattle.kept_elements.specs.declared.kept.Kept.{Kept}
 use Rattle.kept_elements.proofs.ToldLemmas.{entry_in}
 use Rattle.dirty_walk.specs.Books.{Keeps, KeepsAll, StyledDocument}
-use Rattle.kept_elements.specs.Evaluations.{all_kept_of, document_kept, document_told, said_of, told_of}
+use Rattle.kept_elements.specs.Evaluations.{all_kept_of, document_kept, document_told, said_of}
 
-pub evaluation_told : (tree : Forest (Keyed Node)) (agent : Sheet) (styles : DocumentStyles) (text : List ℕ) → agent ≡ agent_sheet → styles ≡ document_styles text tree
-    → (told : List (ℕ × Told)) → told ≡ told_of styles.table (element_style tree agent styles.author) tree → told ≡ document_told (author_sheet text tree) tree
+-- what a walk with these starts tells
+pub walk_told : (tree : Forest (Keyed Node)) (agent : Sheet) (styles : DocumentStyles) (text : List ℕ) (start : BoxId → List ℕ → ℤ) → agent ≡ agent_sheet → styles ≡ document_styles text tree
+    → told_document styles.table (styled (element_style tree agent styles.author) start tree) ≡ told_with (record { tree = tree; sheet = text }) start
 unfolding read_styles
-evaluation_told tree agent styles text is_agent are_styles told is =
-    is
-    ∙ ap (λ (a : Sheet). told_of styles.table (element_style tree a styles.author) tree) is_agent
-    ∙ ap (λ (s : DocumentStyles). told_of s.table (element_style tree agent_sheet s.author) tree) are_styles
+walk_told tree agent styles text start is_agent are_styles =
+    ap (λ (a : Sheet). told_document styles.table (styled (element_style tree a styles.author) start tree)) is_agent
+    ∙ ap (λ (s : DocumentStyles). told_document s.table (styled (element_style tree agent_sheet s.author) start tree)) are_styles
 
 pub kept_are : (tree : Forest (Keyed Node)) (styles : DocumentStyles) (told : List (ℕ × Told)) (text : List ℕ) → styles ≡ document_styles text tree
     → told ≡ document_told (author_sheet text tree) tree

@@ -1,5 +1,5 @@
 -- What an edit makes of the index and of the elements of a document.
-use Rattle.std.proofs.Common.{◌≡◌, ◌≤◌, ◌∙◌, ℕ, nat_eq, false, not, ◌&&◌, List, length, is_some, refl, sym, ap, inl, inr, arith}
+use Rattle.std.proofs.Common.{◌≡◌, ◌≤◌, ◌+◌, ◌∙◌, ◌⊎◌, ℕ, nat_eq, false, not, ◌&&◌, List, length, is_some, refl, sym, ap, inl, inr, arith}
 use Rattle.std.specs.List.{list_any}
 use Rattle.std.proofs.lemmas.List.{length-map}
 use Rattle.forest.specs.Forest.{Forest, Empty, labels}
@@ -93,3 +93,35 @@ taken_count (Move from parent index) old = omega arith
 taken_count (SetAttr path name value) old = omega arith
 taken_count (UnsetAttr path name) old = omega arith
 taken_count (ReplaceSheet text) old = omega arith
+
+-- An edit takes out no element, or as many as the document has less than before.
+taken_or_fewer : (edit : Edit) (old new : Forest (Keyed Node)) → IsDone edit old new
+    → (length (taken_keys edit (elements_in (leaving edit old))) ≡ 0)
+    ⊎ ((element_count (without_keys new) + length (taken_keys edit (elements_in (leaving edit old)))) ≡ element_count (without_keys old))
+taken_or_fewer (Insert parent index fragment) old new done = inl refl
+taken_or_fewer (Remove path) old new done =
+    let gone : Forest (Keyed Node) = alone (on_path path old) in
+    let rest : Forest (Keyed Node) = removed_at path old in
+    inr (omega (
+      arith,
+      length-map (elements_in gone) (λ (element : ElementId). element.key),
+      count-elements (labels gone),
+      put-sum (labels gone) (labels rest) (labels old) (removed-put path old) one_element,
+      weigh-labels one_element old,
+      weigh-without_keys (λ (node : Node). one_where (is_some (node_name node))) old,
+      weigh-labels one_element rest,
+      weigh-without_keys (λ (node : Node). one_where (is_some (node_name node))) rest,
+      ap (λ (trees : Forest (Keyed Node)). element_count (without_keys trees)) done.edited.keys,
+    ))
+taken_or_fewer (Move from parent index) old new done = inl refl
+taken_or_fewer (SetAttr path name value) old new done = inl refl
+taken_or_fewer (UnsetAttr path name) old new done = inl refl
+taken_or_fewer (ReplaceSheet text) old new done = inl refl
+
+-- So those that it takes out are few too, beside others that are no more than the elements before it and than those after it.
+pub taken_beside : (edit : Edit) (old new : Forest (Keyed Node)) → IsDone edit old new → (passed : ℕ) → passed ≤ element_count (without_keys new) → passed ≤ element_count (without_keys old)
+    → (passed + length (taken_keys edit (elements_in (leaving edit old)))) ≤ element_count (without_keys old)
+taken_beside edit old new done passed fewer few = elim (taken_or_fewer edit old new done) [
+  | inl none ↦ omega arith
+  | inr gone ↦ omega arith
+]

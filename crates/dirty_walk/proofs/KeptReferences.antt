@@ -100,7 +100,7 @@ module _ (author : Sheet) (document : Forest (Keyed Node)) where
     pub told_refers : (element : ℕ × Told) → Contains told_of_it element → references_at (evaluated_document author document) element.0 ≡ references_of element.1.said
     told_refers element there = references_told element.0 ∙ ap refers_by (once_there told_of_it (told_once author document distinct) element there)
 
-turned : (key : ℕ) (takes : List ℕ) → is_among takes key ≡ list_any (nat_eq key) takes
+pub turned : (key : ℕ) (takes : List ℕ) → is_among takes key ≡ list_any (nat_eq key) takes
 turned key [] = refl
 turned key (taken ∷ takes) = ap (λ b. b || is_among takes key) (nat_eq_equiv.symm taken key) ∙ ap (λ b. nat_eq key taken || b) (turned key takes)
 

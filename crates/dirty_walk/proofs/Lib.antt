@@ -1,5 +1,6 @@
 pub mod AskLemmas
 pub mod BookLemmas
+pub mod CountedLemmas
 pub mod ExchangeLaws
 pub mod ExchangedLemmas
 pub mod FormerLemmas
@@ -16,10 +17,12 @@ pub mod PlannedLemmas
 pub mod PutLemmas
 pub mod ReferenceExchangeLemmas
 pub mod ReferenceLemmas
+pub mod SecondLemmas
 pub mod SettlingLemmas
 pub mod SomeWalk
 pub mod SplitLemmas
 pub mod StartLemmas
+pub mod StartedLemmas
 pub mod StyleElementLemmas
 pub mod StyleLemmas
 pub mod TakenLemmas

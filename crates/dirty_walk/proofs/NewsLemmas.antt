@@ -1,54 +1,47 @@
--- What is told otherwise than before is within the work of an edit, and so are the steps to make texts again by it.
-use Rattle.std.proofs.Common.{◌≡◌, ◌≤◌, ◌+◌, ◌*◌, ◌∙◌, ℕ, true, List, [], ◌∷◌, length, Option, Some, sym, ap, subst, arith}
+-- What news of an edited document lead to: which references change, which texts are made again, and how many steps that takes.
+use Rattle.std.proofs.Common.{◌≡◌, ◌≤◌, ◌+◌, ◌*◌, ◌∙◌, ℕ, nat_eq, true, List, [], ◌∷◌, length, Option, Some, refl, sym, ap, subst, arith}
 use Rattle.std.specs.Prelude.{filter, is_some, sum_by}
 use Rattle.std.specs.FinMap.{FinMap}
+use Rattle.std.specs.List.{list_any}
 use Rattle.std.specs.Ordering.{nat_cmp}
 use Rattle.std.proofs.lemmas.List.{length-map}
 use Rattle.std.proofs.lemmas.List.Sums.{sum_by-cons}
 use Rattle.forest.specs.Forest.{Forest}
 use Rattle.forest.specs.Keys.{Keyed}
-use Rattle.plain_types.specs.declared.edit.Edit.{Edit}
+use Rattle.plain_types.specs.declared.counter_style.CounterStyle.{CounterStyle}
 use Rattle.plain_types.specs.declared.node.Node.{Node}
-use Rattle.node_arena.specs.Edits.{edited_sheet}
-use Rattle.generated_texts.specs.Documents.{agent_sheet, counter_styles, document_style}
-use Rattle.generated_texts.specs.References.{kept_at}
+use Rattle.plain_types.specs.declared.sheet.Sheet.{Sheet}
+use Rattle.generated_texts.specs.Documents.{counter_styles}
+use Rattle.generated_texts.specs.References.{kept_at, known_targets}
 use Rattle.generated_texts.specs.StyleElements.{author_sheet}
 use Rattle.merged_walk.specs.declared.stop.Stop.{Stop}
-use Rattle.merged_walk.specs.Merges.{Merge}
 use Rattle.surroundings.specs.declared.told.Told.{Told}
-use Rattle.edit_work.specs.KeyedSources.{KeyedSource, is_among}
+use Rattle.edit_work.specs.KeyedSources.{is_among}
 use Rattle.edit_work.specs.KeyedSources.{elements_in as elements_of}
-use Rattle.edit_work.specs.Laws.{Leads}
-use Rattle.edit_work.specs.Work.{work}
-use Rattle.styled_merge.specs.Laws.{looks_beside}
-use Rattle.styled_merge.specs.Reached.{reached_merge}
-use Rattle.reference_reach.specs.ChangedTargets.{Evaluated}
 use Rattle.reference_reach.specs.ToldLaws.{keys_of}
 use Rattle.target_index.specs.declared.index.Index.{Index}
 use Rattle.referring_elements.specs.declared.former.FormerTarget.{FormerTarget}
 use Rattle.referring_elements.specs.Indexes.{TellsReferences}
 use Rattle.kept_elements.specs.declared.kept.Kept.{Kept}
-use Rattle.kept_elements.specs.Evaluations.{document_told, evaluated_document}
-use Rattle.kept_elements.specs.News.{TellsNews}
+use Rattle.kept_elements.specs.declared.kept_change.KeptChange.{KeptChange}
+use Rattle.kept_elements.specs.Changes.{Renews}
+use Rattle.kept_elements.specs.Evaluations.{all_kept_of, document_kept, document_told, evaluated_document, said_of}
 use Rattle.kept_elements.specs.RenewalSteps.{renewal_weight, weight_in}
-use Rattle.kept_elements.specs.Renewals.{IsSomeWalk, evaluated_as, is_told}
+use Rattle.kept_elements.specs.Renewals.{IsSomeWalk, TellsOfWalk, evaluated_as, is_told}
 use Rattle.kept_elements.proofs.ChangeLemmas.{some-kept, some_of}
 use Rattle.kept_elements.proofs.KeyWeights.{among-filter, element_listed}
-use Rattle.kept_elements.proofs.PaidLemmas.{news_are_paid}
 use Rattle.kept_elements.proofs.RenewedLemmas.{caught_there}
 use Rattle.kept_elements.proofs.StepLemmas.{keys_told}
-use Rattle.dirty_walk.specs.declared.read_ahead.ReadAhead.{ReadAhead}
 use Rattle.dirty_walk.specs.declared.styled_arena.StyledArena.{StyledArena}
 use Rattle.dirty_walk.specs.DocumentStyles.{document_styles}
+use Rattle.dirty_walk.specs.Exchanges.{elements_in, leaving, taken_keys}
 use Rattle.dirty_walk.specs.FormerTargets.{AreFormerTargetsOf}
-use Rattle.dirty_walk.specs.PlaceNews.{AreNewsFrom}
-use Rattle.dirty_walk.specs.Places.{IsLocalEdit, IsSomePlace, place_work}
-use Rattle.dirty_walk.specs.ReadAhead.{IsSomePlaceRead}
+use Rattle.dirty_walk.specs.Places.{place_work}
 use Rattle.dirty_walk.specs.ReferenceExchanges.{ChangesReferences, IsWithinKeys}
-use Rattle.dirty_walk.specs.Unstarted.{is_unstarted}
-use Rattle.dirty_walk.proofs.AskLemmas.{unstarted_without_starts}
-use Rattle.dirty_walk.proofs.PlaceLemmas.{sheet_is}
-use Rattle.dirty_walk.proofs.SomeWalk.{document_news, document_references_change, document_unstarted, some_walk}
+use Rattle.dirty_walk.specs.SomeNews.{IsSomeNews}
+use Rattle.dirty_walk.proofs.ExchangeLaws.{takes_are}
+use Rattle.dirty_walk.proofs.KeptReferences.{changes_references}
+use Rattle.dirty_walk.proofs.PlaceLemmas.{its_table}
 
 -- Lists.
 
@@ -61,124 +54,107 @@ pub within_told : (told : List (ℕ × Told)) (more from now : ℕ) → IsWithin
 within_told told more from now within =
     omega (arith, within (keys_of told) (λ key is. keys_told told key ∙ is), length-map told (λ (element : ℕ × Told). element.0))
 
--- An edit that does not change styles everywhere, where no element asks for the start of a reversed counter before it and after it.
-module _ (edit : Edit) (text : List ℕ) (held : FinMap nat_cmp Kept) (old new : Forest (Keyed Node)) (at : IsLocalEdit edit text held old new) (same : text ≡ edited_sheet edit text)
-    (unstarted : is_unstarted (author_sheet text new) new ≡ true) where
-  abbrev before : KeyedSource
-  before = record { tree = old; sheet = text }
-
-  abbrev after : KeyedSource
-  after = record { tree = new; sheet = text }
-
-  leads : Leads edit before after
-  leads = record { done = at.done; sheet = same }
-
-  abbrev merge : Merge Node
-  merge = reached_merge (looks_beside text old) edit old new
-
-  abbrev was : List (ℕ × Told)
-  was = document_told (author_sheet text old) old
-
-  abbrev is : List (ℕ × Told)
-  is = document_told (author_sheet text new) new
-
-  module _ (news : List (ℕ × Told)) (tells : TellsNews (counter_styles (author_sheet text new)) merge old new was is news held) where
-    abbrev weight : ℕ
-    weight = renewal_weight (evaluated_as old was) (evaluated_as new is) merge news
-
-    pub paid : weight ≤ work edit before after
-    paid =
-        let was_author = author_sheet text old in
-        let author = author_sheet text new in
-        news_are_paid edit before after leads at.local
-        (unstarted_without_starts (counter_styles was_author) (document_style was_author old) old at.unstarted)
-        (unstarted_without_starts (counter_styles author) (document_style author new) new unstarted)
-        (counter_styles author) news held tells
-
-    told_there : (key : ℕ) → is_told news key ≡ true → (told : Told) × (kept_at is key ≡ Some told)
-    told_there key does =
-        let its = some_of (kept_at news key) (some-kept key news ∙ does) in
-        (its.0, caught_there news is tells.tells.once tells.tells.among key its.0 its.1)
-
-    -- the elements that are told otherwise
-    abbrev pub listed : List ℕ
-    listed = filter (is_told news) (elements_of new)
-
-    pub listed_are : (key : ℕ) → is_told news key ≡ true → is_among listed key ≡ true
-    listed_are key does =
-        let its = told_there key does in
-        among-filter (is_told news) key does (elements_of new) (element_listed new key (sym (tells.tells.named key) ∙ ap (λ (o : Option Told). is_some o) its.1))
-
-    pub few_listed : length listed ≤ weight
-    few_listed = omega (arith, at_least (weight_in (evaluated_as old was) (evaluated_as new is)) (λ key. omega arith) listed)
-
--- The same where a document and its styles are known, and some edit.
-module _ (document : StyledArena) (is_agent : document.agent.now ≡ agent_sheet) (styles_are : document.styles.now ≡ document_styles document.styles.now.sheet document.arena.now.tree)
-    (held : FinMap nat_cmp Kept) (stops : List Stop) (place : IsSomePlace document.styles.now.sheet held stops document.arena.now.tree) (news : List (ℕ × Told)) (news_are : AreNewsFrom document held stops news) where
-  abbrev sheet : List ℕ
-  sheet = document.styles.now.sheet
+-- A document and its styles, and some edit of which these are news.
+module _ (document : StyledArena) (styles_are : document.styles.now ≡ document_styles document.styles.now.sheet document.arena.now.tree) (held : FinMap nat_cmp Kept) (stops : List Stop) (news : List (ℕ × Told))
+    (some : IsSomeNews document.styles.now.sheet held stops document.arena.now.tree news) where
+  abbrev text : List ℕ
+  text = document.styles.now.sheet
 
   abbrev tree : Forest (Keyed Node)
   tree = document.arena.now.tree
 
-  stays : sheet ≡ edited_sheet place.edit sheet
-  stays = sym (sheet_is place.edit sheet held stops place.old tree place.at place.stops_are)
+  abbrev was_author : Sheet
+  was_author = author_sheet text some.old
 
-  its_unstarted : is_unstarted (author_sheet sheet tree) tree ≡ true
-  its_unstarted = document_unstarted document is_agent styles_are held stops place news news_are
+  abbrev author : Sheet
+  author = author_sheet text tree
 
-  tells_its : TellsNews (counter_styles (author_sheet sheet tree)) (reached_merge (looks_beside sheet place.old) place.edit place.old tree) place.old tree
-      (document_told (author_sheet sheet place.old) place.old) (document_told (author_sheet sheet tree) tree) news held
-  tells_its = document_news document is_agent styles_are held stops place news news_are
+  -- what is told of both documents
+  abbrev was : List (ℕ × Told)
+  was = document_told was_author some.old
 
-  abbrev its_weight : ℕ
-  its_weight =
-      renewal_weight (evaluated_as place.old (document_told (author_sheet sheet place.old) place.old)) (evaluated_as tree (document_told (author_sheet sheet tree) tree))
-      (reached_merge (looks_beside sheet place.old) place.edit place.old tree) news
+  abbrev is : List (ℕ × Told)
+  is = document_told author tree
+
+  -- Steps.
+
+  abbrev weight : ℕ
+  weight = renewal_weight (evaluated_as some.old was) (evaluated_as tree is) some.merge news
 
   abbrev its_work : ℕ
-  its_work = place_work place.edit sheet place.old tree
+  its_work = place_work some.edit text some.old tree
 
-  is_paid : its_weight ≤ its_work
-  is_paid = paid place.edit sheet held place.old tree place.at stays its_unstarted news tells_its
+  told_there : (key : ℕ) → is_told news key ≡ true → (told : Told) × (kept_at is key ≡ Some told)
+  told_there key does =
+      let its = some_of (kept_at news key) (some-kept key news ∙ does) in
+      (its.0, caught_there news is some.tells.tells.once some.tells.tells.among key its.0 its.1)
 
-  exchanges_few : (takes from now : ℕ) → IsWithinKeys news takes from now → now ≤ from + (takes + its_weight)
-  exchanges_few takes from now within =
-      omega (
-        arith,
-        within (listed place.edit sheet held place.old tree place.at stays its_unstarted news tells_its) (listed_are place.edit sheet held place.old tree place.at stays its_unstarted news tells_its),
-        few_listed place.edit sheet held place.old tree place.at stays its_unstarted news tells_its,
-      )
+  -- the elements that are told otherwise
+  abbrev listed : List ℕ
+  listed = filter (is_told news) (elements_of tree)
+
+  listed_are : (key : ℕ) → is_told news key ≡ true → is_among listed key ≡ true
+  listed_are key does =
+      let its = told_there key does in
+      among-filter (is_told news) key does (elements_of tree) (element_listed tree key (sym (some.tells.tells.named key) ∙ ap (λ (o : Option Told). is_some o) its.1))
+
+  few_listed : length listed ≤ weight
+  few_listed = omega (arith, at_least (weight_in (evaluated_as some.old was) (evaluated_as tree is)) (λ key. omega arith) listed)
 
   sum : (takes from between now come weight work : ℕ) → between ≤ from + (takes + weight) → now ≤ between + weight → come ≤ weight → weight ≤ work → (now + 2 * come) ≤ from + (takes + 4 * work)
   sum takes from between now come weight work first second third fourth = omega arith
 
-  pub exchange_within : (takes from now : ℕ) → IsWithinKeys news takes from now → now ≤ from + (takes + 4 * its_work)
-  exchange_within takes from now within = omega (arith, sum takes from now now 0 its_weight its_work (exchanges_few takes from now within) (omega arith) (omega arith) is_paid)
+  -- The references that the edit exchanges: of what it takes out and of what is told otherwise.
+  module _ (told : List (ℕ × Told)) (told_are : told ≡ news) where
+    pub news_change : (takes : List ℕ) → takes ≡ taken_keys some.edit (elements_in (leaving some.edit some.old))
+        → ChangesReferences held takes told (evaluated_document was_author some.old) (evaluated_document author tree)
+    news_change takes are =
+        subst (λ (told : List (ℕ × Told)). ChangesReferences held takes told (evaluated_document was_author some.old) (evaluated_document author tree)) (sym told_are)
+        (changes_references was_author author some.old tree some.at.done.before.distinct some.at.done.after.distinct held some.at.kept takes
+        (λ key. ap (list_any (nat_eq key)) are ∙ takes_are some.edit some.old tree some.at.done key) news some.tells.tells.covers some.tells.tells.among)
 
-  module _ (index : Index) (former : List FormerTarget) (former_are : AreFormerTargetsOf place.edit place.old former) (refers : TellsReferences index (evaluated_document (author_sheet sheet tree) tree)) where
-    abbrev walk : IsSomeWalk document.styles.now.table index former stops tree news held
-    walk = some_walk document is_agent styles_are held stops place news news_are index former former_are refers
+    module _ (takes from now : ℕ) (within : IsWithinKeys told takes from now) where
+      exchanges_few : now ≤ from + (takes + weight)
+      exchanges_few =
+          omega (arith, (subst (λ (told : List (ℕ × Told)). IsWithinKeys told takes from now) told_are within) listed listed_are, few_listed)
+
+      pub exchange_within : now ≤ from + (takes + 4 * its_work)
+      exchange_within = omega (arith, exchanges_few, some.paid)
+
+  -- The texts of the elements that refer.
+
+  table_is : document.styles.now.table ≡ counter_styles author
+  table_is = its_table document.styles.now text tree styles_are
+
+  pub tells_of_news : TellsOfWalk document.styles.now.table some.merge some.old tree was is news held
+  tells_of_news = subst (λ (table : List CounterStyle). TellsOfWalk table some.merge some.old tree was is news held) (sym table_is) some.tells.tells
+
+  module _ (index : Index) (former : List FormerTarget) (former_are : AreFormerTargetsOf some.edit some.old former) (refers : TellsReferences index (evaluated_document author tree)) where
+    -- the walk is one by which the texts of the elements that refer may be made again
+    abbrev pub some_walk : IsSomeWalk document.styles.now.table index former stops tree news held
+    some_walk = record {
+      merge = some.merge;
+      old = some.old;
+      was = was;
+      is = is;
+      tells = tells_of_news;
+      stops_are = some.stops_are;
+      former_are = former_are (evaluated_document was_author some.old) (evaluated_document author tree) refl some.at.done;
+      refers = refers;
+    }
+
+    -- what comes by it is what a fresh evaluation has
+    pub walk_renews : (changes : List (ℕ × KeptChange))
+        → ((walk : IsSomeWalk document.styles.now.table index former stops tree news held)
+        → Renews held (all_kept_of document.styles.now.table (known_targets document.styles.now.table tree (said_of walk.is)) walk.is) changes)
+        → Renews held (document_kept author tree) changes
+    walk_renews changes renews =
+        subst (λ (table : List CounterStyle). Renews held (all_kept_of table (known_targets table tree (said_of is)) is) changes) table_is (renews some_walk)
 
     -- the steps to exchange references and to make texts again, and then two for each change
-    pub within_news : (takes from between now come : ℕ) → IsWithinKeys news takes from between
+    pub within_news : (told : List (ℕ × Told)) → told ≡ news → (takes from between now come : ℕ) → IsWithinKeys told takes from between
         → ((walk : IsSomeWalk document.styles.now.table index former stops tree news held) → now ≤ between + renewal_weight (evaluated_as walk.old walk.was) (evaluated_as tree walk.is) walk.merge news)
         → ((walk : IsSomeWalk document.styles.now.table index former stops tree news held) → come ≤ renewal_weight (evaluated_as walk.old walk.was) (evaluated_as tree walk.is) walk.merge news)
         → (now + 2 * come) ≤ from + (takes + 4 * its_work)
-    within_news takes from between now come within spent comes =
-        sum takes from between now come its_weight its_work (exchanges_few takes from between within) (spent walk) (comes walk) is_paid
-
--- The references that change by it, where this was read of the document before the edit.
-module _ (document : StyledArena) (is_agent : document.agent.now ≡ agent_sheet) (styles_are : document.styles.now ≡ document_styles document.styles.now.sheet document.arena.now.tree)
-    (held : FinMap nat_cmp Kept) (stops : List Stop) (ahead : ReadAhead) (index : Index) (there : IsSomePlaceRead document.styles.now.sheet held stops document.arena.now.tree ahead index)
-    (news : List (ℕ × Told)) (news_are : AreNewsFrom document held stops news) (told : List (ℕ × Told)) (told_are : told ≡ news) where
-  abbrev was_evaluated : Evaluated
-  was_evaluated = evaluated_document (author_sheet document.styles.now.sheet there.place.old) there.place.old
-
-  abbrev is_evaluated : Evaluated
-  is_evaluated = evaluated_document (author_sheet document.styles.now.sheet document.arena.now.tree) document.arena.now.tree
-
-  pub news_change : ChangesReferences held ahead.takes.now told was_evaluated is_evaluated
-  news_change =
-      subst (λ (told : List (ℕ × Told)). ChangesReferences held ahead.takes.now told was_evaluated is_evaluated) (sym told_are)
-      (document_references_change document is_agent styles_are held stops there.place news news_are ahead.takes.now there.read.takes)
+    within_news told told_are takes from between now come within spent comes =
+        sum takes from between now come weight its_work (exchanges_few told told_are takes from between within) (spent some_walk) (comes some_walk) some.paid

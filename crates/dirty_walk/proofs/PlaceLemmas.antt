@@ -1,6 +1,6 @@
 -- A walk from the place of an edit finds what comes to a board.
 use Rattle.std.proofs.Common.{◌≡◌, ◌≢◌, ◌≤◌, ◌+◌, ℕ, true, false, List, ◌∷◌, Option, Some, None, refl, sym, ap, subst, ◌∙◌, unwrap_or}
-use Rattle.std.specs.Prelude.{Contains, IfSome, option_map}
+use Rattle.std.specs.Prelude.{Contains, option_map}
 use Rattle.std.specs.FinMap.{FinMap, get}
 use Rattle.std.specs.Ordering.{nat_cmp}
 use Rattle.std.proofs.lemmas.List.Elements.{All-contains_itself, All-weaker}
@@ -14,12 +14,11 @@ use Rattle.plain_types.specs.declared.style.ElementStyle.{ElementStyle}
 use Rattle.plain_types.specs.declared.style.Style.{Style}
 use Rattle.mini_cascade.specs.Styles.{element_style}
 use Rattle.node_arena.specs.Edits.{edited_sheet}
-use Rattle.content_eval.specs.Targets.{Known}
 use Rattle.css_reader.specs.Sheets.{sheets}
 use Rattle.box_eval.specs.Evaluation.{StyledNode, styled}
 use Rattle.box_eval.specs.Starts.{no_starts}
 use Rattle.generated_texts.specs.Documents.{agent_sheet, counter_styles, document_style}
-use Rattle.generated_texts.specs.References.{kept_at, known_targets}
+use Rattle.generated_texts.specs.References.{kept_at}
 use Rattle.generated_texts.specs.StyleElements.{author_sheet}
 use Rattle.merged_walk.specs.declared.stop.Stop.{Stop}
 use Rattle.merged_walk.specs.Entries.{Holds, first_at}
@@ -50,28 +49,25 @@ use Rattle.styled_merge.proofs.StopLemmas.{styled_reaches_are_walkable}
 use Rattle.dirty_walk.specs.declared.document_styles.DocumentStyles.{DocumentStyles}
 use Rattle.kept_elements.specs.declared.kept.Kept.{Kept}
 use Rattle.dirty_walk.specs.declared.local_stops.LocalStops.{LocalStops}
-use Rattle.dirty_walk.specs.declared.read_ahead.ReadAhead.{ReadAhead}
 use Rattle.dirty_walk.specs.declared.styled_arena.StyledArena.{StyledArena}
-use Rattle.target_index.specs.declared.index.Index.{Index}
 use Rattle.dirty_walk.specs.DocumentStyles.{document_styles, read_styles}
-use Rattle.kept_elements.specs.Evaluations.{document_kept, document_told, kept_of, said_of}
+use Rattle.kept_elements.specs.Evaluations.{document_kept, document_told}
+use Rattle.kept_elements.specs.Renewals.{kept_in}
 use Rattle.dirty_walk.specs.PlaceReadings.{read_of}
 use Rattle.dirty_walk.specs.PlaceStyles.{StandsBefore}
-use Rattle.dirty_walk.specs.ReadAhead.{StandsRead, WasReadOf}
 use Rattle.dirty_walk.specs.Places.{IsLocalEdit, IsSomePlace, place_budget, place_merge, reading_of, walked_at}
 use Rattle.dirty_walk.specs.Unstarted.{is_unstarted}
 use Rattle.dirty_walk.proofs.AskLemmas.{unstarted_without_starts}
 use Rattle.kept_elements.proofs.KnownLemmas.{kept_mapped}
 use Rattle.dirty_walk.proofs.PlanLemmas.{its_author}
-use Rattle.kept_elements.proofs.RenewalLemmas.{at_first, kept_there, once_there}
+use Rattle.kept_elements.proofs.RenewalLemmas.{at_first, once_there}
 use Rattle.kept_elements.proofs.ToldLemmas.{told_once}
 
 walked_of : (f : Told → Kept) → ((told : Told) → (f told).walked ≡ told.walked) → (o : Option Told) → option_map (λ (kept : Kept). kept.walked) (option_map f o) ≡ option_map (λ (told : Told). told.walked) o
 walked_of f same None = refl
 walked_of f same (Some told) = ap (λ (walked : Walked). Some walked) (same told)
 
-module _ (edit : Edit) (text : List ℕ) (held : FinMap nat_cmp Kept) (stops : List Stop) (old new : Forest (Keyed Node)) (at : IsLocalEdit edit text held old new)
-    (stops_are : stops ≡ stops_where (looks_beside text old) edit old new) where
+module _ (edit : Edit) (text : List ℕ) (held : FinMap nat_cmp Kept) (old new : Forest (Keyed Node)) (at : IsLocalEdit edit text held old new) where
   edits : Edits edit old new
   edits = record { document = at.done.before; allowed = at.done.allowed; edited = at.done.edited }
 
@@ -89,44 +85,31 @@ module _ (edit : Edit) (text : List ℕ) (held : FinMap nat_cmp Kept) (stops : L
   pub styles_stay : document_styles text new ≡ document_styles text old
   styles_stay = ap (read_styles text) (texts-stay edit old new edits free)
 
-  abbrev author : Sheet
-  author = author_sheet text old
-
-  abbrev told_now : List (ℕ × Told)
-  told_now = told_all (styled_evaluator (counter_styles author)) root_surroundings (styled (document_style author new) no_starts new)
+  -- What is told of the document before is what the board has.
 
   abbrev told_before : List (ℕ × Told)
-  told_before = document_told author old
+  told_before = document_told (author_sheet text old) old
 
-  abbrev table : List CounterStyle
-  table = counter_styles author
+  kept_before : (key : ℕ) → get held key ≡ option_map (kept_in (counter_styles (author_sheet text old)) old told_before) (kept_at told_before key)
+  kept_before key = at.kept key ∙ kept_mapped (kept_in (counter_styles (author_sheet text old)) old told_before) told_before key
 
-  -- what is told of the document before is what the board has
-  abbrev pub told_at : ℕ → Option Told
-  told_at = first_at told_before
+  -- also by the counter styles of the edited document
+  pub held_are : (key : ℕ) → get held key ≡ option_map (kept_in (counter_styles (author_sheet text new)) old told_before) (kept_at told_before key)
+  held_are key = subst (λ (a : Sheet). get held key ≡ option_map (kept_in (counter_styles a) old told_before) (kept_at told_before key)) (sym sheet_stays) (kept_before key)
 
-  abbrev known_before : Known
-  known_before = known_targets table old (said_of told_before)
-
-  kept_before : (key : ℕ) → get held key ≡ option_map (kept_of table known_before) (kept_at told_before key)
-  kept_before key = at.kept key ∙ kept_mapped (kept_of table known_before) told_before key
-
-  read : (key : ℕ) → option_map (λ (kept : Kept). kept.walked) (get held key) ≡ option_map (λ (told : Told). told.walked) (told_at key)
-  read key =
+  pub walked_are : (key : ℕ) → walked_at held key ≡ option_map (λ (told : Told). told.walked) (first_at told_before key)
+  walked_are key =
       ap (option_map (λ (kept : Kept). kept.walked)) (kept_before key)
-      ∙ walked_of (kept_of table known_before) (λ told. refl) (kept_at told_before key)
+      ∙ walked_of (kept_in (counter_styles (author_sheet text old)) old told_before) (λ told. refl) (kept_at told_before key)
       ∙ ap (option_map (λ (told : Told). told.walked)) (sym (at_first told_before key))
 
-  before : (one : ℕ × Told) → told_at one.0 ≡ Some one.1 → Contains told_before one
-  before one is = kept_there told_before one.0 one.1 (sym (at_first told_before one.0) ∙ is)
-
-  holds : Holds told_at told_before
+  holds : Holds (first_at told_before) told_before
   holds =
-      All-weaker (Contains told_before) (λ (one : ℕ × Told). told_at one.0 ≡ Some one.1)
-      (λ one there. at_first told_before one.0 ∙ once_there told_before (told_once author old at.done.before.distinct) one there)
+      All-weaker (Contains told_before) (λ (one : ℕ × Told). first_at told_before one.0 ≡ Some one.1)
+      (λ one there. at_first told_before one.0 ∙ once_there told_before (told_once (author_sheet text old) old at.done.before.distinct) one there)
       told_before (All-contains_itself told_before)
 
-  -- The walk may begin.
+  -- The merge of the walk.
 
   abbrev whole : Merge Node
   whole = reached_merge (looks_beside text old) edit old new
@@ -140,20 +123,37 @@ module _ (edit : Edit) (text : List ℕ) (held : FinMap nat_cmp Kept) (stops : L
       sheet_is
       (documents_style_merges edit old new edits (edits_merge edit old new at.done) text no_starts no_starts (starts_are_their_own (style_beside (edited_sheet edit text) new) no_starts whole))
 
+-- The walk may begin.
+module _ (text : List ℕ) (held : FinMap nat_cmp Kept) (stops : List Stop) (new : Forest (Keyed Node)) (place : IsSomePlace text held stops new) where
+  abbrev author : Sheet
+  author = author_sheet text place.old
+
+  abbrev merge : Merge StyledNode
+  merge = place_merge place.edit text place.old new
+
+  -- what is told of the document before
+  abbrev pub told_at : ℕ → Option Told
+  told_at = first_at (document_told author place.old)
+
   -- what a walk reads under an author's sheet
   abbrev under : Sheet → Reading
   under a = record { table = counter_styles a; style = document_style a new; start = no_starts; tree = new }
 
-  pub can : CanCatchUp (reading_of text new) (walked_at held) stops (place_merge edit text old new) told_at
-  can = subst (λ (a : Sheet). CanCatchUp (under a) (walked_at held) stops (place_merge edit text old new) told_at) (sym sheet_stays) (record {
-    new = forests.new ∙ ap (λ (a : Sheet). styled (document_style a new) no_starts new) sheet_stays;
-    holds = subst (λ (trees : Forest (Keyed StyledNode)). Holds told_at (told_all (styled_evaluator table) root_surroundings trees)) (sym forests.old)
-        (subst (λ (told : List (ℕ × Told)). Holds told_at told) (sym (unstarted_without_starts table (document_style author old) old at.unstarted)) holds);
-    read = read;
-    stops = stops_are ∙ walkable.stops;
-    leaves = walkable.leaves;
-    led = walkable.led;
-  })
+  pub can : CanCatchUp (reading_of text new) (walked_at held) stops merge told_at
+  can =
+      let stays = sheet_stays place.edit text held place.old new place.at in
+      let merges = forests place.edit text held place.old new place.at in
+      let ready = walkable place.edit text held place.old new place.at in
+      subst (λ (a : Sheet). CanCatchUp (under a) (walked_at held) stops merge told_at) (sym stays) (record {
+        new = merges.new ∙ ap (λ (a : Sheet). styled (document_style a new) no_starts new) stays;
+        holds = subst (λ (trees : Forest (Keyed StyledNode)). Holds told_at (told_all (styled_evaluator (counter_styles author)) root_surroundings trees)) (sym merges.old)
+            (subst (λ (told : List (ℕ × Told)). Holds told_at told) (sym (unstarted_without_starts (counter_styles author) (document_style author place.old) place.old place.unstarted))
+            (holds place.edit text held place.old new place.at));
+        read = walked_are place.edit text held place.old new place.at;
+        stops = place.stops_are ∙ ready.stops;
+        leaves = ready.leaves;
+        led = ready.led;
+      })
 
 -- The same where a document and its styles are known, and some edit.
 
@@ -186,17 +186,16 @@ module _ (document : StyledArena) (is_agent : document.agent.now ≡ agent_sheet
   stands = (
     place_merge place.edit text place.old tree,
     (
-      told_at place.edit text held stops place.old tree place.at place.stops_are,
-      subst (λ (from : Reading). CanCatchUp from (walked_at held) stops (place_merge place.edit text place.old tree) (told_at place.edit text held stops place.old tree place.at place.stops_are))
-          (sym (reads document is_agent styles_are)) (can place.edit text held stops place.old tree place.at place.stops_are),
+      told_at text held stops tree place,
+      subst (λ (from : Reading). CanCatchUp from (walked_at held) stops (place_merge place.edit text place.old tree) (told_at text held stops tree place)) (sym (reads document is_agent styles_are))
+          (can text held stops tree place),
     ),
   )
 
   -- the steps of a walk over the merge of the edit
   pub walk_within : (before now : ℕ) → IsWithinBudget (read_of document) (walked_at held) stops before now → now ≤ before + place_budget place.edit text place.old tree
   walk_within before now within =
-      let there : CanCatchUp (reading_of text tree) (walked_at held) stops (place_merge place.edit text place.old tree) (told_at place.edit text held stops place.old tree place.at place.stops_are) =
-      can place.edit text held stops place.old tree place.at place.stops_are in
+      let there : CanCatchUp (reading_of text tree) (walked_at held) stops (place_merge place.edit text place.old tree) (told_at text held stops tree place) = can text held stops tree place in
       (subst (λ (from : Reading). IsWithinBudget from (walked_at held) stops before now) (reads document is_agent styles_are) within) _ _ there
 
 -- A book before its edit is evaluated.
@@ -206,23 +205,23 @@ abbrev pub AreNamed : Edit → LocalStops → Forest (Keyed Node) → List Stop 
 AreNamed edit local new named =
     (old : Forest (Keyed Node)) → local.stops.items ≡ reach_stops local.extent edit 0 old → named ≡ reach_stops local.extent edit (inserted_key edit new) old
 
-module _ (edit : Edit) (styles : DocumentStyles) (held : FinMap nat_cmp Kept) (local : LocalStops) (new : Forest (Keyed Node)) (there : StandsBefore edit styles held local new) (named : List Stop)
-    (names : AreNamed edit local new named) where
-  pub its_stops : named ≡ stops_where (looks_beside styles.sheet there.old) edit there.old new
-  its_stops = names there.old there.stops_are ∙ ap (λ (extent : Reach). reach_stops extent edit (inserted_key edit new) there.old) there.extent_is
-
+module _ (edit : Edit) (styles : DocumentStyles) (held : FinMap nat_cmp Kept) (local : LocalStops) (new : Forest (Keyed Node)) (there : StandsBefore edit styles held local new) where
   -- the styles are those of the edited document
   pub styles_now : styles ≡ document_styles styles.sheet new
-  styles_now = there.styles_are ∙ sym (styles_stay edit styles.sheet held named there.old new there.at its_stops)
+  styles_now = there.styles_are ∙ sym (styles_stay edit styles.sheet held there.old new there.at)
 
   pub sheet_now : edited_sheet edit styles.sheet ≡ styles.sheet
-  sheet_now = sheet_is edit styles.sheet held named there.old new there.at its_stops
+  sheet_now = sheet_is edit styles.sheet held there.old new there.at
 
   pub styles_after : (made : Option DocumentStyles) → made ≡ None → unwrap_or made styles ≡ document_styles (edited_sheet edit styles.sheet) new
   styles_after made none = ap (λ (o : Option DocumentStyles). unwrap_or o styles) none ∙ styles_now ∙ ap (λ (text : List ℕ). document_styles text new) (sym sheet_now)
 
-  abbrev pub some_place : IsSomePlace styles.sheet held named new
-  some_place = record { edit = edit; old = there.old; at = there.at; stops_are = its_stops }
+  module _ (named : List Stop) (names : AreNamed edit local new named) where
+    pub its_stops : named ≡ stops_where (looks_beside styles.sheet there.old) edit there.old new
+    its_stops = names there.old there.stops_are ∙ ap (λ (extent : Reach). reach_stops extent edit (inserted_key edit new) there.old) there.extent_is
+
+    abbrev pub some_place : is_unstarted (author_sheet styles.sheet there.old) there.old ≡ true → IsSomePlace styles.sheet held named new
+    some_place unstarted = record { edit = edit; old = there.old; at = there.at; stops_are = its_stops; unstarted = unstarted }
 
 -- its edit reaches as far as its document's sheets say
 pub its_reach : (edit : Edit) (agent : Sheet) (styles : DocumentStyles) (old : Forest (Keyed Node)) → agent ≡ agent_sheet → styles ≡ document_styles styles.sheet old
@@ -234,20 +233,12 @@ its_reach edit agent styles old is_agent styles_are =
 module _ (edit : Edit) (styles : DocumentStyles) (held : FinMap nat_cmp Kept) (old new : Forest (Keyed Node)) (styles_are : styles ≡ document_styles styles.sheet old) (finished : IsDone edit old new)
     (kept : (key : ℕ) → get held key ≡ kept_at (document_kept (author_sheet styles.sheet old) old) key) where
   -- where the edit's walk may begin, before the edit is done
-  abbrev pub stands_there : (local : LocalStops) → is_unstarted (author_sheet styles.sheet old) old ≡ true → local.extent ≡ reach (looks_beside styles.sheet old) old edit → local.extent ≢ Everywhere
+  abbrev pub stands_there : (local : LocalStops) → local.extent ≡ reach (looks_beside styles.sheet old) old edit → local.extent ≢ Everywhere
       → local.stops.items ≡ reach_stops local.extent edit 0 old → StandsBefore edit styles held local new
-  stands_there local unstarted extent other stops_are = record {
+  stands_there local extent other stops_are = record {
     old = old;
     styles_are = styles_are;
-    at = record { done = finished; local = λ all. other (extent ∙ all); kept = kept; unstarted = unstarted };
+    at = record { done = finished; local = λ all. other (extent ∙ all); kept = kept };
     extent_is = extent;
     stops_are = stops_are;
   }
-
-  -- and what was read of it then
-  pub stands_read : (ahead : ReadAhead) (index : Index) → WasReadOf edit (author_sheet styles.sheet old) old ahead index
-      → (stops : Option LocalStops) → IfSome stops (λ _. is_unstarted (author_sheet styles.sheet old) old ≡ true)
-      → IfSome stops (λ local. local.extent ≡ reach (looks_beside styles.sheet old) old edit) → IfSome stops (λ local. local.extent ≢ Everywhere)
-      → IfSome stops (λ local. local.stops.items ≡ reach_stops local.extent edit 0 old) → IfSome stops (λ local. StandsRead edit styles held local new ahead index)
-  stands_read ahead index read None unstarted extent other stops_are = tt
-  stands_read ahead index read (Some local) unstarted extent other stops_are = record { before = stands_there local unstarted extent other stops_are; read = read }

@@ -1,5 +1,5 @@
 -- Books under edits that are planned.
-use Rattle.std.proofs.Common.{◌≡◌, ◌<◌, ◌≤◌, ℕ, Bool, true, List, Option, Some, None, option_copied, unwrap_or, refl, ap, sym, ◌∙◌, arith}
+use Rattle.std.proofs.Common.{◌≡◌, ◌<◌, ◌≤◌, ℕ, Bool, true, List, Option, Some, None, option_copied, unwrap_or, refl, ap, sym, subst, ◌∙◌, arith}
 use Rattle.std.specs.Prelude.{is_some}
 use Rattle.std.specs.Borrow.{Bor}
 use Rattle.std.specs.FinMap.{FinMap, get}
@@ -20,10 +20,11 @@ use Rattle.node_arena.specs.Reversals.{IsSettled}
 use Rattle.dirty_walk.specs.declared.document_styles.DocumentStyles.{DocumentStyles}
 use Rattle.dirty_walk.specs.DocumentStyles.{document_styles, read_styles}
 use Rattle.snapshot_board.specs.Records.{Records}
+use Rattle.started_walk.specs.declared.counting.Counting.{Counting}
 use Rattle.target_index.specs.declared.index.Index.{Index}
 use Rattle.target_index.specs.Holders.{is_holder, is_reference}
 use Rattle.referring_elements.specs.Indexes.{IsIndexOf, holds_id}
-use Rattle.dirty_walk.specs.Unstarted.{is_unstarted}
+use Rattle.dirty_walk.specs.Countings.{IsCounted, StaysCounted}
 use Rattle.dirty_walk.specs.Books.{StyledDocument, fresh_kept, HasRoomFor, IsBook, KeepsAll, UsesItsKeys}
 use Rattle.dirty_walk.proofs.ReferenceLemmas.{refers_where}
 
@@ -96,10 +97,10 @@ is_settled tree other_tree text other_text entries other planned same_tree same_
 pub index_where : (tree other : Forest (Keyed Node)) (index new : Index) → other ≡ tree → ((id : List ℕ) (key : ℕ) → is_holder new id key ≡ is_holder index id key) → IsIndexOf index tree → IsIndexOf new other
 index_where tree other index new same answers indexed id key = answers id key ∙ indexed id key ∙ ap (λ (t : Forest (Keyed Node)). holds_id t id key) (sym same)
 
--- whether none of its elements asks for the start of a reversed counter
-pub unstarted_where : (tree other : Forest (Keyed Node)) (text : List ℕ) (unstarted : Bool) → other ≡ tree → unstarted ≡ is_unstarted (author_sheet text tree) tree
-    → unstarted ≡ is_unstarted (author_sheet text other) other
-unstarted_where tree other text unstarted same is = is ∙ ap (λ (t : Forest (Keyed Node)). is_unstarted (author_sheet text t) t) (sym same)
+-- what is kept for both walks of its edits
+pub counted_where : (tree other : Forest (Keyed Node)) (text : List ℕ) (counting : Option Counting) → other ≡ tree → IsCounted (record { tree = tree; sheet = text }) counting
+    → IsCounted (record { tree = other; sheet = text }) counting
+counted_where tree other text counting same counted = subst (λ (t : Forest (Keyed Node)). IsCounted (record { tree = t; sheet = text }) counting) (sym same) counted
 
 -- and its room, or more
 pub room_where : (tree other : Forest (Keyed Node)) (room more : ℕ) → other ≡ tree → room ≤ more → HasRoomFor room tree → HasRoomFor more other
@@ -108,22 +109,23 @@ room_where tree other room more same grown has key named =
     omega (arith, low, grown)
 
 -- Where no edit is planned, a book may have another arena of the same document, which uses its keys alone, another board
--- that holds the same and has as much room, and another index of the same answers.
-pub same_document : (old new : Document) (agent : Sheet) (styles : DocumentStyles) (planned : Option Reversal) (board other : Records Kept) (index changed : Index) (unstarted : Bool)
+-- that holds the same and has as much room, another index of the same answers, and what else is kept of it for both walks.
+pub same_document : (old new : Document) (agent : Sheet) (styles : DocumentStyles) (planned : Option Reversal) (board other : Records Kept) (index changed : Index) (counting again : Option Counting)
     → is_none planned ≡ true → new.tree ≡ old.tree → (IsSettled old → IsSettled new)
     → other.held ≡ board.held → board.room ≤ other.room → ((id : List ℕ) (key : ℕ) → is_holder changed id key ≡ is_holder index id key)
     → ((id : List ℕ) (key : ℕ) → is_reference changed id key ≡ is_reference index id key)
-    → IsBook old agent styles board index unstarted planned (stands old.tree styles.sheet planned board.held)
-    → IsBook new agent styles other changed unstarted planned (stands new.tree styles.sheet planned other.held)
-same_document old new agent styles (Some reversal) board other index changed unstarted none same still held grown answers references book = cc
-same_document old new agent styles None board other index changed unstarted none same still held grown answers references book = record {
+    → StaysCounted counting again
+    → IsBook old agent styles board index counting planned (stands old.tree styles.sheet planned board.held)
+    → IsBook new agent styles other changed again planned (stands new.tree styles.sheet planned other.held)
+same_document old new agent styles (Some reversal) board other index changed counting again none same still held grown answers references stays book = cc
+same_document old new agent styles None board other index changed counting again none same still held grown answers references stays book = record {
   agent_is = book.agent_is;
   styles_are = book.styles_are ∙ ap (λ (tree : Forest (Keyed Node)). document_styles styles.sheet tree) (sym same);
   kept = λ settled. kept_where old.tree new.tree styles.sheet styles.sheet board.held other.held true true same refl held (book.kept settled);
   room = room_where old.tree new.tree board.room other.room same grown book.room;
   indexed = index_where old.tree new.tree index changed same answers book.indexed;
   refers = refers_where old.tree new.tree styles.sheet index changed same references book.refers;
-  unstarted_is = unstarted_where old.tree new.tree styles.sheet unstarted same book.unstarted_is;
+  counted = counted_where old.tree new.tree styles.sheet again same (stays (record { tree = old.tree; sheet = styles.sheet }) book.counted);
   back = tt;
   keys = still book.keys;
 }

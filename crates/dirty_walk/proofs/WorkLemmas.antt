@@ -33,6 +33,8 @@ use Rattle.styled_merge.specs.ReachStops.{reach_stops}
 use Rattle.styled_merge.specs.StyledMerges.{styled_merge}
 use Rattle.styled_merge.proofs.LawLemmas.{styled_merges_keep_shape}
 use Rattle.edit_work.specs.KeyedSources.{KeyedSource}
+use Rattle.started_walk.specs.declared.counting.Counting.{Counting}
+use Rattle.target_index.specs.declared.index.Index.{Index}
 use Rattle.edit_work.specs.Laws.{Leads}
 use Rattle.edit_work.specs.ReachedLaws.{PaysForReachedWalks}
 use Rattle.edit_work.specs.Work.{edit_reach, walk_work, work}
@@ -44,12 +46,12 @@ use Rattle.dirty_walk.specs.declared.local_stops.LocalStops.{LocalStops}
 use Rattle.dirty_walk.specs.DocumentStyles.{document_styles}
 use Rattle.kept_elements.specs.Evaluations.{document_kept}
 use Rattle.dirty_walk.specs.declared.read_ahead.ReadAhead.{ReadAhead}
-use Rattle.dirty_walk.specs.FormerTargets.{AreFormerTargetsOf}
-use Rattle.dirty_walk.specs.PlaceNews.{IsWithinPlaceOf}
-use Rattle.dirty_walk.specs.PlaceStyles.{StandsBefore}
+use Rattle.dirty_walk.specs.CountedEdits.{IsWithinEdit, IsWithinEditElements}
+use Rattle.dirty_walk.specs.Countings.{IsCounted, StandsCounted}
 use Rattle.dirty_walk.specs.Places.{place_budget, place_work}
+use Rattle.dirty_walk.specs.ReadAhead.{WasReadOf}
 use Rattle.dirty_walk.specs.Unstarted.{is_unstarted}
-use Rattle.dirty_walk.specs.WorkBounds.{IsWithinWork, StaysUnstarted}
+use Rattle.dirty_walk.specs.WorkBounds.{IsPaidByWork, IsUnstarted, IsWithinWork}
 use Rattle.dirty_walk.proofs.GoneLemmas.{gone-reached}
 use Rattle.dirty_walk.proofs.PlaceLemmas.{stands_there}
 
@@ -103,7 +105,7 @@ module _ (edit : Edit) (text next : List ℕ) (old new : Forest (Keyed Node)) (d
   unfolding work
   walk_within = omega arith
 
-  same_work : edit_reach edit before after ≢ All → place_work edit text old new ≡ work edit before after
+  pub same_work : edit_reach edit before after ≢ All → place_work edit text old new ≡ work edit before after
   same_work other = ap (λ (t : List ℕ). work edit before (record { tree = new; sheet = t })) (sym (same_sheet other))
 
   goes_where_reached : (taken : ℕ) → taken ≤ gone_count is_element (edit_merge edit old new) → taken ≤ gone_count is_element whole_merge
@@ -129,30 +131,65 @@ module _ (edit : Edit) (styles : DocumentStyles) (held : FinMap nat_cmp Kept) (o
   abbrev is : KeyedSource
   is = record { tree = new; sheet = next }
 
-  -- its steps are within the work of the edit, where it walks from the stops of the edit, or by all elements
-  pub within_work : (ahead : ReadAhead) → AreFormerTargetsOf edit old ahead.former.now → length ahead.takes.now ≤ gone_count is_element (edit_merge edit old new) → (from now taken total : ℕ)
-      → IfSome stops (λ _. is_unstarted (author_sheet styles.sheet old) old ≡ true)
-      → IfSome stops (λ local. local.extent ≡ reach (looks_beside styles.sheet old) old edit) → IfSome stops (λ local. local.extent ≢ All)
-      → IfSome stops (λ local. local.stops.items ≡ reach_stops local.extent edit 0 old)
-      → IfNone stops ((is_unstarted (author_sheet styles.sheet old) old ≡ false) ⊎ (reach (looks_beside styles.sheet old) old edit ≡ All))
-      → IfSome stops (λ local. IsWithinPlaceOf edit styles held local new ahead from now)
-      → taken ≤ gone_count is_element (edit_merge edit old new) → total ≤ now + taken → total ≤ from + (14 * element_count (without_keys new) + 3 * element_count (without_keys old))
-      → IsWithinWork edit was is from total
-  within_work ahead former takes from now taken total unstarted extent other stops_are none within goes sum few measured = elim measured [
-    | inl stays ↦ by stops stays unstarted extent other stops_are none within
-    | inr all ↦ everywhere edit styles.sheet next old new done next_is from total all few
-  ]
-    where
-      by : (found : Option LocalStops) → StaysUnstarted edit was is → IfSome found (λ _. is_unstarted (author_sheet styles.sheet old) old ≡ true)
-          → IfSome found (λ local. local.extent ≡ reach (looks_beside styles.sheet old) old edit) → IfSome found (λ local. local.extent ≢ All)
-          → IfSome found (λ local. local.stops.items ≡ reach_stops local.extent edit 0 old)
-          → IfNone found ((is_unstarted (author_sheet styles.sheet old) old ≡ false) ⊎ (reach (looks_beside styles.sheet old) old edit ≡ All))
-          → IfSome found (λ local. IsWithinPlaceOf edit styles held local new ahead from now) → total ≤ from + 24 * (work edit was is + 1)
-      by None stays unstarted extent other stops_are none within = elim none [
-        | inl starts ↦ absurd (true≢false (sym stays.was ∙ starts))
-        | inr all ↦ everywhere edit styles.sheet next old new done next_is from total all few
-      ]
-      by (Some local) stays unstarted extent other stops_are none within =
-          let there : StandsBefore edit styles held local new = stands_there edit styles held old new styles_are done kept local unstarted extent other stops_are in
-          at_place edit styles.sheet next old new done next_is from now (length ahead.takes.now) taken total there.at.local
-          (within (ap (λ (text : List ℕ). is_unstarted (author_sheet text new) new) (sym next_is) ∙ stays.is) there former) takes goes sum
+  -- an edit by which the document does not begin to ask for starts
+  abbrev BeginsNoStarts : Type 0
+  BeginsNoStarts = IsUnstarted was → IsUnstarted is
+
+  begins_none : IsPaidByWork edit was is → BeginsNoStarts ⊎ (edit_reach edit was is ≡ All)
+  begins_none (inl stays) = inl (λ _. stays.is)
+  begins_none (inr (inl started)) = inl (λ unstarted. absurd (true≢false (sym unstarted ∙ started)))
+  begins_none (inr (inr all)) = inr all
+
+  -- the stops of the edit, where it does not reach everywhere
+  record AreItsStops (found : Option LocalStops) : Type 0 where
+    extent : IfSome found (λ local. local.extent ≡ reach (looks_beside styles.sheet old) old edit)
+    other : IfSome found (λ local. local.extent ≢ All)
+    stops_are : IfSome found (λ local. local.stops.items ≡ reach_stops local.extent edit 0 old)
+
+  module _ (ahead : ReadAhead) (index : Index) (read : WasReadOf edit (author_sheet styles.sheet old) old ahead index) (counting : Option Counting) (counted : IsCounted was counting)
+      (extent : IfSome stops (λ local. local.extent ≡ reach (looks_beside styles.sheet old) old edit)) (other : IfSome stops (λ local. local.extent ≢ All))
+      (stops_are : IfSome stops (λ local. local.stops.items ≡ reach_stops local.extent edit 0 old)) where
+    -- the book stands where the edit's walk may begin
+    abbrev there : (local : LocalStops) → AreItsStops (Some local) → StandsCounted edit styles held local new ahead index counting
+    there local are = record {
+      stands = record { before = stands_there edit styles held old new styles_are done kept local are.extent are.other are.stops_are; read = read };
+      counted = counted;
+    }
+
+    are : AreItsStops stops
+    are = record { extent = extent; other = other; stops_are = stops_are }
+
+    pub stands_counted : IfSome stops (λ local. StandsCounted edit styles held local new ahead index counting)
+    stands_counted = by stops are
+      where
+        by : (found : Option LocalStops) → AreItsStops found → IfSome found (λ local. StandsCounted edit styles held local new ahead index counting)
+        by None it = tt
+        by (Some local) it = there local it
+
+    -- its steps are within the work of the edit, where it walks from the stops of the edit, or by all elements
+    pub within_work : (from now taken total : ℕ) → IfNone stops (reach (looks_beside styles.sheet old) old edit ≡ All) → IfSome stops (λ local. IsWithinEdit edit styles held local new ahead index counting from now)
+        → taken ≤ length ahead.takes.now → total ≤ now + taken → total ≤ from + (14 * element_count (without_keys new) + 3 * element_count (without_keys old))
+        → IsWithinWork edit was is from total
+    within_work from now taken total none within took sum few paid = elim (begins_none paid) [
+      | inl begins ↦ by stops are begins none within
+      | inr all ↦ everywhere edit styles.sheet next old new done next_is from total all few
+    ]
+      where
+        by : (found : Option LocalStops) → AreItsStops found → BeginsNoStarts → IfNone found (reach (looks_beside styles.sheet old) old edit ≡ All)
+            → IfSome found (λ local. IsWithinEdit edit styles held local new ahead index counting from now) → total ≤ from + 24 * (work edit was is + 1)
+        by None it begins none within = everywhere edit styles.sheet next old new done next_is from total none few
+        by (Some local) it begins none within =
+            let same : place_work edit styles.sheet old new ≡ work edit was is = same_work edit styles.sheet next old new done next_is (there local it).stands.before.at.local in
+            let paid : now + length ahead.takes.now ≤ from + 24 * (place_work edit styles.sheet old new + 1) =
+            within (there local it) (λ unstarted. ap (λ (text : List ℕ). is_unstarted (author_sheet text new) new) (sym next_is) ∙ begins unstarted) in
+            omega (arith, same, paid, took, sum)
+
+    -- and they are within the elements of both documents
+    pub within_elements : (from now : ℕ) → IfSome stops (λ local. IsWithinEditElements edit styles held local new ahead index counting from now)
+        → IfNone stops (now ≤ from + 7 * element_count (without_keys new)) → now ≤ from + (11 * element_count (without_keys new) + element_count (without_keys old))
+    within_elements from now some none = by stops are some none
+      where
+        by : (found : Option LocalStops) → AreItsStops found → IfSome found (λ local. IsWithinEditElements edit styles held local new ahead index counting from now)
+            → IfNone found (now ≤ from + 7 * element_count (without_keys new)) → now ≤ from + (11 * element_count (without_keys new) + element_count (without_keys old))
+        by None it some none = omega (arith, none)
+        by (Some local) it some none = some (there local it)

@@ -8,6 +8,8 @@ use Rattle.forest.specs.Keys.{Keyed, coded_keyed}
 use Rattle.plain_types.specs.declared.node.Node.{Node}
 use Rattle.plain_types.specs.declared.sheet.Sheet.{Sheet}
 use Rattle.generated_texts.specs.StyleElements.{author_sheet}
+use Rattle.edit_work.specs.KeyedSources.{KeyedSource}
+use Rattle.started_walk.specs.declared.counting.Counting.{Counting}
 use Rattle.node_arena.specs.declared.reversal.Reversal.{Reversal}
 use Rattle.node_arena.specs.Document.{Document}
 use Rattle.node_arena.specs.Nodes.{name_of}
@@ -21,10 +23,10 @@ use Rattle.target_index.specs.declared.index.Index.{Index}
 use Rattle.dirty_walk.specs.declared.document_styles.DocumentStyles.{DocumentStyles}
 use Rattle.kept_elements.specs.declared.kept.Kept.{Kept}
 use Rattle.kept_elements.specs.Changes.{entry_at}
+use Rattle.dirty_walk.specs.Countings.{IsCounted}
 use Rattle.dirty_walk.specs.DocumentStyles.{document_styles}
 use Rattle.kept_elements.specs.Evaluations.{document_kept, evaluated_document}
 use Rattle.referring_elements.specs.Indexes.{IsIndexOf, TellsReferences}
-use Rattle.dirty_walk.specs.Unstarted.{is_unstarted}
 
 -- a document whose nodes have keys, the text of its style sheet, whether they are settled, which is that no edit is
 -- planned, and what is kept of the document's elements under their keys
@@ -42,6 +44,10 @@ coded_styled_document node kept =
     (λ styled. (styled.tree, (styled.sheet, (styled.settled, styled.kept))))
     (λ (tree, rest). record { tree = tree; sheet = rest.0; settled = rest.1.0; kept = rest.1.1 })
     (λ _. refl)
+
+-- the document of a book and the text of its sheet
+abbrev pub keyed_source : StyledDocument → KeyedSource
+keyed_source styled = record { tree = styled.tree; sheet = styled.sheet }
 
 -- the entry of the element of this key by a fresh evaluation; a text has none
 abbrev pub fresh_entry : StyledDocument → ℕ → Option NodeEntry
@@ -70,15 +76,15 @@ HasRoomFor room document = (key : ℕ) → IsSome (name_of document key) → key
 
 -- A book stands for its arena's tree, its sheet's text, what its board holds, and whether no edit is planned. It has the
 -- user agent's sheet, that document's styles and the index of its ids and references, room for what is kept of its elements,
--- and knows whether any of these asks for the start of a reversed counter. A settled one keeps what a fresh evaluation does, and
--- uses the keys of its nodes alone; an edit that is planned can be taken back.
-pub record IsBook (arena : Document) (agent : Sheet) (styles : DocumentStyles) (board : Records Kept) (index : Index) (unstarted : Bool) (planned : Option Reversal) (styled : StyledDocument) : Type 0 where
+-- and, where one of these asks for the start of a reversed counter, what is kept for the two walks of an edit. A settled one keeps
+-- what a fresh evaluation does, and uses the keys of its nodes alone; an edit that is planned can be taken back.
+pub record IsBook (arena : Document) (agent : Sheet) (styles : DocumentStyles) (board : Records Kept) (index : Index) (counting : Option Counting) (planned : Option Reversal) (styled : StyledDocument) : Type 0 where
   pub agent_is : agent ≡ agent_sheet
   pub styles_are : styles ≡ document_styles styled.sheet styled.tree
   pub kept : styled.settled ≡ true → KeepsAll styled
   pub room : HasRoomFor board.room styled.tree
   pub indexed : IsIndexOf index styled.tree
   pub refers : TellsReferences index (evaluated_document (author_sheet styled.sheet styled.tree) styled.tree)
-  pub unstarted_is : unstarted ≡ is_unstarted (author_sheet styled.sheet styled.tree) styled.tree
+  pub counted : IsCounted (keyed_source styled) counting
   pub back : IfSome planned (λ reversal. IsReversal arena reversal)
   pub keys : UsesItsKeys arena planned

@@ -3,6 +3,7 @@ use Rattle.std.specs.Prelude.{ℕ, Bool, List}
 use Rattle.plain_types.specs.declared.sheet.Sheet.{Sheet}
 use Rattle.node_arena.specs.Edits.{edited_sheet}
 use Rattle.generated_texts.specs.StyleElements.{author_sheet}
+use Rattle.edit_work.specs.KeyedSources.{KeyedSource}
 use Rattle.dirty_walk.specs.declared.document_styles.DocumentStyles.{DocumentStyles}
 use Rattle.dirty_walk.specs.declared.edited_arena.EditedArena.{EditedArena}
 use Rattle.kept_elements.specs.declared.kept.Kept.{Kept}
@@ -15,6 +16,9 @@ module _ (document : EditedArena) where
   -- the text of the sheet
   abbrev pub sheet_after : List ℕ
   sheet_after = edited_sheet document.edit.now document.styles.now.sheet
+
+  abbrev pub source_after : KeyedSource
+  source_after = record { tree = document.arena.now.tree; sheet = sheet_after }
 
   abbrev pub author_after : Sheet
   author_after = author_sheet sheet_after document.arena.now.tree

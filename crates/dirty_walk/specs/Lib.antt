@@ -1,5 +1,8 @@
 pub mod Books
+pub mod CountedEdits
+pub mod Countings
 pub mod DocumentStyles
+pub mod DocumentWalks
 pub mod EditedArenas
 pub mod Exchanges
 pub mod FormerTargets
@@ -14,5 +17,8 @@ pub mod PlannedEntries
 pub mod Plans
 pub mod ReadAhead
 pub mod ReferenceExchanges
+pub mod SecondWalks
+pub mod SomeNews
+pub mod StartedSteps
 pub mod Unstarted
 pub mod WorkBounds

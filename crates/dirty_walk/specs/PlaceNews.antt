@@ -4,24 +4,18 @@ use Rattle.std.specs.FinMap.{FinMap}
 use Rattle.std.specs.Ordering.{nat_cmp}
 use Rattle.forest.specs.Forest.{Forest}
 use Rattle.forest.specs.Keys.{Keyed}
-use Rattle.plain_types.specs.declared.edit.Edit.{Edit}
 use Rattle.plain_types.specs.declared.node.Node.{Node}
-use Rattle.node_arena.specs.Edits.{edited_sheet}
-use Rattle.generated_texts.specs.StyleElements.{author_sheet}
 use Rattle.merged_walk.specs.declared.stop.Stop.{Stop}
 use Rattle.surroundings.specs.declared.told.Told.{Told}
 use Rattle.document_walk.specs.CatchingUp.{AreAllAmong, CoversAll}
 use Rattle.kept_elements.specs.declared.kept.Kept.{Kept}
 use Rattle.kept_elements.specs.News.{AreNewsOf}
-use Rattle.dirty_walk.specs.declared.document_styles.DocumentStyles.{DocumentStyles}
-use Rattle.dirty_walk.specs.declared.local_stops.LocalStops.{LocalStops}
 use Rattle.dirty_walk.specs.declared.read_ahead.ReadAhead.{ReadAhead}
 use Rattle.dirty_walk.specs.declared.styled_arena.StyledArena.{StyledArena}
 use Rattle.dirty_walk.specs.FormerTargets.{AreFormerTargetsOf}
 use Rattle.dirty_walk.specs.PlaceReadings.{read_of}
-use Rattle.dirty_walk.specs.PlaceStyles.{StandsBefore}
 use Rattle.dirty_walk.specs.Places.{IsSomePlace, place_budget, place_work, walked_at}
-use Rattle.dirty_walk.specs.Unstarted.{are_unstarted, is_unstarted}
+use Rattle.dirty_walk.specs.Unstarted.{are_unstarted}
 
 -- A walk from these stops has told of a document, no element of which it told asks for the start of a reversed counter, and these
 -- are the news of what it told.
@@ -36,21 +30,9 @@ pub record AreNewsFrom (document : StyledArena) (held : FinMap nat_cmp Kept) (st
 -- ids named.
 
 module _ (text : List ℕ) (held : FinMap nat_cmp Kept) (stops : List Stop) (new : Forest (Keyed Node)) (ahead : ReadAhead) where
-  -- Between one number of steps and another is no more than one for each element that goes, and 4 for each unit of the edit's work.
-  abbrev pub IsWithinNews : (before now : ℕ) → Type 0
-  IsWithinNews before now =
-      (place : IsSomePlace text held stops new) → AreFormerTargetsOf place.edit place.old ahead.former.now
-      → now ≤ before + (length ahead.takes.now + 4 * place_work place.edit text place.old new)
-
-  -- and no more than a walk from the edit's place takes, beside these
+  -- Between one number of steps and another is no more than a walk from the edit's place takes, one for each element that goes, and 4
+  -- for each unit of the edit's work.
   abbrev pub IsWithinPlace : (before now : ℕ) → Type 0
   IsWithinPlace before now =
       (place : IsSomePlace text held stops new) → AreFormerTargetsOf place.edit place.old ahead.former.now
       → now ≤ before + (place_budget place.edit text place.old new + (length ahead.takes.now + 4 * place_work place.edit text place.old new))
-
--- The same of this edit, where no element of the edited document asks for the start of a reversed counter.
-abbrev pub IsWithinPlaceOf : Edit → DocumentStyles → FinMap nat_cmp Kept → LocalStops → Forest (Keyed Node) → ReadAhead → (before now : ℕ) → Type 0
-IsWithinPlaceOf edit styles held local new ahead before now =
-    is_unstarted (author_sheet (edited_sheet edit styles.sheet) new) new ≡ true
-    → (there : StandsBefore edit styles held local new) → AreFormerTargetsOf edit there.old ahead.former.now
-    → now ≤ before + (place_budget edit styles.sheet there.old new + (length ahead.takes.now + 4 * place_work edit styles.sheet there.old new))

@@ -29,25 +29,26 @@ use Rattle.kept_elements.specs.declared.kept.Kept.{Kept}
 use Rattle.kept_elements.specs.Evaluations.{document_kept}
 use Rattle.dirty_walk.specs.Unstarted.{is_unstarted}
 
--- A document has become another by an edit that does not change styles everywhere, so the text of the sheet stays. The
--- first asked for no start of a reversed counter, and this is kept of it.
+-- A document has become another by an edit that does not change styles everywhere, so the text of the sheet stays, and this is
+-- kept of the first.
 pub record IsLocalEdit (edit : Edit) (text : List ℕ) (held : FinMap nat_cmp Kept) (old new : Forest (Keyed Node)) : Type 0 where
   pub done : IsDone edit old new
   pub local : reach (looks_beside text old) old edit ≢ All
   pub kept : (key : ℕ) → get held key ≡ kept_at (document_kept (author_sheet text old) old) key
-  pub unstarted : is_unstarted (author_sheet text old) old ≡ true
 
 -- the merge of an edit where what it reaches goes and comes, with the styles of both documents and all starts 0
 abbrev pub place_merge : Edit → List ℕ → (old new : Forest (Keyed Node)) → Merge StyledNode
 place_merge edit text old new =
     styled_merge (style_beside text old) (style_beside text new) no_starts no_starts None (reached_merge (looks_beside text old) edit old new)
 
--- some edit by which a document has become this one so, and of which these are the stops
+-- Some edit by which a document has become this one so, and of which these are the stops. The document asked for no start of a
+-- reversed counter before.
 pub record IsSomePlace (text : List ℕ) (held : FinMap nat_cmp Kept) (stops : List Stop) (new : Forest (Keyed Node)) : Type 0 where
   pub edit : Edit
   pub old : Forest (Keyed Node)
   pub at : IsLocalEdit edit text held old new
   pub stops_are : stops ≡ stops_where (looks_beside text old) edit old new
+  pub unstarted : is_unstarted (author_sheet text old) old ≡ true
 
 -- the most steps of a walk over that merge, with one for each record that it finds
 abbrev pub place_budget : Edit → List ℕ → (old new : Forest (Keyed Node)) → ℕ

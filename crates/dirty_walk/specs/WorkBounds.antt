@@ -1,30 +1,31 @@
 -- How the work of an edit bounds the steps that a book takes for it (our own).
-use Rattle.std.specs.Prelude.{◌≡◌, ◌≤◌, ◌+◌, ◌*◌, ◌⊎◌, ℕ, true}
+use Rattle.std.specs.Prelude.{◌≡◌, ◌≤◌, ◌+◌, ◌*◌, ◌⊎◌, ℕ, true, false}
 use Rattle.plain_types.specs.declared.edit.Edit.{Edit}
 use Rattle.style_reach.specs.declared.extent.Reach.TheVariants.{All}
 use Rattle.edit_work.specs.KeyedSources.{KeyedSource, author}
 use Rattle.edit_work.specs.Laws.{Leads}
 use Rattle.edit_work.specs.Work.{edit_reach, work}
-use Rattle.dirty_walk.specs.Books.{StyledDocument}
 use Rattle.dirty_walk.specs.Unstarted.{is_unstarted}
-
--- the document of a book and the text of its sheet
-abbrev pub keyed_source : StyledDocument → KeyedSource
-keyed_source styled = record { tree = styled.tree; sheet = styled.sheet }
 
 -- no element of a document asks for the start of a reversed counter
 abbrev pub IsUnstarted : KeyedSource → Type 0
 IsUnstarted source = is_unstarted (author source) source.tree ≡ true
 
+-- and one does
+abbrev pub IsStarted : KeyedSource → Type 0
+IsStarted source = is_unstarted (author source) source.tree ≡ false
+
 module _ (edit : Edit) (before after : KeyedSource) where
-  -- so it is before an edit and after it
+  -- none does before an edit and after it
   pub record StaysUnstarted : Type 0 where
     pub was : IsUnstarted before
     pub is : IsUnstarted after
 
-  -- The edits whose work pays for their steps: such an edit, or one that can change styles everywhere.
+  -- The edits whose work pays for their steps: such an edit, one of a document in which an element asks for a start already, or one
+  -- that can change styles everywhere. So it is every edit but those by which a document begins to ask for starts, and which do
+  -- not reach everywhere.
   abbrev pub IsPaidByWork : Type 0
-  IsPaidByWork = StaysUnstarted ⊎ (edit_reach edit before after ≡ All)
+  IsPaidByWork = StaysUnstarted ⊎ (IsStarted before ⊎ (edit_reach edit before after ≡ All))
 
   -- Where the edit is such a one: between one number of steps and another are at most 24 for each unit of its work, and 24
   -- more.

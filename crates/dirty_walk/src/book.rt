@@ -1,6 +1,6 @@
 //! A document and its sheet, evaluated.
 
-ghost use Rattle.std.specs.Prelude.{◌≡◌, ◌≢◌, ◌≤◌, ◌+◌, ◌*◌, ◌⊎◌, true, false, Some, None, IfNone, IfSome, IsSome, length, unwrap_or, IfOk, OnErr, option_copied};
+ghost use Rattle.std.specs.Prelude.{◌≡◌, ◌≢◌, ◌≤◌, ◌+◌, ◌*◌, true, false, Some, None, IfNone, IfSome, IsSome, length, unwrap_or, IfOk, OnErr, option_copied};
 ghost use Rattle.std.specs.Str.{chars};
 ghost use Rattle.forest.specs.Keys.{without_keys};
 ghost use Rattle.node_arena.specs.Document.{HasElementRoot};
@@ -17,14 +17,13 @@ ghost use Rattle.style_reach.specs.declared.extent.Reach.TheVariants as reaches;
 ghost use Rattle.styled_merge.specs.Laws.{looks_beside};
 ghost use Rattle.styled_merge.specs.ReachStops.{reach_stops};
 ghost use Rattle.kept_elements.specs.Changes.{entry_at};
-ghost use Rattle.dirty_walk.specs.Books.{fresh_entry, Keeps};
+ghost use Rattle.dirty_walk.specs.Books.{fresh_entry, Keeps, keyed_source};
 ghost use Rattle.dirty_walk.specs.DocumentStyles.{document_styles};
 ghost use Rattle.dirty_walk.specs.Exchanges.{elements_in, leaving, taken_keys};
 ghost use Rattle.dirty_walk.specs.FormerTargets.{AreFormerTargetsOf};
 ghost use Rattle.dirty_walk.specs.FreshPieces.{fresh_pieces};
 ghost use Rattle.dirty_walk.specs.Plans.{settled_after, IsPlannedBy, plan_size};
-ghost use Rattle.dirty_walk.specs.Unstarted.{is_unstarted};
-ghost use Rattle.dirty_walk.specs.WorkBounds.{IsWithinWork, StopsWithinWork, keyed_source};
+ghost use Rattle.dirty_walk.specs.WorkBounds.{IsWithinWork, StopsWithinWork};
 
 use crate::board::{put_changes, take_entries};
 use crate::document_styles::DocumentStyles;
@@ -57,6 +56,7 @@ use plain_types::tree::Tree;
 use referring_elements::former::FormerTarget;
 use referring_elements::holders::first_holder;
 use snapshot_board::board::Board;
+use started_walk::counting::Counting;
 use std::alloc::Global;
 use std::marker::Model;
 use std::sync::ledger::Ledger;
@@ -76,8 +76,8 @@ pub struct Book {
     board: Board<Kept>,
     /// The index of the ids and the references of its elements.
     index: Index,
-    /// Whether no box of the document asks for the start of a reversed counter.
-    is_unstarted: bool,
+    /// What is kept for the two walks of an edit, where a box of the document asks for the start of a reversed counter.
+    counting: Option<Counting>,
     /// The way back from an edit that is planned.
     planned: Option<Reversal>,
 }
@@ -90,7 +90,7 @@ impl Drop for Book {
             styles: _,
             board: _,
             index: _,
-            is_unstarted: _,
+            counting: _,
             planned: _,
         } = self;
     }
@@ -108,7 +108,7 @@ impl Model for Book {
 
     ghost view = { λ book. record { tree = book.arena.tree; sheet = book.styles.sheet; settled = is_none book.planned; kept = book.board.held } };
 
-    ghost invariant = { λ book. IsBook book.arena book.agent book.styles book.board book.index book.is_unstarted book.planned (record { tree = book.arena.tree; sheet = book.styles.sheet; settled = is_none book.planned; kept = book.board.held }) };
+    ghost invariant = { λ book. IsBook book.arena book.agent book.styles book.board book.index book.counting book.planned (record { tree = book.arena.tree; sheet = book.styles.sheet; settled = is_none book.planned; kept = book.board.held }) };
 }
 
 /// An arena that stands for a document, whose tree is let go.
@@ -184,7 +184,7 @@ impl Book {
         let Fresh {
             kept: board,
             index,
-            is_unstarted,
+            counting,
         } = fresh_board(alloc, &arena, &agent, &styles, steps)?;
         Ok(Book {
             arena,
@@ -192,7 +192,7 @@ impl Book {
             styles,
             board,
             index,
-            is_unstarted,
+            counting,
             planned: None,
         })
     }
@@ -204,22 +204,14 @@ impl Book {
         ensures gone { IfOk result (λ ahead. ahead.gone ≡ elements_in (leaving edit.now self.now.tree)) }
         ensures takes { IfOk result (λ ahead. ahead.takes ≡ taken_keys edit.now (elements_in (leaving edit.now self.now.tree))) }
         ensures former { IfOk result (λ ahead. AreFormerTargetsOf edit.now self.now.tree ahead.former) }
-        ensures unstarted { IfOk result (λ ahead. IfSome ahead.stops (λ _. is_unstarted (author_sheet self.now.sheet self.now.tree) self.now.tree ≡ true)) }
         ensures extent { IfOk result (λ ahead. IfSome ahead.stops (λ local. local.extent ≡ reach (looks_beside self.now.sheet self.now.tree) self.now.tree edit.now)) }
         ensures local { IfOk result (λ ahead. IfSome ahead.stops (λ local. local.extent ≢ reaches.All)) }
         ensures stops { IfOk result (λ ahead. IfSome ahead.stops (λ local. local.stops.items ≡ reach_stops local.extent edit.now 0 self.now.tree)) }
-        ensures none { IfOk result (λ ahead. IfNone ahead.stops ((is_unstarted (author_sheet self.now.sheet self.now.tree) self.now.tree ≡ false) ⊎ (reach (looks_beside self.now.sheet self.now.tree) self.now.tree edit.now ≡ reaches.All))) }
+        ensures none { IfOk result (λ ahead. IfNone ahead.stops (reach (looks_beside self.now.sheet self.now.tree) self.now.tree edit.now ≡ reaches.All)) }
     {
         let gone = leaving_elements(alloc, &self.arena, edit)?;
         let takes = taken_keys(alloc, edit, gone.as_slice())?;
-        let stops = stops_at_place(
-            alloc,
-            &self.arena,
-            &self.agent,
-            &self.styles.author,
-            self.is_unstarted,
-            edit,
-        )?;
+        let stops = stops_at_place(alloc, &self.arena, &self.agent, &self.styles.author, edit)?;
         let former = former_targets(alloc, &self.arena, &self.index, edit, gone.as_slice())?;
         Ok(Ahead {
             gone,
@@ -232,15 +224,16 @@ impl Book {
     /// Makes ready for an edit that the document allows. The document and its styles are then the edited ones, and all
     /// memory is taken that `commit` needs; `Memory` where that is wanting, and then the book is as before.
     ///
-    /// Where no box of the document asks for the start of a reversed counter, before the edit and after it, only what the
-    /// edit touches is evaluated, and the elements whose styles it can change; and the texts are made again of the elements that
-    /// refer to any of these, or to an id that names another element now, and of those that refer to such ones. Else, and where
-    /// it can change all styles, the edited document is evaluated whole, which costs what `begin` costs, and may come on top of a
-    /// walk that found such a box; where the texts of the sheet and of the style elements are as before, none is read. Beside
-    /// that come the arena's `prepare` and `commit`.
+    /// Only what the edit touches is evaluated, and the elements whose styles it can change; and the texts are made again of the
+    /// elements that refer to any of these, or to an id that names another element now, and of those that refer to such ones. Where
+    /// a box of the document asks for the start of a reversed counter before the edit, two walks do this: one with all starts 0, and
+    /// one with the starts of the edited document, which also goes to the elements whose starts are others. Where the edit can
+    /// change all styles, and where no box asked for a start before it and one does after it, the edited document is evaluated
+    /// whole, which costs what `begin` costs, and comes on top of the walk that found such a box; where the texts of the sheet and
+    /// of the style elements are as before, none is read. Beside that come the arena's `prepare` and `commit`.
     /// What is as before stays where it is, and with it what it has in memory. With those of `commit`, and with one more for each
-    /// entry that comes, its steps are bounded by the work of the edit, where no box of the document asks for such a start before
-    /// the edit and after it, and where the edit can change all styles; so are its own where it answers `Memory`.
+    /// entry that comes, its steps are bounded by the work of the edit, except where by the edit a document begins to ask for starts
+    /// and the edit can't change all styles; so are its own where it answers `Memory`.
     pub fn plan<L: Ledger>(
         &mut self,
         alloc: Global,
@@ -284,17 +277,18 @@ impl Book {
         let gone = gone.as_slice();
         let index = &mut self.index;
         let board = &mut self.board;
-        match evaluated(alloc, &document, &ahead, index, board, gone, stops, steps) {
+        let counting = &mut self.counting;
+        match evaluated(
+            alloc, &document, &ahead, index, board, counting, gone, stops, steps,
+        ) {
             Ok(made) => {
                 let Renewal {
                     styles,
                     index,
                     changes,
-                    is_unstarted,
                 } = made;
                 replace_styles(&mut self.styles, styles);
                 replace_index(&mut self.index, index);
-                self.is_unstarted = is_unstarted;
                 self.planned = Some(reversal);
                 Ok(Plan {
                     puts: changes,

@@ -2,36 +2,38 @@
 
 ghost use Rattle.std.specs.Prelude.{◌≡◌, ◌≤◌, ◌+◌, ◌*◌, length, IfOk, OnOk};
 ghost use Rattle.forest.specs.Keys.{without_keys};
-ghost use Rattle.mini_cascade.specs.Styles.{element_style};
-ghost use Rattle.box_eval.specs.Evaluation.{all_changes, styled};
-ghost use Rattle.box_eval.specs.Starts.{no_starts};
 ghost use Rattle.generated_texts.specs.References.{known_targets, known_to_flat_texts};
+ghost use Rattle.generated_texts.specs.StyleElements.{author_sheet};
 ghost use Rattle.document_walk.specs.Elements.{element_count};
 ghost use Rattle.snapshot_board.specs.Records.{put_all};
 ghost use Rattle.kept_elements.specs.Changes.{AreBelow, AreChanges};
-ghost use Rattle.kept_elements.specs.Evaluations.{all_kept_of, said_of, told_of};
+ghost use Rattle.kept_elements.specs.Evaluations.{all_kept_of, document_told, said_of};
 ghost use Rattle.referring_elements.specs.Indexes.{IsIndexOf};
 ghost use Rattle.kept_elements.specs.Known.{IsKeptIn, all_flat_texts_of, known_by};
+ghost use Rattle.dirty_walk.specs.Countings.{IsCounted};
+ghost use Rattle.dirty_walk.specs.DocumentWalks.{told_by_index, told_without_starts};
 
 use crate::named_elements::NamedElements;
+use crate::styled_arena::StyledArena;
 use crate::targets::DocumentTargets;
-use box_eval::change::Change;
-use box_eval::changed_starts::ChangedStarts;
+use crate::unstarted::are_unstarted;
 use box_eval::starts::NoStarts;
 use content_eval::laws::no_reference_is_circular;
-use document_walk::evaluate::{Evaluated, evaluate, tell_all};
+use counter_index::index::CounterIndex;
+use document_walk::evaluate::tell_all;
 use document_walk::sources::Sources;
 use kept_elements::by_key::by_key;
 use kept_elements::flat_texts::{FlatTexts, all_flat_texts};
 use kept_elements::kept::Kept;
 use kept_elements::kept_change::KeptChange;
 use kept_elements::node_texts::{changed_entries, put_entries};
-use mini_cascade::rule_table::RuleTable;
 use node_arena::arena::Arena;
+use node_arena::laws::arena_holds_document;
 use plain_types::list::List;
 use plain_types::memory::Memory;
 use plain_types::table::Table;
 use snapshot_board::board::Board;
+use started_walk::counting::Counting;
 use std::alloc::Global;
 use std::collections::HashMap;
 use std::sync::ledger::Ledger;
@@ -39,74 +41,101 @@ use steps::Steps;
 use surroundings::told::Told;
 use target_index::index::Index;
 
+/// What the evaluation tells of a document's elements, and what is kept for the two walks of an edit of it.
+#[derive(Drop)]
+pub(crate) struct ToldDocument {
+    /// What is told of each element, under its key.
+    pub(crate) told: List<(usize, Told)>,
+    /// Where a box asks for the start of a reversed counter.
+    pub(crate) counting: Option<Counting>,
+}
+
+/// What a walk with all starts 0 tells of a document's elements.
+fn told_without_starts<L: Ledger>(
+    alloc: Global,
+    document: &StyledArena,
+    steps: &mut Steps<L>,
+) -> Result<List<(usize, Told)>, Memory>
+    ensures told { IfOk result (λ told. told ≡ told_without_starts document.now) }
+    ensures steps { steps.new ≤ steps.old + 3 * element_count (without_keys document.now.arena.now.tree) }
+{
+    let sources = Sources {
+        arena: document.arena,
+        agent: document.agent,
+        author: &document.styles.author,
+        table: &document.styles.table,
+        starts: &NoStarts,
+    };
+    let told = tell_all(alloc, &sources, steps)?;
+    Ok(told)
+}
+
+/// What a walk with the starts of this index tells of them.
+fn told_by_index<L: Ledger>(
+    alloc: Global,
+    document: &StyledArena,
+    index: &CounterIndex,
+    steps: &mut Steps<L>,
+) -> Result<List<(usize, Told)>, Memory>
+    ensures told { IfOk result (λ told. told ≡ told_by_index document.now index.now) }
+    ensures steps { steps.new ≤ steps.old + 3 * element_count (without_keys document.now.arena.now.tree) }
+{
+    let sources = Sources {
+        arena: document.arena,
+        agent: document.agent,
+        author: &document.styles.author,
+        table: &document.styles.table,
+        starts: index,
+    };
+    let told = tell_all(alloc, &sources, steps)?;
+    Ok(told)
+}
+
+/// What is to be kept for both walks of an edit, of a document of whose elements a walk with all starts 0 has told this: nothing
+/// where none of them asks for the start of a reversed counter.
+fn counting_of(
+    alloc: Global,
+    document: &StyledArena,
+    told: &[(usize, Told)],
+) -> Result<Option<Counting>, Memory>
+    requires told { told.now ≡ told_without_starts document.now }
+    ensures counted { IfOk result (λ counting. IsCounted (record { tree = document.now.arena.now.tree; sheet = document.now.styles.now.sheet }) counting) }
+{
+    if are_unstarted(told) {
+        return Ok(None);
+    }
+    let counting = Counting::of(alloc, document.arena, told)?;
+    Ok(Some(counting))
+}
+
 /// What the evaluation tells of a document's elements. One walk, with every start at 0, tells it where no box asks for the
 /// start of a reversed counter. Else that walk tells the starts, and a second one goes with them.
 pub(crate) fn document_told<L: Ledger>(
     alloc: Global,
-    arena: &Arena,
-    agent: &RuleTable,
-    author: &RuleTable,
-    table: &Table,
+    document: &StyledArena,
     steps: &mut Steps<L>,
-) -> Result<List<(usize, Told)>, Memory>
-    ensures told { IfOk result (λ told. told ≡ told_of table.now (element_style arena.now.tree agent.now author.now) arena.now.tree) }
-    ensures steps { steps.new ≤ steps.old + 6 * element_count (without_keys arena.now.tree) }
+) -> Result<ToldDocument, Memory>
+    ensures told { IfOk result (λ made. made.told ≡ document_told (author_sheet document.now.styles.now.sheet document.now.arena.now.tree) document.now.arena.now.tree) }
+    ensures count { IfOk result (λ made. length made.told ≡ element_count (without_keys document.now.arena.now.tree)) }
+    ensures counted { IfOk result (λ made. IsCounted (record { tree = document.now.arena.now.tree; sheet = document.now.styles.now.sheet }) made.counting) }
+    ensures steps { steps.new ≤ steps.old + 6 * element_count (without_keys document.now.arena.now.tree) }
 {
-    let sources = Sources {
-        arena,
-        agent,
-        author,
-        table,
-        starts: &NoStarts,
+    arena_holds_document(document.arena);
+    let first = told_without_starts(alloc, document, steps)?;
+    let records = first.as_slice();
+    let Some(counting) = counting_of(alloc, document, records)? else {
+        return Ok(ToldDocument {
+            told: first,
+            counting: None,
+        });
     };
-    let first = evaluate(alloc, &sources, steps)?;
-    if first.asks {
-        // What it told is let go before the second walk tells it anew.
-        let changes = changes_alone(first);
-        return told_by(
-            alloc,
-            arena,
-            agent,
-            author,
-            table,
-            changes.as_slice(),
-            steps,
-        );
-    }
-    Ok(first.told)
-}
-
-/// What an evaluation says of counters, and no more.
-fn changes_alone(evaluated: Evaluated) -> List<Change>
-    ensures changes { result ≡ evaluated.changes }
-{
-    evaluated.changes
-}
-
-/// What the evaluation tells of a document's elements where their boxes do this to counters, which tells the starts.
-fn told_by<L: Ledger>(
-    alloc: Global,
-    arena: &Arena,
-    agent: &RuleTable,
-    author: &RuleTable,
-    table: &Table,
-    changes: &[Change],
-    steps: &mut Steps<L>,
-) -> Result<List<(usize, Told)>, Memory>
-    requires changes { changes.now ≡ all_changes table.now (styled (element_style arena.now.tree agent.now author.now) no_starts arena.now.tree) }
-    ensures told { IfOk result (λ told. told ≡ told_of table.now (element_style arena.now.tree agent.now author.now) arena.now.tree) }
-    ensures steps { steps.new ≤ steps.old + 3 * element_count (without_keys arena.now.tree) }
-{
-    let starts = ChangedStarts::of(alloc, changes)?;
-    let sources = Sources {
-        arena,
-        agent,
-        author,
-        table,
-        starts: &starts,
-    };
-    let told = tell_all(alloc, &sources, steps)?;
-    Ok(told)
+    // What the first walk told is let go before the second one tells it anew.
+    drop(first);
+    let told = told_by_index(alloc, document, &counting.index, steps)?;
+    Ok(ToldDocument {
+        told,
+        counting: Some(counting),
+    })
 }
 
 /// The flat texts of a document's elements, of which this is told.

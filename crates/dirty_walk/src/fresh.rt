@@ -1,23 +1,22 @@
 //! A fresh evaluation of a document under its styles.
 
-ghost use Rattle.std.specs.Prelude.{◌≡◌, ◌≤◌, ◌+◌, ◌*◌, true, length, IfOk};
+ghost use Rattle.std.specs.Prelude.{◌≡◌, ◌≤◌, ◌+◌, ◌*◌, true, IfOk};
 ghost use Rattle.forest.specs.Keys.{without_keys};
 ghost use Rattle.generated_texts.specs.Documents.{agent_sheet};
 ghost use Rattle.generated_texts.specs.StyleElements.{author_sheet};
 ghost use Rattle.document_walk.specs.Elements.{element_count};
 ghost use Rattle.dirty_walk.specs.Books.{HasRoomFor, KeepsAll};
+ghost use Rattle.dirty_walk.specs.Countings.{IsCounted};
 ghost use Rattle.kept_elements.specs.Changes.{AreBelow, Renews};
 ghost use Rattle.dirty_walk.specs.DocumentStyles.{document_styles};
-ghost use Rattle.kept_elements.specs.Evaluations.{document_kept, document_told, evaluated_document};
+ghost use Rattle.kept_elements.specs.Evaluations.{document_kept, evaluated_document};
 ghost use Rattle.referring_elements.specs.Indexes.{IsIndexOf, TellsReferences};
-ghost use Rattle.dirty_walk.specs.Unstarted.{is_unstarted};
 
 use crate::board::room_for;
 use crate::document_styles::DocumentStyles;
-use crate::evaluation::{document_changes, document_told, put_document_entries};
+use crate::evaluation::{ToldDocument, document_changes, document_told, put_document_entries};
 use crate::index::index_with;
 use crate::styled_arena::StyledArena;
-use crate::unstarted::are_unstarted;
 use css_reader::sheet::read_sheet;
 use kept_elements::kept::Kept;
 use kept_elements::kept_change::KeptChange;
@@ -25,13 +24,12 @@ use mini_cascade::agent_sheet::AGENT_SHEET;
 use mini_cascade::rule_table::RuleTable;
 use node_arena::arena::Arena;
 use node_arena::laws::arena_holds_document;
-use plain_types::list::List;
 use plain_types::memory::Memory;
 use snapshot_board::board::Board;
+use started_walk::counting::Counting;
 use std::alloc::Global;
 use std::sync::ledger::Ledger;
 use steps::Steps;
-use surroundings::told::Told;
 use target_index::index::Index;
 
 /// The user agent's style sheet.
@@ -41,28 +39,6 @@ pub(crate) fn agent_sheet(alloc: Global) -> Result<RuleTable, Memory>
     RuleTable::new(alloc, read_sheet(alloc, AGENT_SHEET)?)
 }
 
-/// What the evaluation tells of a document's elements.
-fn told_of<L: Ledger>(
-    alloc: Global,
-    document: &StyledArena,
-    steps: &mut Steps<L>,
-) -> Result<List<(usize, Told)>, Memory>
-    ensures told { IfOk result (λ told. told ≡ document_told (author_sheet document.now.styles.now.sheet document.now.arena.now.tree) document.now.arena.now.tree) }
-    ensures count { IfOk result (λ told. length told ≡ element_count (without_keys document.now.arena.now.tree)) }
-    ensures steps { steps.new ≤ steps.old + 6 * element_count (without_keys document.now.arena.now.tree) }
-{
-    arena_holds_document(document.arena);
-    let styles = document.styles;
-    document_told(
-        alloc,
-        document.arena,
-        document.agent,
-        &styles.author,
-        &styles.table,
-        steps,
-    )
-}
-
 /// What a fresh evaluation of a document makes.
 #[derive(Drop)]
 pub(crate) struct Fresh<K> {
@@ -70,8 +46,8 @@ pub(crate) struct Fresh<K> {
     pub(crate) kept: K,
     /// The index of their ids and references.
     pub(crate) index: Index,
-    /// Whether none of them asks for the start of a reversed counter.
-    pub(crate) is_unstarted: bool,
+    /// What is kept for the two walks of an edit, where a box asks for the start of a reversed counter.
+    pub(crate) counting: Option<Counting>,
 }
 
 /// A board with what is kept of a document's elements, and the index. One walk evaluates the document, and where a box
@@ -90,7 +66,7 @@ pub(crate) fn fresh_board<L: Ledger>(
     ensures room { IfOk result (λ made. HasRoomFor made.kept.room arena.now.tree) }
     ensures indexed { IfOk result (λ made. IsIndexOf made.index arena.now.tree) }
     ensures refers { IfOk result (λ made. TellsReferences made.index (evaluated_document (author_sheet styles.now.sheet arena.now.tree) arena.now.tree)) }
-    ensures unstarted { IfOk result (λ made. made.is_unstarted ≡ is_unstarted (author_sheet styles.now.sheet arena.now.tree) arena.now.tree) }
+    ensures counted { IfOk result (λ made. IsCounted (record { tree = arena.now.tree; sheet = styles.now.sheet }) made.counting) }
     ensures steps { steps.new ≤ steps.old + 7 * element_count (without_keys arena.now.tree) }
 {
     arena_holds_document(arena);
@@ -99,7 +75,7 @@ pub(crate) fn fresh_board<L: Ledger>(
         agent,
         styles,
     };
-    let told = told_of(alloc, &document, steps)?;
+    let ToldDocument { told, counting } = document_told(alloc, &document, steps)?;
     let records = told.as_slice();
     let index = index_with(alloc, arena, records)?;
     let room = room_for(records)?;
@@ -117,7 +93,7 @@ pub(crate) fn fresh_board<L: Ledger>(
     Ok(Fresh {
         kept: board,
         index,
-        is_unstarted: are_unstarted(records),
+        counting,
     })
 }
 
@@ -132,14 +108,14 @@ pub(crate) fn fresh_changes<L: Ledger>(
     ensures changes { IfOk result (λ made. Renews board.old.held (document_kept (author_sheet document.now.styles.now.sheet document.now.arena.now.tree) document.now.arena.now.tree) made.kept.items) }
     ensures indexed { IfOk result (λ made. IsIndexOf made.index document.now.arena.now.tree) }
     ensures refers { IfOk result (λ made. TellsReferences made.index (evaluated_document (author_sheet document.now.styles.now.sheet document.now.arena.now.tree) document.now.arena.now.tree)) }
-    ensures unstarted { IfOk result (λ made. made.is_unstarted ≡ is_unstarted (author_sheet document.now.styles.now.sheet document.now.arena.now.tree) document.now.arena.now.tree) }
+    ensures counted { IfOk result (λ made. IsCounted (record { tree = document.now.arena.now.tree; sheet = document.now.styles.now.sheet }) made.counting) }
     ensures room { IfOk result (λ made. AreBelow board.new.room made.kept.items) }
     ensures held { board.new.held ≡ board.old.held }
     ensures grown { board.old.room ≤ board.new.room }
     ensures steps { steps.new ≤ steps.old + 7 * element_count (without_keys document.now.arena.now.tree) }
 {
     arena_holds_document(document.arena);
-    let told = told_of(alloc, document, steps)?;
+    let ToldDocument { told, counting } = document_told(alloc, document, steps)?;
     let records = told.as_slice();
     let index = index_with(alloc, document.arena, records)?;
     let changes = document_changes(
@@ -156,6 +132,6 @@ pub(crate) fn fresh_changes<L: Ledger>(
     Ok(Fresh {
         kept: changes,
         index,
-        is_unstarted: are_unstarted(records),
+        counting,
     })
 }

@@ -9,8 +9,9 @@
 //! The author's sheet is that of the text, and behind it those of the document's style elements. A book keeps it read:
 //! an edit that leaves these texts as they are reads none, one that changes some reads all of them anew, and the user
 //! agent's sheet is read when the book begins. It keeps the index of the document's ids too, of which an edit changes
-//! those of the elements that come and go, and the references of those that are evaluated. Where a document is evaluated
-//! whole its index is made anew.
+//! those of the elements that come and go, and the references of those that are evaluated. While a box of the document asks for
+//! the start of a reversed counter it keeps what the two walks of an edit need, too (`started_walk::counting`). Where a document is
+//! evaluated whole both are made anew.
 //!
 //! An edit is planned and then committed. `plan` evaluates the edited document, and compares what is to be kept of each
 //! element with what the board keeps; the [`plan::Plan`] has what is new, with which of these elements show another text
@@ -24,20 +25,27 @@
 //! other styles (`style_reach`). Of what the walk tells, that is left out which can only be told as before
 //! (`kept_elements::news`). The texts of an element that refers to ids rest on their targets too. They are made again
 //! where it refers to one that was told otherwise or is another than before, or to one that refers so
-//! (`kept_elements::renewed_texts`). Where an edit reaches everywhere, or where a box of the edited document turns out
-//! to ask for a start, `plan` evaluates the whole document: by one walk, and by a second one with the starts, where a
-//! box asks for one.
+//! (`kept_elements::renewed_texts`).
 //!
-//! Steps are counted. A whole evaluation takes at most 6 for each element, a walk from a place at most 4, and it is one
-//! for each record that is read, put or taken. Where no box asks for a start before an edit and after it, or where the edit can
-//! change styles everywhere, its work (`edit_work`) bounds them.
+//! Where a box asks for a start, an edit can change it that is far from the box. Then `plan` walks from the place of the edit
+//! twice (`started_walk::twice`): with all starts 0, which tells what boxes do to counters, and so which starts are others than
+//! before; and with the starts of the edited document. All else is as where no box asks. Where by the edit none asks any more,
+//! what is kept for the two walks goes.
+//!
+//! Where an edit reaches everywhere, or where no box asked for a start before it and one does after it, `plan` evaluates the whole
+//! document: by one walk, and by a second one with the starts, where a box asks for one.
+//!
+//! Steps are counted. A whole evaluation takes at most 6 for each element, a walk from a place at most 4, and two walks at most 8; it
+//! is one for each record that is read, put or taken. The work of an edit (`edit_work`) bounds them, except for an edit by which a
+//! document begins to ask for starts, and which does not reach everywhere.
 //!
 //! The layer above knows this crate by `StyledDocument`, `fresh_entry` and `Keeps` of `specs/Books.antt`: what a book
 //! stands for, what a fresh evaluation keeps of an element, and that the book keeps it; and by `settled_after`,
 //! `IsPlannedBy` and `plan_size` of `specs/Plans.antt`: what a planned edit makes of a book, which plans are a book's,
 //! and how much comes and goes. Between the two `specs/PlannedEntries.antt` says what is kept of the edited document,
 //! by what the plan puts and by what was kept before. `specs/WorkBounds.antt` says of which edits the work bounds the
-//! steps, `specs/Places.antt` where a walk from a place stands, and `specs/PlaceNews.antt` what it costs. What a volume
+//! steps, `specs/Places.antt` where a walk from a place stands, and `specs/PlaceNews.antt` what it costs; `specs/Countings.antt`
+//! what is kept for two walks, and `specs/CountedEdits.antt` what an edit costs by one walk or by two. What a volume
 //! of several documents needs of each, beside entries, a settled book tells too: its counter styles, the first element
 //! of an id, and by `fresh_pieces` of `specs/FreshPieces.antt` the pieces of a box where one of them has a url.
 //!
@@ -54,6 +62,7 @@
 
 mod board;
 pub mod book;
+mod counted;
 mod document_styles;
 mod edited_arena;
 mod evaluation;
@@ -70,6 +79,7 @@ pub mod plan;
 mod planning;
 mod read_ahead;
 mod reference_exchange;
+mod started;
 mod style_elements;
 mod styled_arena;
 mod targets;

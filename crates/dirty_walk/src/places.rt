@@ -1,6 +1,6 @@
 //! What comes to a board by an edit, told by a walk from the place of the edit.
 
-ghost use Rattle.std.specs.Prelude.{◌≡◌, ◌≢◌, ◌≤◌, ◌+◌, ◌*◌, ◌⊎◌, ℕ, Option, true, false, None, length, List, IfNone, IfOk, IfSome, OnErr, OnOk};
+ghost use Rattle.std.specs.Prelude.{◌≡◌, ◌≢◌, ◌≤◌, ◌+◌, ◌*◌, ℕ, Option, true, false, None, length, List, IfNone, IfOk, IfSome, OnErr, OnOk};
 ghost use Rattle.forest.specs.Keys.{without_keys};
 ghost use Rattle.box_eval.specs.Evaluation.{StyledNode};
 ghost use Rattle.generated_texts.specs.StyleElements.{author_sheet};
@@ -19,11 +19,12 @@ ghost use Rattle.kept_elements.specs.Changes.{AreBelow, Renews};
 ghost use Rattle.kept_elements.specs.Evaluations.{all_kept_of, document_kept, evaluated_document, said_of};
 ghost use Rattle.kept_elements.specs.RenewalSteps.{renewal_weight};
 ghost use Rattle.kept_elements.specs.Renewals.{IsSomeWalk, evaluated_as};
-ghost use Rattle.dirty_walk.specs.PlaceNews.{AreNewsFrom, IsWithinNews, IsWithinPlace};
+ghost use Rattle.dirty_walk.specs.PlaceNews.{AreNewsFrom, IsWithinPlace};
 ghost use Rattle.dirty_walk.specs.PlaceReadings.{read_of};
 ghost use Rattle.dirty_walk.specs.Places.{IsSomePlace, walked_at};
 ghost use Rattle.dirty_walk.specs.ReadAhead.{IsSomePlaceRead};
 ghost use Rattle.dirty_walk.specs.ReferenceExchanges.{HoldersStayReserved};
+ghost use Rattle.dirty_walk.specs.SomeNews.{IsSomeNewsRead, IsWithinNews};
 ghost use Rattle.dirty_walk.specs.Unstarted.{is_unstarted};
 
 use crate::board::room_for;
@@ -56,26 +57,21 @@ use styled_merge::stops::stops_of_reach;
 use surroundings::told::Told;
 use target_index::index::Index;
 
-/// The stops of an edit that the document allows, before it is done, where what it changes can be told by a walk from
-/// its place: it does not change styles everywhere, and no box of the document asks for the start of a reversed counter.
+/// The stops of an edit that the document allows, before it is done, where what it changes can be told by walks from its place: it
+/// does not change styles everywhere.
 pub(crate) fn stops_at_place(
     alloc: Global,
     arena: &Arena,
     agent: &RuleTable,
     author: &RuleTable,
-    is_unstarted: bool,
     edit: &Edit,
 ) -> Result<Option<LocalStops>, Memory>
     requires allowed { place_fault edit.now (without_keys arena.now.tree) ≡ None }
-    ensures unstarted { IfOk result (λ found. IfSome found (λ _. is_unstarted ≡ true)) }
     ensures extent { IfOk result (λ found. IfSome found (λ local. local.extent ≡ reach (all_features agent.now author.now) arena.now.tree edit.now)) }
     ensures local { IfOk result (λ found. IfSome found (λ local. local.extent ≢ reaches.All)) }
     ensures stops { IfOk result (λ found. IfSome found (λ local. local.stops.items ≡ reach_stops local.extent edit.now 0 arena.now.tree)) }
-    ensures none { IfOk result (λ found. IfNone found ((is_unstarted ≡ false) ⊎ (reach (all_features agent.now author.now) arena.now.tree edit.now ≡ reaches.All))) }
+    ensures none { IfOk result (λ found. IfNone found (reach (all_features agent.now author.now) arena.now.tree edit.now ≡ reaches.All)) }
 {
-    if !is_unstarted {
-        return Ok(None);
-    }
     let extent = reach(arena, all_features(agent.sheet(), author.sheet()), edit);
     match extent {
         Reach::All => Ok(None),
@@ -131,7 +127,7 @@ fn walked_changes<L: Ledger>(
     ensures room { IfOk result (λ changes. AreBelow board.new.room changes.items) }
     ensures held { board.new.held ≡ board.old.held }
     ensures grown { board.old.room ≤ board.new.room }
-    ensures steps { steps.new ≤ steps.old + 4 * element_count (without_keys document.now.arena.now.tree) }
+    ensures steps { steps.new ≤ steps.old + 2 * element_count (without_keys document.now.arena.now.tree) }
     ensures fewer { (walk : IsSomeWalk document.now.styles.now.table index.now former.now stops.now document.now.arena.now.tree told board.old.held) → steps.new ≤ steps.old + renewal_weight (evaluated_as walk.old walk.was) (evaluated_as document.now.arena.now.tree walk.is) walk.merge told }
     ensures few { IfOk result (λ changes. (walk : IsSomeWalk document.now.styles.now.table index.now former.now stops.now document.now.arena.now.tree told board.old.held) → length changes.items ≤ renewal_weight (evaluated_as walk.old walk.was) (evaluated_as document.now.arena.now.tree walk.is) walk.merge told) }
 {
@@ -155,7 +151,7 @@ fn walked_changes<L: Ledger>(
 /// those from before where memory is wanting.
 ///
 /// It is a step for each element that goes and for each of which there are news, and then as `walked_entries` says.
-fn changes_by_news<L: Ledger>(
+pub(crate) fn changes_by_news<L: Ledger>(
     alloc: Global,
     document: &StyledArena,
     ahead: &ReadAhead,
@@ -165,9 +161,8 @@ fn changes_by_news<L: Ledger>(
     board: &mut Board<Kept>,
     steps: &mut Steps<L>,
 ) -> Result<Vec<(usize, KeptChange)>, Memory>
-    requires place { IsSomePlaceRead document.now.styles.now.sheet board.old.held stops.now document.now.arena.now.tree ahead.now index.old }
     requires indexed { IsIndexOf index.old document.now.arena.now.tree }
-    requires news { AreNewsFrom document.now board.old.held stops.now news }
+    requires news { IsSomeNewsRead document.now.styles.now.sheet board.old.held stops.now document.now.arena.now.tree ahead.now index.old news }
     ensures refers { OnOk result (TellsReferences index.new (evaluated_document (author_sheet document.now.styles.now.sheet document.now.arena.now.tree) document.now.arena.now.tree)) }
     ensures err { OnErr result ((id : List ℕ) (key : ℕ) → is_reference index.new id key ≡ is_reference index.old id key) }
     ensures holders { (id : List ℕ) (key : ℕ) → is_holder index.new id key ≡ is_holder index.old id key }
@@ -176,9 +171,9 @@ fn changes_by_news<L: Ledger>(
     ensures room { IfOk result (λ changes. AreBelow board.new.room changes.items) }
     ensures held { board.new.held ≡ board.old.held }
     ensures grown { board.old.room ≤ board.new.room }
-    ensures few { IfOk result (λ changes. IsWithinNews document.now.styles.now.sheet board.old.held stops.now document.now.arena.now.tree ahead.now steps.old (steps.new + 2 * length changes.items)) }
-    ensures most { IsWithinNews document.now.styles.now.sheet board.old.held stops.now document.now.arena.now.tree ahead.now steps.old steps.new }
-    ensures steps { steps.new ≤ steps.old + (length ahead.now.takes.now + length news + 4 * element_count (without_keys document.now.arena.now.tree)) }
+    ensures few { IfOk result (λ changes. IsWithinNews document.now.styles.now.sheet board.old.held stops.now document.now.arena.now.tree ahead.now news steps.old (steps.new + 2 * length changes.items)) }
+    ensures most { IsWithinNews document.now.styles.now.sheet board.old.held stops.now document.now.arena.now.tree ahead.now news steps.old steps.new }
+    ensures steps { steps.new ≤ steps.old + (length ahead.now.takes.now + length news + 2 * element_count (without_keys document.now.arena.now.tree)) }
 {
     let told = news.as_slice();
     let back = exchange_references(alloc, index, board, ahead.takes, told, steps)?;
@@ -268,7 +263,7 @@ pub(crate) fn changes_from_place<L: Ledger>(
     ensures few { IfOk result (λ found. IfSome found (λ changes. IsWithinPlace document.now.styles.now.sheet board.old.held stops.now document.now.arena.now.tree ahead.now steps.old (steps.new + 2 * length changes.items))) }
     ensures most { IsWithinPlace document.now.styles.now.sheet board.old.held stops.now document.now.arena.now.tree ahead.now steps.old steps.new }
     ensures walk { IfOk result (λ found. IfNone found (steps.new ≤ steps.old + 4 * element_count (without_keys document.now.arena.now.tree))) }
-    ensures steps { steps.new ≤ steps.old + (length ahead.now.takes.now + 10 * element_count (without_keys document.now.arena.now.tree)) }
+    ensures steps { steps.new ≤ steps.old + (length ahead.now.takes.now + 8 * element_count (without_keys document.now.arena.now.tree)) }
 {
     let Some(news) = news_from(alloc, document, board, stops, steps)? else {
         return Ok(None);

@@ -8,20 +8,20 @@ ghost use Rattle.node_arena.specs.Edits.{edited_sheet};
 ghost use Rattle.document_walk.specs.Elements.{element_count};
 ghost use Rattle.target_index.specs.Holders.{is_holder, is_reference};
 ghost use Rattle.kept_elements.specs.Changes.{AreBelow, Renews};
+ghost use Rattle.dirty_walk.specs.CountedEdits.{IsWithinEdit, IsWithinEditElements};
+ghost use Rattle.dirty_walk.specs.Countings.{IsCounted, StandsCounted, StaysCounted};
 ghost use Rattle.dirty_walk.specs.DocumentStyles.{document_styles, read_styles};
-ghost use Rattle.dirty_walk.specs.EditedArenas.{author_after, evaluated_after, is_unstarted_after, kept_after, styles_after};
+ghost use Rattle.dirty_walk.specs.EditedArenas.{evaluated_after, is_unstarted_after, kept_after, source_after, styles_after};
 ghost use Rattle.dirty_walk.specs.Exchanges.{IsIndexBefore};
 ghost use Rattle.referring_elements.specs.Indexes.{IsIndexOf, TellsReferences};
-ghost use Rattle.dirty_walk.specs.PlaceNews.{IsWithinPlaceOf};
-ghost use Rattle.dirty_walk.specs.ReadAhead.{StandsRead};
 ghost use Rattle.dirty_walk.specs.ReferenceExchanges.{HoldersStayReserved};
 
+use crate::counted::changes_at_place;
 use crate::document_styles::DocumentStyles;
 use crate::edited_arena::EditedArena;
 use crate::exchange::{ElementId, exchange_ids};
 use crate::fresh::{Fresh, fresh_changes};
 use crate::local_stops::LocalStops;
-use crate::places::changes_from_place;
 use crate::read_ahead::ReadAhead;
 use crate::style_elements::style_texts;
 use crate::styled_arena::StyledArena;
@@ -33,6 +33,7 @@ use plain_types::edit::Edit;
 use plain_types::memory::Memory;
 use plain_types::text::Text;
 use snapshot_board::board::Board;
+use started_walk::counting::Counting;
 use std::alloc::Global;
 use std::sync::ledger::Ledger;
 use steps::Steps;
@@ -74,40 +75,43 @@ pub(crate) struct Renewal {
     pub(crate) index: Option<Index>,
     /// What comes to the board.
     pub(crate) changes: Vec<(usize, KeptChange)>,
-    /// Whether no element asks for the start of a reversed counter.
-    pub(crate) is_unstarted: bool,
 }
 
-/// What an edit makes of a book by a walk from the stops of the edit, where the key of what it put in is known now: none
-/// where there are no such stops, or the walk does not tell it. What the sheets say stays.
+/// What an edit makes of a book by walks from the stops of the edit, where the key of what it put in is known now: none where there
+/// are no such stops, or where no box asked for the start of a reversed counter and one does now. What the sheets say stays.
 fn from_place<L: Ledger>(
     alloc: Global,
     document: &EditedArena,
     ahead: &ReadAhead,
     index: &mut Index,
     board: &mut Board<Kept>,
+    counting: &mut Option<Counting>,
     stops: Option<LocalStops>,
     steps: &mut Steps<L>,
 ) -> Result<Option<Renewal>, Memory>
-    requires place { IfSome stops (λ local. StandsRead document.now.edit.now document.now.styles.now board.old.held local document.now.arena.now.tree ahead.now index.old) }
+    requires place { IfSome stops (λ local. StandsCounted document.now.edit.now document.now.styles.now board.old.held local document.now.arena.now.tree ahead.now index.old counting.old) }
     requires indexed { IsIndexOf index.old document.now.arena.now.tree }
     ensures styles { IfOk result (λ found. IfSome found (λ made. unwrap_or made.styles document.now.styles.now ≡ styles_after document.now)) }
     ensures changes { IfOk result (λ found. IfSome found (λ made. Renews board.old.held (kept_after document.now) made.changes.items)) }
-    ensures unstarted { IfOk result (λ found. IfSome found (λ made. made.is_unstarted ≡ is_unstarted_after document.now)) }
+    ensures counted { IfOk result (λ found. IfSome found (λ _. IsCounted (source_after document.now) counting.new)) }
+    ensures stays_counted { OnErr result (StaysCounted counting.old counting.new) }
+    ensures same { IfOk result (λ found. IfNone found (counting.new ≡ counting.old)) }
     ensures index { IfOk result (λ found. IfSome found (λ made. made.index ≡ None)) }
     ensures refers { IfOk result (λ found. IfSome found (λ _. TellsReferences index.new (evaluated_after document.now))) }
     ensures unmoved { IfOk result (λ found. IfNone found ((id : List ℕ) (key : ℕ) → is_reference index.new id key ≡ is_reference index.old id key)) }
     ensures err { OnErr result ((id : List ℕ) (key : ℕ) → is_reference index.new id key ≡ is_reference index.old id key) }
     ensures holders { (id : List ℕ) (key : ℕ) → is_holder index.new id key ≡ is_holder index.old id key }
     ensures stay { HoldersStayReserved index.old index.new }
-    ensures none { IfOk result (λ found. IfNone found (IfSome stops (λ _. is_unstarted_after document.now ≡ false))) }
+    ensures starts { IfOk result (λ found. IfNone found (IfSome stops (λ _. is_unstarted_after document.now ≡ false))) }
+    ensures uncounted { IfOk result (λ found. IfNone found (IfSome stops (λ _. counting.old ≡ None))) }
     ensures room { IfOk result (λ found. IfSome found (λ made. AreBelow board.new.room made.changes.items)) }
     ensures held { board.new.held ≡ board.old.held }
     ensures grown { board.old.room ≤ board.new.room }
-    ensures few { IfOk result (λ found. IfSome found (λ made. IfSome stops (λ local. IsWithinPlaceOf document.now.edit.now document.now.styles.now board.old.held local document.now.arena.now.tree ahead.now steps.old (steps.new + 2 * length made.changes.items)))) }
-    ensures most { IfSome stops (λ local. IsWithinPlaceOf document.now.edit.now document.now.styles.now board.old.held local document.now.arena.now.tree ahead.now steps.old steps.new) }
+    ensures few { IfOk result (λ found. IfSome found (λ made. IfSome stops (λ local. IsWithinEdit document.now.edit.now document.now.styles.now board.old.held local document.now.arena.now.tree ahead.now index.old counting.old steps.old (steps.new + 2 * length made.changes.items)))) }
+    ensures most { IfSome stops (λ local. IsWithinEdit document.now.edit.now document.now.styles.now board.old.held local document.now.arena.now.tree ahead.now index.old counting.old steps.old steps.new) }
     ensures walk { IfOk result (λ found. IfNone found (steps.new ≤ steps.old + 4 * element_count (without_keys document.now.arena.now.tree))) }
-    ensures steps { steps.new ≤ steps.old + (length ahead.now.takes.now + 10 * element_count (without_keys document.now.arena.now.tree)) }
+    ensures steps { IfSome stops (λ local. IsWithinEditElements document.now.edit.now document.now.styles.now board.old.held local document.now.arena.now.tree ahead.now index.old counting.old steps.old steps.new) }
+    ensures still { IfNone stops (steps.new ≡ steps.old) }
 {
     let Some(LocalStops { extent, mut stops }) = stops else {
         return Ok(None);
@@ -119,27 +123,28 @@ fn from_place<L: Ledger>(
         styles: document.styles,
     };
     let stops = stops.as_slice();
-    match changes_from_place(alloc, &styled, ahead, index, board, stops, steps)? {
+    match changes_at_place(alloc, &styled, ahead, index, board, counting, stops, steps)? {
         Some(changes) => Ok(Some(Renewal {
             styles: None,
             index: None,
             changes,
-            is_unstarted: true,
         })),
         None => Ok(None),
     }
 }
 
-/// What an edit makes of a book where the whole document is evaluated.
+/// What an edit makes of a book where the whole document is evaluated. What is kept for both walks is made anew.
 fn from_whole<L: Ledger>(
     alloc: Global,
     document: &EditedArena,
     board: &mut Board<Kept>,
+    counting: &mut Option<Counting>,
     steps: &mut Steps<L>,
 ) -> Result<Renewal, Memory>
     ensures styles { IfOk result (λ made. unwrap_or made.styles document.now.styles.now ≡ styles_after document.now) }
     ensures changes { IfOk result (λ made. Renews board.old.held (kept_after document.now) made.changes.items) }
-    ensures unstarted { IfOk result (λ made. made.is_unstarted ≡ is_unstarted_after document.now) }
+    ensures counted { OnOk result (IsCounted (source_after document.now) counting.new) }
+    ensures same { OnErr result (counting.new ≡ counting.old) }
     ensures index { IfOk result (λ made. IfSome made.index (λ index. IsIndexOf index document.now.arena.now.tree × TellsReferences index (evaluated_after document.now))) }
     ensures some { IfOk result (λ made. is_some made.index ≡ true) }
     ensures room { IfOk result (λ made. AreBelow board.new.room made.changes.items) }
@@ -156,31 +161,33 @@ fn from_whole<L: Ledger>(
     let Fresh {
         kept,
         index,
-        is_unstarted,
+        counting: made,
     } = fresh_changes(alloc, &styled, board, steps)?;
+    *counting = made;
     Ok(Renewal {
         styles: new,
         index: Some(index),
         changes: kept,
-        is_unstarted,
     })
 }
 
-/// What an edit makes of a book: by a walk from its stops, where that tells it, and else by the whole document.
+/// What an edit makes of a book: by walks from its stops, where these tell it, and else by the whole document.
 fn renewed<L: Ledger>(
     alloc: Global,
     document: &EditedArena,
     ahead: &ReadAhead,
     index: &mut Index,
     board: &mut Board<Kept>,
+    counting: &mut Option<Counting>,
     stops: Option<LocalStops>,
     steps: &mut Steps<L>,
 ) -> Result<Renewal, Memory>
-    requires place { IfSome stops (λ local. StandsRead document.now.edit.now document.now.styles.now board.old.held local document.now.arena.now.tree ahead.now index.old) }
+    requires place { IfSome stops (λ local. StandsCounted document.now.edit.now document.now.styles.now board.old.held local document.now.arena.now.tree ahead.now index.old counting.old) }
     requires indexed { IsIndexOf index.old document.now.arena.now.tree }
     ensures styles { IfOk result (λ made. unwrap_or made.styles document.now.styles.now ≡ styles_after document.now) }
     ensures changes { IfOk result (λ made. Renews board.old.held (kept_after document.now) made.changes.items) }
-    ensures unstarted { IfOk result (λ made. made.is_unstarted ≡ is_unstarted_after document.now) }
+    ensures counted { OnOk result (IsCounted (source_after document.now) counting.new) }
+    ensures stays_counted { OnErr result (StaysCounted counting.old counting.new) }
     ensures index { IfOk result (λ made. IfSome made.index (λ index. IsIndexOf index document.now.arena.now.tree × TellsReferences index (evaluated_after document.now))) }
     ensures refers { IfOk result (λ made. IfNone made.index (TellsReferences index.new (evaluated_after document.now))) }
     ensures err { OnErr result ((id : List ℕ) (key : ℕ) → is_reference index.new id key ≡ is_reference index.old id key) }
@@ -189,33 +196,37 @@ fn renewed<L: Ledger>(
     ensures room { IfOk result (λ made. AreBelow board.new.room made.changes.items) }
     ensures held { board.new.held ≡ board.old.held }
     ensures grown { board.old.room ≤ board.new.room }
-    ensures few { IfOk result (λ made. IfSome stops (λ local. IsWithinPlaceOf document.now.edit.now document.now.styles.now board.old.held local document.now.arena.now.tree ahead.now steps.old (steps.new + 2 * length made.changes.items))) }
-    ensures most { IfSome stops (λ local. IsWithinPlaceOf document.now.edit.now document.now.styles.now board.old.held local document.now.arena.now.tree ahead.now steps.old steps.new) }
-    ensures steps { steps.new ≤ steps.old + (length ahead.now.takes.now + 11 * element_count (without_keys document.now.arena.now.tree)) }
+    ensures few { IfOk result (λ made. IfSome stops (λ local. IsWithinEdit document.now.edit.now document.now.styles.now board.old.held local document.now.arena.now.tree ahead.now index.old counting.old steps.old (steps.new + 2 * length made.changes.items))) }
+    ensures most { IfSome stops (λ local. IsWithinEdit document.now.edit.now document.now.styles.now board.old.held local document.now.arena.now.tree ahead.now index.old counting.old steps.old steps.new) }
+    ensures steps { IfSome stops (λ local. IsWithinEditElements document.now.edit.now document.now.styles.now board.old.held local document.now.arena.now.tree ahead.now index.old counting.old steps.old steps.new) }
+    ensures whole { IfNone stops (steps.new ≤ steps.old + 7 * element_count (without_keys document.now.arena.now.tree)) }
 {
-    match from_place(alloc, document, ahead, index, board, stops, steps)? {
+    match from_place(alloc, document, ahead, index, board, counting, stops, steps)? {
         Some(made) => Ok(made),
-        None => from_whole(alloc, document, board, steps),
+        None => from_whole(alloc, document, board, counting, steps),
     }
 }
 
 /// What an edit makes of a book where the elements of its document that go are these. The index has the holders of the edited
-/// document then, and its references; where memory is wanting it stays as it was.
+/// document then, and its references, and what is kept for both walks is of that document; where memory is wanting both stay as they
+/// were.
 pub(crate) fn evaluated<L: Ledger>(
     alloc: Global,
     document: &EditedArena,
     ahead: &ReadAhead,
     index: &mut Index,
     board: &mut Board<Kept>,
+    counting: &mut Option<Counting>,
     gone: &[ElementId],
     stops: Option<LocalStops>,
     steps: &mut Steps<L>,
 ) -> Result<Renewal, Memory>
     requires before { IsIndexBefore document.now.edit.now gone.now index.old document.now.arena.now.tree }
-    requires place { IfSome stops (λ local. StandsRead document.now.edit.now document.now.styles.now board.old.held local document.now.arena.now.tree ahead.now index.old) }
+    requires place { IfSome stops (λ local. StandsCounted document.now.edit.now document.now.styles.now board.old.held local document.now.arena.now.tree ahead.now index.old counting.old) }
     ensures styles { IfOk result (λ made. unwrap_or made.styles document.now.styles.now ≡ styles_after document.now) }
     ensures changes { IfOk result (λ made. Renews board.old.held (kept_after document.now) made.changes.items) }
-    ensures unstarted { IfOk result (λ made. made.is_unstarted ≡ is_unstarted_after document.now) }
+    ensures counted { OnOk result (IsCounted (source_after document.now) counting.new) }
+    ensures stays_counted { OnErr result (StaysCounted counting.old counting.new) }
     ensures indexed { IfOk result (λ made. IsIndexOf (unwrap_or made.index index.new) document.now.arena.now.tree) }
     ensures refers { IfOk result (λ made. TellsReferences (unwrap_or made.index index.new) (evaluated_after document.now)) }
     ensures err { OnErr result ((id : List ℕ) (key : ℕ) → is_holder index.new id key ≡ is_holder index.old id key) }
@@ -223,12 +234,13 @@ pub(crate) fn evaluated<L: Ledger>(
     ensures room { IfOk result (λ made. AreBelow board.new.room made.changes.items) }
     ensures held { board.new.held ≡ board.old.held }
     ensures grown { board.old.room ≤ board.new.room }
-    ensures few { IfOk result (λ made. IfSome stops (λ local. IsWithinPlaceOf document.now.edit.now document.now.styles.now board.old.held local document.now.arena.now.tree ahead.now steps.old (steps.new + 2 * length made.changes.items))) }
-    ensures most { IfSome stops (λ local. IsWithinPlaceOf document.now.edit.now document.now.styles.now board.old.held local document.now.arena.now.tree ahead.now steps.old steps.new) }
-    ensures steps { steps.new ≤ steps.old + (length ahead.now.takes.now + 11 * element_count (without_keys document.now.arena.now.tree)) }
+    ensures few { IfOk result (λ made. IfSome stops (λ local. IsWithinEdit document.now.edit.now document.now.styles.now board.old.held local document.now.arena.now.tree ahead.now index.old counting.old steps.old (steps.new + 2 * length made.changes.items))) }
+    ensures most { IfSome stops (λ local. IsWithinEdit document.now.edit.now document.now.styles.now board.old.held local document.now.arena.now.tree ahead.now index.old counting.old steps.old steps.new) }
+    ensures steps { IfSome stops (λ local. IsWithinEditElements document.now.edit.now document.now.styles.now board.old.held local document.now.arena.now.tree ahead.now index.old counting.old steps.old steps.new) }
+    ensures whole { IfNone stops (steps.new ≤ steps.old + 7 * element_count (without_keys document.now.arena.now.tree)) }
 {
     let back = exchange_ids(alloc, index, document.arena, document.edit, gone)?;
-    match renewed(alloc, document, ahead, index, board, stops, steps) {
+    match renewed(alloc, document, ahead, index, board, counting, stops, steps) {
         Ok(made) => Ok(made),
         Err(memory) => {
             index.commit(back);

@@ -205,6 +205,94 @@ static LISTS: [Row; 7] = [
     },
 ];
 
+/// Documents in which a list counts down, or comes to do so.
+static COUNTED_DOWN: [Row; 4] = [
+    // a list comes to count down, and then another item comes
+    Row {
+        document: "<ol><li/></ol>",
+        sheet: "",
+        edits: &["set / reversed r", "insert / 1 <li/>"],
+        kept: &[
+            (
+                Some(&[]),
+                &[],
+                "(reversed list-item 3) (reversed list-item 1) 0 0",
+            ),
+            (
+                Some(&[0]),
+                &[0],
+                "(reversed list-item 2) (reversed list-item 2) 0 0 marker '2. ' '2. '",
+            ),
+            (
+                None,
+                &[1],
+                "(reversed list-item 1) (reversed list-item 1) 0 0 marker '1. ' '1. '",
+            ),
+        ],
+    },
+    // and counts up again
+    Row {
+        document: r#"<ol reversed=""><li/></ol>"#,
+        sheet: "",
+        edits: &["insert / 1 <li/>", "unset / reversed", "move /1 / 0"],
+        kept: &[
+            (Some(&[]), &[], "(list-item 0) (list-item 2) 0 0"),
+            (
+                None,
+                &[0],
+                "(list-item 1) (list-item 1) 0 0 marker '1. ' '1. '",
+            ),
+            (
+                Some(&[0]),
+                &[1],
+                "(list-item 2) (list-item 2) 0 0 marker '2. ' '2. '",
+            ),
+        ],
+    },
+    // out of a list in a list: both have another start
+    Row {
+        document: r#"<ol reversed=""><li><ol reversed=""><li/><li/></ol></li><li/></ol>"#,
+        sheet: "",
+        edits: &["move /0/0/1 / 2"],
+        kept: &[
+            (
+                Some(&[]),
+                &[],
+                "(reversed list-item 4) (reversed list-item 1) 0 0",
+            ),
+            (
+                Some(&[1]),
+                &[1],
+                "(reversed list-item 2) (reversed list-item 2) 0 0 marker '2. ' '2. '",
+            ),
+            (
+                Some(&[0, 0, 1]),
+                &[2],
+                "(reversed list-item 1) (reversed list-item 1) 0 0 marker '1. ' '1. '",
+            ),
+        ],
+    },
+    // an item that has no box does not count
+    Row {
+        document: r#"<ol reversed=""><li/><li/><li/></ol>"#,
+        sheet: "",
+        edits: &["set /1 style display:none"],
+        kept: &[
+            (
+                Some(&[0]),
+                &[0],
+                "(reversed list-item 2) (reversed list-item 2) 0 0 marker '2. ' '2. '",
+            ),
+            (Some(&[1]), &[1], "no box () () 0 0"),
+            (
+                Some(&[2]),
+                &[2],
+                "(reversed list-item 1) (reversed list-item 1) 0 0 marker '1. ' '1. '",
+            ),
+        ],
+    },
+];
+
 const OPEN: &str = ".o::after{content:none}";
 
 const BOTH: &str =
@@ -517,6 +605,12 @@ fn wrong_entry(rt: &HostRuntime, table: &[Row]) -> Result<Option<&'static str>, 
 #[test]
 fn items_come_and_go(rt: HostRuntime) -> Result<(), Fail> {
     assert_eq!(rt; wrong_entry(&rt, &LISTS)?, None);
+    Ok(())
+}
+
+#[test]
+fn lists_count_down(rt: HostRuntime) -> Result<(), Fail> {
+    assert_eq!(rt; wrong_entry(&rt, &COUNTED_DOWN)?, None);
     Ok(())
 }
 

@@ -5,7 +5,7 @@ use Rattle.std.specs.Str.{IsUtf8}
 use Rattle.std.specs.Str.Lossy.{utf8_valid_len}
 use Rattle.changed_lines.specs.Changes.{changed_lines}
 use Rattle.changed_lines.specs.declared.changed_line.ChangedLine.{ChangedLine}
-use Rattle.dirty_walk.specs.WorkBounds.{keyed_source}
+use Rattle.dirty_walk.specs.Books.{keyed_source}
 use Rattle.document_walk.specs.Elements.{element_count, one_where}
 use Rattle.generated_texts.specs.Lines.{document_lines, fresh_dump}
 use Rattle.marker_engine.specs.Census.{box_count, saturated}

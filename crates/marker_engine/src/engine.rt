@@ -3,8 +3,8 @@
 ghost use Rattle.std.specs.Prelude.{◌≡◌, ◌≤◌, ◌+◌, ◌*◌, Some, None, Ok, Err, IfOk, IfErr, OnOk, OnErr, length, true};
 ghost use Rattle.std.specs.Str.{chars};
 ghost use Rattle.changed_lines.specs.Changes.{changed_lines};
-ghost use Rattle.dirty_walk.specs.Books.{Keeps};
-ghost use Rattle.dirty_walk.specs.WorkBounds.{IsWithinWork, StopsWithinWork, keyed_source};
+ghost use Rattle.dirty_walk.specs.Books.{Keeps, keyed_source};
+ghost use Rattle.dirty_walk.specs.WorkBounds.{IsWithinWork, StopsWithinWork};
 ghost use Rattle.generated_texts.specs.Lines.{document_lines, fresh_dump};
 ghost use Rattle.node_arena.specs.Document.{HasElementRoot};
 ghost use Rattle.node_arena.specs.Edits.{IsEdited};
@@ -95,11 +95,12 @@ impl Engine {
     /// Does an edit. After a fault the document, its keys, the sheet and what is kept are as before, and a refused edit
     /// counts no step.
     ///
-    /// Where no element asks for a start, before the edit and after it, only what the edit touches is evaluated anew, and
-    /// the elements whose styles it can change; and the texts of what refers to these are made again. Else, and where it can
-    /// change styles everywhere, the edited document is evaluated whole, as `start` does it; where only the walk from the
-    /// edit's place finds that an element asks, that walk comes on top. In the first case, and where the edit can change
-    /// styles everywhere, its work bounds its steps, after `Memory` too. Beside that come the calls of the arena by which
+    /// Only what the edit touches is evaluated anew, and the elements whose styles it can change; and the texts of what refers
+    /// to these are made again. Where an element asks for a start before the edit, two walks do this, and the elements are
+    /// evaluated too whose starts are others than before. Where the edit can change styles everywhere, and where no element
+    /// asked for a start before it and one does after it, the edited document is evaluated whole, as `start` does it; in the
+    /// second case that comes on top of the walk that found such an element. The work of the edit bounds its steps, after `Memory`
+    /// too, but in that second case. Beside that come the calls of the arena by which
     /// the edit is done. An entry that is another is put, and one whose element goes is taken.
     pub fn apply<L: Ledger>(
         &mut self,

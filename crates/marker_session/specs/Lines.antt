@@ -1,8 +1,8 @@
 -- Lines that are applied to a document (our own).
 use Rattle.std.specs.Prelude.{◌≡◌, ◌≤◌, ◌⊎◌, ◌+◌, ◌*◌, ℕ, List, [], ◌∷◌, Err, IfOk, length}
 use Rattle.changed_lines.specs.Changes.{changed_lines}
-use Rattle.dirty_walk.specs.Books.{StyledDocument}
-use Rattle.dirty_walk.specs.WorkBounds.{IsWithinWork, StopsWithinWork, keyed_source}
+use Rattle.dirty_walk.specs.Books.{StyledDocument, keyed_source}
+use Rattle.dirty_walk.specs.WorkBounds.{IsWithinWork, StopsWithinWork}
 use Rattle.document_walk.specs.Elements.{element_count}
 use Rattle.edit_script.specs.Scripts.{IsScript, command}
 use Rattle.edit_script.specs.declared.action.Action.{Action}

@@ -3,8 +3,7 @@ use Rattle.std.specs.Prelude.{◌≡◌, ℕ, List, [], Ok, refl}
 use Rattle.std.specs.Coded.{Coded, code_by, coded×, coded_list, coded_ℕ}
 use Rattle.changed_lines.specs.Listings.{lines_from_nothing}
 use Rattle.changed_lines.specs.declared.changed_line.ChangedLine.{ChangedLine}
-use Rattle.dirty_walk.specs.Books.{StyledDocument}
-use Rattle.dirty_walk.specs.WorkBounds.{keyed_source}
+use Rattle.dirty_walk.specs.Books.{StyledDocument, keyed_source}
 use Rattle.marker_engine.specs.Edited.{edited}
 use Rattle.marker_engine.specs.Engines.{source_of}
 use Rattle.node_arena.specs.Edits.{IsEdited}

@@ -4,7 +4,8 @@ ghost use Rattle.std.specs.Prelude.{◌≡◌, ◌≢◌, ◌≤◌, ◌+◌, �
 ghost use Rattle.std.specs.Str.{chars};
 ghost use Rattle.changed_lines.specs.Changes.{changed_lines};
 ghost use Rattle.changed_lines.specs.Listings.{shown_line};
-ghost use Rattle.dirty_walk.specs.WorkBounds.{IsWithinWork, keyed_source};
+ghost use Rattle.dirty_walk.specs.Books.{keyed_source};
+ghost use Rattle.dirty_walk.specs.WorkBounds.{IsWithinWork};
 ghost use Rattle.document_walk.specs.Elements.{element_count};
 ghost use Rattle.forest.specs.Forest.{Forest};
 ghost use Rattle.generated_texts.specs.Lines.{document_lines, fresh_dump};

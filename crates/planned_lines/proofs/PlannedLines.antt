@@ -24,10 +24,9 @@ use Rattle.kept_elements.specs.declared.kept.Kept.{Kept}
 use Rattle.kept_elements.specs.declared.kept_change.KeptChange.{KeptChange}
 use Rattle.kept_elements.specs.Changes.{TellShown, entry_at}
 use Rattle.dirty_walk.specs.declared.plan.Plan.{Plan}
-use Rattle.dirty_walk.specs.Books.{StyledDocument, fresh_entry}
+use Rattle.dirty_walk.specs.Books.{StyledDocument, fresh_entry, keyed_source}
 use Rattle.dirty_walk.specs.PlannedEntries.{IsPlannedFrom, PlansPutWhatDiffers}
 use Rattle.dirty_walk.specs.Plans.{IsPlannedBy, settled_after}
-use Rattle.dirty_walk.specs.WorkBounds.{keyed_source}
 use Rattle.planned_lines.specs.declared.span.Span.{Span}
 use Rattle.planned_lines.specs.PutLines.{looked_up, put_lines}
 use Rattle.planned_lines.specs.Spans.{IsWithin, ShowNoOthers}

@@ -7,9 +7,8 @@ ghost use Rattle.forest.specs.Paths.{path_of};
 ghost use Rattle.forest.specs.Spots.{IsLive};
 ghost use Rattle.plain_types.specs.declared.edit.Edit.{Edit};
 ghost use Rattle.changed_lines.specs.Changes.{changed_lines};
-ghost use Rattle.dirty_walk.specs.Books.{StyledDocument};
+ghost use Rattle.dirty_walk.specs.Books.{StyledDocument, keyed_source};
 ghost use Rattle.dirty_walk.specs.PlannedEntries.{IsPlannedFrom};
-ghost use Rattle.dirty_walk.specs.WorkBounds.{keyed_source};
 ghost use Rattle.planned_lines.specs.PutLines.{looked_up, put_lines};
 ghost use Rattle.planned_lines.specs.Spans.{HasEnds, IsWithin};
 

@@ -2,7 +2,8 @@
 
 ghost use Rattle.std.specs.Prelude.{◌≡◌, ◌↔◌, ◌≤◌, ◌+◌, ◌*◌, ◌∷◌, [], Ok, Err, IfOk, IfErr, IfSome, OnOk, OnErr, length, slice_get, take};
 ghost use Rattle.std.specs.Str.{chars};
-ghost use Rattle.dirty_walk.specs.WorkBounds.{IsWithinWork, StopsWithinWork, keyed_source};
+ghost use Rattle.dirty_walk.specs.Books.{keyed_source};
+ghost use Rattle.dirty_walk.specs.WorkBounds.{IsWithinWork, StopsWithinWork};
 ghost use Rattle.document_walk.specs.Elements.{element_count};
 ghost use Rattle.edit_inverses.specs.Versions.{AreSameVersions};
 ghost use Rattle.marker_engine.specs.declared.edit_fault.EditFault.TheVariants as faults;

@@ -1,7 +1,8 @@
 //! One step back or forth.
 
 ghost use Rattle.std.specs.Prelude.{◌≡◌, ◌↔◌, ◌+◌, ◌≤◌, Err, None, IfSome, IsSomeAnd, OnOk, OnErr, [], slice_get};
-ghost use Rattle.dirty_walk.specs.WorkBounds.{IsWithinWork, StopsWithinWork, keyed_source};
+ghost use Rattle.dirty_walk.specs.Books.{keyed_source};
+ghost use Rattle.dirty_walk.specs.WorkBounds.{IsWithinWork, StopsWithinWork};
 ghost use Rattle.edit_inverses.specs.Versions.{HavePlaces, version_after};
 ghost use Rattle.node_arena.specs.Edits.{IsEdited, place_fault};
 ghost use Rattle.undo_ring.specs.declared.undo_fault.UndoFault.TheVariants as faults;

@@ -1,4 +1,4 @@
-use Rattle.std.proofs.Common.{◌≡◌, ◌<◌, ◌∙◌, ℕ, List, None, ap, sym, subst, arith}
+use Rattle.std.proofs.Common.{◌≡◌, ◌<◌, ◌∙◌, ℕ, List, None, ap, length, sym, subst, arith}
 use Rattle.std.specs.FinMap.{FinMap, get, get-empty}
 use Rattle.std.specs.Ordering.{nat_cmp}
 use Rattle.generated_texts.specs.Documents.{counter_styles}
@@ -10,7 +10,6 @@ use Rattle.referring_elements.specs.Indexes.{TellsReferences}
 use Rattle.referring_elements.specs.References.{AreOnce}
 use Rattle.surroundings.specs.declared.told.Told.{Told}
 use Rattle.kept_elements.specs.Evaluations.{document_kept, document_told, kept_of, said_of}
-use Rattle.dirty_walk.specs.Unstarted.{are_unstarted}
 use Rattle.dirty_walk.proofs.BookLemmas.{kept_are}
 use Rattle.kept_elements.proofs.ChangeLemmas.{has_key, key_of, put_whole, some-kept}
 use Rattle.kept_elements.proofs.RecordLemmas.{has_key-mapped}
@@ -47,9 +46,6 @@ returns-clause-room g c = λ key named.
     let low : key < c.in_ok-room.room = key_of (λ k. k < c.in_ok-room.room) c.as_slice-records.result.now c.in_ok-room.ensures.room key there in
     omega (arith, low, c.in_ok-reserve.ensures.room, c.in_ok-put_document_entries.ensures.room)
 
-pub returns-clause-unstarted : goal.returns-clause-unstarted
-returns-clause-unstarted g c = c.are_unstarted.ensures ∙ ap are_unstarted (c.as_slice-records.ensures.items ∙ c.in_ok-told.ensures.told)
-
 pub index_with-requires : goal.index_with-requires
 index_with-requires g c =
     let tree = c.args.arena.now.tree in
@@ -64,3 +60,11 @@ returns-clause-refers g c =
     subst (λ (told : List (ℕ × Told)). TellsReferences c.in_ok-index.index (record { tree = tree; said = said_of told }))
     (c.as_slice-records.ensures.items ∙ c.in_ok-told.ensures.told)
     (c.in_ok-index.ensures.references tree)
+
+pub returns-in_err-put_document_entries-clause-steps : goal.returns-in_err-put_document_entries-clause-steps
+returns-in_err-put_document_entries-clause-steps g c =
+    omega (arith, c.document_told.ensures.steps, c.in_ok-told.ensures.count, ap length c.as_slice-records.ensures.items, c.put_document_entries.ensures.steps)
+
+pub returns-clause-steps : goal.returns-clause-steps
+returns-clause-steps g c =
+    omega (arith, c.document_told.ensures.steps, c.in_ok-told.ensures.count, ap length c.as_slice-records.ensures.items, c.put_document_entries.ensures.steps)

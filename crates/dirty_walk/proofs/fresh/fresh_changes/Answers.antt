@@ -1,14 +1,15 @@
-use Rattle.std.proofs.Common.{◌∙◌, ℕ, List, ap, subst, sym}
+use Rattle.std.proofs.Common.{◌∙◌, ℕ, List, ap, arith, length, subst, sym}
 use Rattle.kept_elements.specs.declared.kept.Kept.{Kept}
 use Rattle.generated_texts.specs.StyleElements.{author_sheet}
-use Rattle.kept_elements.specs.Changes.{AreChanges}
+use Rattle.kept_elements.specs.declared.kept_change.KeptChange.{KeptChange}
+use Rattle.kept_elements.specs.Changes.{AreBelow, AreChanges}
 use Rattle.referring_elements.specs.Indexes.{TellsReferences}
 use Rattle.referring_elements.specs.References.{AreOnce}
 use Rattle.surroundings.specs.declared.told.Told.{Told}
 use Rattle.kept_elements.specs.Evaluations.{document_kept, document_told, said_of}
-use Rattle.dirty_walk.specs.Unstarted.{are_unstarted}
 use Rattle.dirty_walk.proofs.BookLemmas.{kept_are}
 use Rattle.dirty_walk.proofs.ReferenceLemmas.{are_once}
+use Rattle.kept_elements.proofs.ChangeLemmas.{below-more}
 use Rattle.kept_elements.proofs.RenewalLemmas.{renews}
 use Rattle.kept_elements.proofs.ToldLemmas.{told_once}
 use Rattle.dirty_walk.proofs.fresh.fresh_changes.Goals as goal
@@ -22,9 +23,6 @@ returns-clause-changes g c =
     (subst (λ (kept : List (ℕ × Kept)). AreChanges c.args.board.now.held kept c.in_ok-changes.changes.items)
     (kept_are tree styles c.as_slice-records.result.now styles.sheet document.styles_are (c.as_slice-records.ensures.items ∙ c.in_ok-told.ensures.told))
     c.in_ok-changes.ensures.changes)
-
-pub returns-clause-unstarted : goal.returns-clause-unstarted
-returns-clause-unstarted g c = c.are_unstarted.ensures ∙ ap are_unstarted (c.as_slice-records.ensures.items ∙ c.in_ok-told.ensures.told)
 
 pub index_with-requires : goal.index_with-requires
 index_with-requires g c =
@@ -40,3 +38,24 @@ returns-clause-refers g c =
     subst (λ (told : List (ℕ × Told)). TellsReferences c.in_ok-index.index (record { tree = tree; said = said_of told }))
     (c.as_slice-records.ensures.items ∙ c.in_ok-told.ensures.told)
     (c.in_ok-index.ensures.references tree)
+
+pub returns-in_err-changes-clause-steps : goal.returns-in_err-changes-clause-steps
+returns-in_err-changes-clause-steps g c =
+    omega (arith, c.document_told.ensures.steps, c.in_ok-told.ensures.count, ap length c.as_slice-records.ensures.items, c.document_changes.ensures.steps)
+
+pub returns-in_err-room-clause-steps : goal.returns-in_err-room-clause-steps
+returns-in_err-room-clause-steps g c =
+    omega (arith, c.document_told.ensures.steps, c.in_ok-told.ensures.count, ap length c.as_slice-records.ensures.items, c.document_changes.ensures.steps)
+
+pub returns-in_err-reserve-clause-steps : goal.returns-in_err-reserve-clause-steps
+returns-in_err-reserve-clause-steps g c =
+    omega (arith, c.document_told.ensures.steps, c.in_ok-told.ensures.count, ap length c.as_slice-records.ensures.items, c.document_changes.ensures.steps)
+
+pub returns-clause-room : goal.returns-clause-room
+returns-clause-room g c =
+    below-more c.in_ok-room.room c.reserve.new.self.room c.in_ok-changes.changes.items c.in_ok-reserve.ensures.room
+    (subst (λ (items : List (ℕ × KeptChange)). AreBelow c.in_ok-room.room items) c.as_slice.ensures.value c.in_ok-room.ensures.room)
+
+pub returns-clause-steps : goal.returns-clause-steps
+returns-clause-steps g c =
+    omega (arith, c.document_told.ensures.steps, c.in_ok-told.ensures.count, ap length c.as_slice-records.ensures.items, c.document_changes.ensures.steps)

@@ -11,7 +11,7 @@ use Rattle.dirty_walk.specs.PlaceReadings.{read_of}
 use Rattle.dirty_walk.specs.Places.{IsSomePlace, walked_at}
 use Rattle.dirty_walk.specs.Unstarted.{are_unstarted}
 use Rattle.dirty_walk.proofs.PlaceLemmas.{stands}
-use Rattle.dirty_walk.proofs.SomeWalk.{document_links, document_starts}
+use Rattle.dirty_walk.proofs.SomeWalk.{document_starts, links}
 use Rattle.dirty_walk.proofs.places.news_from.Goals as goal
 
 -- a budget for more steps is one for fewer
@@ -33,7 +33,7 @@ caught_from-requires g c =
 pub news_of-requires : goal.news_of-requires
 news_of-requires g c =
     let document = c.args.document.now in
-    record { live = document_links document document.agent_is document.styles_are c.args.board.now.held c.args.stops.now c.requires.place }
+    record { live = links document.styles.now.sheet c.args.board.now.held c.args.stops.now document.arena.now.tree c.requires.place }
 
 pub returns-in_err-at-clause-most : goal.returns-in_err-at-clause-most
 returns-in_err-at-clause-most g c =

@@ -17,10 +17,12 @@ use Rattle.kept_elements.specs.declared.kept.Kept.{Kept}
 use Rattle.dirty_walk.specs.declared.local_stops.LocalStops.{LocalStops}
 use Rattle.dirty_walk.specs.declared.read_ahead.ReadAhead.{ReadAhead}
 use Rattle.dirty_walk.specs.EditedArenas.{evaluated_after}
-use Rattle.dirty_walk.specs.ReadAhead.{StandsRead}
+use Rattle.dirty_walk.specs.CountedEdits.{IsWithinEdit, IsWithinEditElements}
+use Rattle.dirty_walk.specs.Countings.{StandsCounted}
 use Rattle.dirty_walk.specs.Exchanges.{IsIndexBefore, coming, elements_in, exchanges}
 use Rattle.referring_elements.specs.Indexes.{IsIndexOf, TellsReferences}
-use Rattle.dirty_walk.specs.PlaceNews.{IsWithinPlaceOf}
+use Rattle.started_walk.specs.declared.counting.Counting.{Counting}
+use Rattle.dirty_walk.proofs.CountedLemmas.{paid_by_work}
 use Rattle.dirty_walk.proofs.ExchangeLaws.{index_after, index_back}
 use Rattle.dirty_walk.proofs.ReferenceExchangeLemmas.{ids_add_no_references}
 use Rattle.dirty_walk.proofs.ReferenceLemmas.{exchanges_keep, of_index}
@@ -45,11 +47,17 @@ module _ (edit : Edit) (gone : List ElementId) (before after : Index) (new : For
       id key
       ∙ sym (was.indexed id key)
 
--- before the walk no step is taken
-none_taken : (edit : Edit) (styles : DocumentStyles) (held : FinMap nat_cmp Kept) (new : Forest (Keyed Node)) (ahead : ReadAhead) (now : ℕ) (stops : Option LocalStops)
-    → IfSome stops (λ local. IsWithinPlaceOf edit styles held local new ahead now now)
-none_taken edit styles held new ahead now None = tt
-none_taken edit styles held new ahead now (Some local) = λ unstarted there former. omega arith
+-- before the walks no step is taken
+none_taken : (edit : Edit) (styles : DocumentStyles) (held : FinMap nat_cmp Kept) (new : Forest (Keyed Node)) (ahead : ReadAhead) (index : Index) (counting : Option Counting) (now : ℕ) (stops : Option LocalStops)
+    → IfSome stops (λ local. IsWithinEdit edit styles held local new ahead index counting now now)
+none_taken edit styles held new ahead index counting now None = tt
+none_taken edit styles held new ahead index counting now (Some local) = λ there begins.
+    paid_by_work edit styles.sheet held there.stands.before.old new there.stands.before.at ahead index there.stands.read now now (omega arith)
+
+none_of_elements : (edit : Edit) (styles : DocumentStyles) (held : FinMap nat_cmp Kept) (new : Forest (Keyed Node)) (ahead : ReadAhead) (index : Index) (counting : Option Counting) (now : ℕ) (stops : Option LocalStops)
+    → IfSome stops (λ local. IsWithinEditElements edit styles held local new ahead index counting now now)
+none_of_elements edit styles held new ahead index counting now None = tt
+none_of_elements edit styles held new ahead index counting now (Some local) = λ there. omega arith
 
 -- what holds of the index that was made anew
 new_index : (made : Option Index) (document : EditedArena) → IfSome made (λ index. IsIndexOf index document.arena.now.tree × TellsReferences index (evaluated_after document))
@@ -64,24 +72,41 @@ its_references None document index some none = none
 its_references (Some new) document index some none = some
 
 -- before the exchange of ids the document was read
-still_read : (edit : Edit) (styles : DocumentStyles) (held : FinMap nat_cmp Kept) (new : Forest (Keyed Node)) (ahead : ReadAhead) (index after : Index)
-    → ((id : List ℕ) (key : ℕ) → is_reference after id key ≡ is_reference index id key) → (stops : Option LocalStops)
-    → IfSome stops (λ local. StandsRead edit styles held local new ahead index) → IfSome stops (λ local. StandsRead edit styles held local new ahead after)
-still_read edit styles held new ahead index after same None reads = tt
-still_read edit styles held new ahead index after same (Some local) reads = record {
-  before = reads.before;
-  read = record {
-    takes = reads.read.takes;
-    former = reads.read.former;
-    tells = λ id key. same id key ∙ reads.read.tells id key;
-  };
-}
+module _ (edit : Edit) (styles : DocumentStyles) (held : FinMap nat_cmp Kept) (new : Forest (Keyed Node)) (ahead : ReadAhead) (index after : Index) (counting : Option Counting)
+    (same : (id : List ℕ) (key : ℕ) → is_reference after id key ≡ is_reference index id key) where
+  abbrev still_there : (local : LocalStops) → StandsCounted edit styles held local new ahead index counting → StandsCounted edit styles held local new ahead after counting
+  still_there local there = record {
+    stands = record {
+      before = there.stands.before;
+      read = record {
+        takes = there.stands.read.takes;
+        former = there.stands.read.former;
+        tells = λ id key. same id key ∙ there.stands.read.tells id key;
+      };
+    };
+    counted = there.counted;
+  }
+
+  still_stands : (stops : Option LocalStops) → IfSome stops (λ local. StandsCounted edit styles held local new ahead index counting)
+      → IfSome stops (λ local. StandsCounted edit styles held local new ahead after counting)
+  still_stands None stands = tt
+  still_stands (Some local) stands = still_there local stands
+
+  still_within : (before now : ℕ) (stops : Option LocalStops) → IfSome stops (λ local. IsWithinEdit edit styles held local new ahead after counting before now)
+      → IfSome stops (λ local. IsWithinEdit edit styles held local new ahead index counting before now)
+  still_within before now None within = tt
+  still_within before now (Some local) within = λ there begins. within (still_there local there) begins
+
+  still_within_elements : (before now : ℕ) (stops : Option LocalStops) → IfSome stops (λ local. IsWithinEditElements edit styles held local new ahead after counting before now)
+      → IfSome stops (λ local. IsWithinEditElements edit styles held local new ahead index counting before now)
+  still_within_elements before now None within = tt
+  still_within_elements before now (Some local) within = λ there. within (still_there local there)
 
 pub renewed-requires : goal.renewed-requires
 renewed-requires g c =
     let document = c.args.document.now in
     record {
-      place = still_read document.edit.now document.styles.now c.args.board.now.held document.arena.now.tree c.args.ahead.now c.args.index.now c.exchange_ids.new.index
+      place = still_stands document.edit.now document.styles.now c.args.board.now.held document.arena.now.tree c.args.ahead.now c.args.index.now c.exchange_ids.new.index c.args.counting.now
           c.exchange_ids.ensures.references c.args.stops c.requires.place;
       indexed = its_index document.edit.now c.args.gone.now c.args.index.now c.exchange_ids.new.index document.arena.now.tree c.requires.before c.in_ok-back.ensures.holders;
     }
@@ -121,5 +146,27 @@ returns-in-Err-clause-err g c =
     (λ id key. c.commit.ensures.holders id key ∙ ap (holds_after_all c.in_ok-back.back id key) (c.renewed.ensures.holders id key))
 
 pub returns-in_err-back-clause-most : goal.returns-in_err-back-clause-most
-returns-in_err-back-clause-most g c =
-    none_taken c.args.document.now.edit.now c.args.document.now.styles.now c.args.board.now.held c.args.document.now.arena.now.tree c.args.ahead.now c.args.steps.now c.args.stops
+returns-in_err-back-clause-most g c = none_taken c.args.document.now.edit.now c.args.document.now.styles.now c.args.board.now.held c.args.document.now.arena.now.tree c.args.ahead.now c.args.index.now c.args.counting.now c.args.steps.now c.args.stops
+
+pub returns-in_err-back-clause-steps : goal.returns-in_err-back-clause-steps
+returns-in_err-back-clause-steps g c = none_of_elements c.args.document.now.edit.now c.args.document.now.styles.now c.args.board.now.held c.args.document.now.arena.now.tree c.args.ahead.now c.args.index.now c.args.counting.now c.args.steps.now c.args.stops
+
+pub returns-in-Ok-clause-most : goal.returns-in-Ok-clause-most
+returns-in-Ok-clause-most g c =
+    still_within c.args.document.now.edit.now c.args.document.now.styles.now c.args.board.now.held c.args.document.now.arena.now.tree c.args.ahead.now c.args.index.now c.exchange_ids.new.index c.args.counting.now c.exchange_ids.ensures.references c.args.steps.now c.renewed.new.steps c.args.stops c.renewed.ensures.most
+
+pub returns-in-Ok-clause-steps : goal.returns-in-Ok-clause-steps
+returns-in-Ok-clause-steps g c =
+    still_within_elements c.args.document.now.edit.now c.args.document.now.styles.now c.args.board.now.held c.args.document.now.arena.now.tree c.args.ahead.now c.args.index.now c.exchange_ids.new.index c.args.counting.now c.exchange_ids.ensures.references c.args.steps.now c.renewed.new.steps c.args.stops c.renewed.ensures.steps
+
+pub returns-in-Err-clause-most : goal.returns-in-Err-clause-most
+returns-in-Err-clause-most g c =
+    still_within c.args.document.now.edit.now c.args.document.now.styles.now c.args.board.now.held c.args.document.now.arena.now.tree c.args.ahead.now c.args.index.now c.exchange_ids.new.index c.args.counting.now c.exchange_ids.ensures.references c.args.steps.now c.renewed.new.steps c.args.stops c.renewed.ensures.most
+
+pub returns-in-Err-clause-steps : goal.returns-in-Err-clause-steps
+returns-in-Err-clause-steps g c =
+    still_within_elements c.args.document.now.edit.now c.args.document.now.styles.now c.args.board.now.held c.args.document.now.arena.now.tree c.args.ahead.now c.args.index.now c.exchange_ids.new.index c.args.counting.now c.exchange_ids.ensures.references c.args.steps.now c.renewed.new.steps c.args.stops c.renewed.ensures.steps
+
+pub returns-in-Ok-clause-few : goal.returns-in-Ok-clause-few
+returns-in-Ok-clause-few g c =
+    still_within c.args.document.now.edit.now c.args.document.now.styles.now c.args.board.now.held c.args.document.now.arena.now.tree c.args.ahead.now c.args.index.now c.exchange_ids.new.index c.args.counting.now c.exchange_ids.ensures.references c.args.steps.now _ c.args.stops c.in-Ok.ensures.few

@@ -1,7 +1,7 @@
 use Rattle.std.proofs.Common.{◌∙◌, List, IsPermutation, ap, filter, map, subst}
 use Rattle.dump_definitions.specs.Dump.{Line}
 use Rattle.changed_lines.specs.Listings.{shown_line, stands_first}
-use Rattle.dirty_walk.specs.WorkBounds.{keyed_source}
+use Rattle.dirty_walk.specs.Books.{keyed_source}
 use Rattle.marker_session.specs.Sessions.{all_lines}
 use Rattle.marker_session.proofs.laws.listed_lines_are_the_dump.Goals as goal
 

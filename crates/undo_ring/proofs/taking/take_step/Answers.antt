@@ -1,7 +1,7 @@
 use Rattle.std.proofs.Common.{◌≡◌, ◌≤◌, ◌+◌, Option, Some, None, IfSome, IsSomeAnd, [], refl, sym, ap, subst, ◌∙◌, inl, arith}
 use Rattle.circular_buffer.specs.Buffer.{Buffer}
-use Rattle.dirty_walk.specs.Books.{StyledDocument}
-use Rattle.dirty_walk.specs.WorkBounds.{IsWithinWork, StopsWithinWork, keyed_source}
+use Rattle.dirty_walk.specs.Books.{StyledDocument, keyed_source}
+use Rattle.dirty_walk.specs.WorkBounds.{IsWithinWork, StopsWithinWork}
 use Rattle.edit_inverses.specs.Laws.{IsAllowed}
 use Rattle.forest.specs.Forest.{Forest}
 use Rattle.forest.specs.Keys.{Keyed, without_keys}

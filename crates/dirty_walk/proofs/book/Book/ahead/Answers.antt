@@ -1,11 +1,10 @@
-use Rattle.std.proofs.Common.{◌≡◌, ◌∙◌, ap, subst, sym, inl, inr, true, Bool, IfSome, Option, Some, None}
+use Rattle.std.proofs.Common.{◌≡◌, ◌∙◌, ap, subst, sym, true, IfSome, Option, Some, None}
 use Rattle.std.specs.Prelude.{IfNone}
 use Rattle.forest.specs.Forest.{Forest}
 use Rattle.forest.specs.Keys.{Keyed, without_keys}
 use Rattle.plain_types.specs.declared.edit.Edit.{Edit}
 use Rattle.plain_types.specs.declared.node.Node.{Node}
 use Rattle.node_arena.specs.Edits.{place_fault}
-use Rattle.generated_texts.specs.StyleElements.{author_sheet}
 use Rattle.style_reach.specs.Reaches.{reach}
 use Rattle.style_reach.specs.declared.extent.Reach.{Reach}
 use Rattle.styled_merge.specs.Laws.{looks_beside}
@@ -13,23 +12,15 @@ use Rattle.styled_merge.specs.ReachStops.{reach_stops}
 use Rattle.dirty_walk.specs.Books.{StyledDocument}
 use Rattle.dirty_walk.specs.Exchanges.{elements_in, leaving, taken_keys}
 use Rattle.dirty_walk.specs.FormerTargets.{AreFormerTargetsOf}
-use Rattle.dirty_walk.specs.Unstarted.{is_unstarted}
 use Rattle.dirty_walk.proofs.PlaceLemmas.{its_reach}
 use Rattle.dirty_walk.proofs.book.Book.ahead.Goals as goal
 
--- what holds of a value that may be there, and where there is none
-of_value : {A : Type 0} (P Q : A → Type 0) → ((value : A) → P value → Q value) → (o : Option A) → IfSome o P → IfSome o Q
-of_value P Q so None holds = tt
-of_value P Q so (Some value) holds = so value holds
-
+-- what holds where there is no value
 of_no_value : {A : Type 0} (P Q : Type 0) → (P → Q) → (o : Option A) → IfNone o P → IfNone o Q
 of_no_value P Q so None holds = so holds
 of_no_value P Q so (Some value) holds = tt
 
--- whether no element of a document asks for the start of a reversed counter, and how far its edit reaches
-abbrev unstarted_in : StyledDocument → Bool
-unstarted_in styled = is_unstarted (author_sheet styled.sheet styled.tree) styled.tree
-
+-- how far the edit of a document reaches
 abbrev reach_in : Edit → StyledDocument → Reach
 reach_in edit styled = reach (looks_beside styled.sheet styled.tree) styled.tree edit
 
@@ -44,13 +35,6 @@ returns-clause-takes c =
     c.in_ok-takes.ensures.keys
     ∙ ap (taken_keys c.args.edit.now)
     (c.as_slice.ensures.items ∙ c.in_ok-gone.ensures.elements ∙ ap (λ (styled : StyledDocument). elements_in (leaving c.args.edit.now styled.tree)) c.self.view_is)
-
-pub returns-clause-unstarted : goal.returns-clause-unstarted
-returns-clause-unstarted c =
-    let author = author_sheet c.self.inside.styles.sheet c.self.inside.arena.tree in
-    subst (λ (styled : StyledDocument). IfSome c.in_ok-stops.stops (λ _. is_unstarted (author_sheet styled.sheet styled.tree) styled.tree ≡ true)) c.self.view_is
-    (of_value (λ _. c.self.inside.is_unstarted ≡ true) (λ _. is_unstarted author c.self.inside.arena.tree ≡ true) (λ local known. sym c.self.invariant.unstarted_is ∙ known)
-    c.in_ok-stops.stops c.in_ok-stops.ensures.unstarted)
 
 pub former_targets-requires : goal.former_targets-requires
 former_targets-requires c = record { indexed = c.self.invariant.indexed; gone = c.as_slice-2.ensures.items ∙ c.in_ok-gone.ensures.elements }
@@ -75,8 +59,5 @@ returns-clause-none c =
     let reaches : reach_in c.args.edit.now (record { tree = c.self.inside.arena.tree; sheet = c.self.inside.styles.sheet; settled = true; kept = c.self.inside.board.held }) ≡ reach_in c.args.edit.now c.args.self.now =
     ap (λ (styled : StyledDocument). reach_in c.args.edit.now styled) c.self.view_is in
     of_no_value _ _
-    (λ either. elim either [
-      | inl known ↦ inl (sym (c.self.invariant.unstarted_is ∙ ap unstarted_in c.self.view_is) ∙ known)
-      | inr all ↦ inr (sym (its_reach c.args.edit.now c.self.inside.agent c.self.inside.styles c.self.inside.arena.tree c.self.invariant.agent_is c.self.invariant.styles_are ∙ reaches) ∙ all)
-    ])
+    (λ all. sym (its_reach c.args.edit.now c.self.inside.agent c.self.inside.styles c.self.inside.arena.tree c.self.invariant.agent_is c.self.invariant.styles_are ∙ reaches) ∙ all)
     c.in_ok-stops.stops c.in_ok-stops.ensures.none

@@ -1,4 +1,4 @@
-use Rattle.std.proofs.Common.{◌≡◌, ◌⊎◌, ◌∙◌, ◌≤◌, ◌+◌, ◌*◌, true, false, None, IfSome, refl, unwrap_or, ap, sym, subst, arith, inr, length, List, ℕ}
+use Rattle.std.proofs.Common.{◌≡◌, ◌∙◌, ◌≤◌, ◌+◌, ◌*◌, true, false, None, IfSome, refl, unwrap_or, ap, sym, subst, arith, inr, length, List, ℕ}
 use Rattle.std.specs.Prelude.{IfNone}
 use Rattle.std.specs.FinMap.{FinMap, get}
 use Rattle.std.specs.Option.{is_none}
@@ -15,7 +15,8 @@ use Rattle.generated_texts.specs.StyleElements.{author_sheet, style_texts}
 use Rattle.document_walk.specs.Elements.{element_count}
 use Rattle.snapshot_board.specs.Records.{put_all, take_all}
 use Rattle.kept_elements.specs.declared.kept.Kept.{Kept}
-use Rattle.dirty_walk.specs.Books.{StyledDocument}
+use Rattle.dirty_walk.specs.Books.{StyledDocument, keyed_source}
+use Rattle.dirty_walk.specs.Countings.{IsCounted}
 use Rattle.kept_elements.specs.Changes.{AreOthers, TellShown, puts_of}
 use Rattle.kept_elements.specs.Evaluations.{document_kept, evaluated_document}
 use Rattle.target_index.specs.declared.index.Index.{Index}
@@ -27,18 +28,14 @@ use Rattle.styled_merge.specs.Laws.{looks_beside}
 use Rattle.styled_merge.specs.ReachStops.{reach_stops}
 use Rattle.dirty_walk.specs.Exchanges.{elements_in, leaving, taken_keys}
 use Rattle.dirty_walk.specs.FormerTargets.{AreFormerTargetsOf}
-use Rattle.dirty_walk.specs.Unstarted.{is_unstarted}
 use Rattle.dirty_walk.specs.ReadAhead.{WasReadOf}
 use Rattle.dirty_walk.specs.declared.read_ahead.ReadAhead.{ReadAhead}
 use Rattle.referring_elements.specs.declared.former.FormerTarget.{FormerTarget}
 use Rattle.dirty_walk.specs.Plans.{settled_after, IsPlannedBy}
-use Rattle.dirty_walk.specs.WorkBounds.{IsWithinWork, StopsWithinWork, keyed_source}
-use Rattle.dirty_walk.proofs.ExchangeLaws.{taken_count}
-use Rattle.dirty_walk.proofs.GoneLemmas.{taken_gone}
-use Rattle.dirty_walk.proofs.PlaceLemmas.{stands_read}
+use Rattle.dirty_walk.specs.WorkBounds.{IsWithinWork, StopsWithinWork}
 use Rattle.dirty_walk.proofs.PlanLemmas.{as_read, its_keys, its_text, same_document, under_its_text}
 use Rattle.dirty_walk.proofs.SettlingLemmas.{few, few_puts, has_room, keeps_all, of_elements}
-use Rattle.dirty_walk.proofs.WorkLemmas.{leads, within_work}
+use Rattle.dirty_walk.proofs.WorkLemmas.{leads, stands_counted, within_elements, within_work}
 use Rattle.dirty_walk.proofs.book.Book.plan.Goals as goal
 
 -- the edit that is allowed, prepared and committed is done
@@ -52,7 +49,16 @@ done_by edit old after new styled before document same allowed fragment edits is
   edited = subst (λ (tree : Forest (Keyed Node)). IsEdited edit old tree) (sym is) edits;
 }
 
--- what was read ahead of the book was read of what it stands for
+-- what was read ahead of what a book stands for was read of its document
+was_read : (edit : Edit) (inside seen : StyledDocument) → inside ≡ seen → (ahead : ReadAhead) (index : Index) → ahead.takes.now ≡ taken_keys edit (elements_in (leaving edit seen.tree))
+    → AreFormerTargetsOf edit seen.tree ahead.former.now → TellsReferences index (evaluated_document (author_sheet inside.sheet inside.tree) inside.tree)
+    → WasReadOf edit (author_sheet inside.sheet inside.tree) inside.tree ahead index
+was_read edit inside seen is ahead index takes former tells = record {
+  takes = takes ∙ ap (λ (styled : StyledDocument). taken_keys edit (elements_in (leaving edit styled.tree))) (sym is);
+  former = subst (λ (styled : StyledDocument). AreFormerTargetsOf edit styled.tree ahead.former.now) (sym is) former;
+  tells = tells;
+}
+
 ahead_of : (P : StyledDocument → Type 0) (inside seen : StyledDocument) → inside ≡ seen → P seen → P inside
 ahead_of P inside seen is holds = subst P (sym is) holds
 
@@ -71,23 +77,23 @@ evaluated-requires-clause-before g c = record {
 pub evaluated-requires-clause-place : goal.evaluated-requires-clause-place
 evaluated-requires-clause-place g c =
     let none : is_none c.self.inside.planned ≡ true = ap (λ (styled : StyledDocument). styled.settled) c.self.view_is ∙ c.requires.settled in
-    let author = author_sheet c.self.inside.styles.sheet c.self.inside.arena.tree in
     let ahead : ReadAhead = record { takes = c.as_slice.result; former = c.as_slice-2.result } in
-    let read : WasReadOf c.args.edit.now author c.self.inside.arena.tree ahead c.self.inside.index = record {
-      takes = c.as_slice.ensures.items ∙ c.in_ok-gone.ensures.takes ∙ ap (λ (styled : StyledDocument). taken_keys c.args.edit.now (elements_in (leaving c.args.edit.now styled.tree))) (sym c.self.view_is);
-      former = subst (λ (former : List FormerTarget). AreFormerTargetsOf c.args.edit.now c.self.inside.arena.tree former) (sym c.as_slice-2.ensures.items)
-          (ahead_of (λ styled. AreFormerTargetsOf c.args.edit.now styled.tree c.in_ok-gone.field-0.former) _ _ c.self.view_is c.in_ok-gone.ensures.former);
-      tells = c.self.invariant.refers;
-    } in
-    stands_read c.args.edit.now c.self.inside.styles c.self.inside.board.held c.self.inside.arena.tree c.commit-reversal.new.self.tree c.self.invariant.styles_are
-    (done_by c.args.edit.now c.self.inside.arena.tree _ c.commit-reversal.new.self.tree c.args.self.now c.arena_holds_document.ensures.document c.arena_holds_document-2.ensures.document
-    (ap (λ (styled : StyledDocument). styled.tree) c.self.view_is) c.requires.allowed c.inserts_one_tree.ensures c.in_ok-prepared.ensures.edits c.commit-reversal.ensures.tree)
-    (c.self.invariant.kept none) ahead c.self.inside.index read c.in_ok-gone.field-0.stops (ahead_of (λ styled. IfSome c.in_ok-gone.field-0.stops (λ _. is_unstarted (author_sheet styled.sheet styled.tree) styled.tree ≡ true)) _ _ c.self.view_is c.in_ok-gone.ensures.unstarted) (ahead_of (λ styled. IfSome c.in_ok-gone.field-0.stops (λ local. local.extent ≡ reach (looks_beside styled.sheet styled.tree) styled.tree c.args.edit.now)) _ _ c.self.view_is c.in_ok-gone.ensures.extent) c.in_ok-gone.ensures.local (ahead_of (λ styled. IfSome c.in_ok-gone.field-0.stops (λ local. local.stops.items ≡ reach_stops local.extent c.args.edit.now 0 styled.tree)) _ _ c.self.view_is c.in_ok-gone.ensures.stops)
+    let done =
+    done_by c.args.edit.now c.self.inside.arena.tree _ c.commit-reversal.new.self.tree c.args.self.now c.arena_holds_document.ensures.document c.arena_holds_document-2.ensures.document
+    (ap (λ (styled : StyledDocument). styled.tree) c.self.view_is) c.requires.allowed c.inserts_one_tree.ensures c.in_ok-prepared.ensures.edits c.commit-reversal.ensures.tree in
+    stands_counted c.args.edit.now c.self.inside.styles c.self.inside.board.held c.self.inside.arena.tree c.commit-reversal.new.self.tree c.in_ok-gone.field-0.stops c.self.invariant.styles_are done (c.self.invariant.kept none)
+    (edited_sheet c.args.edit.now c.self.inside.styles.sheet) refl ahead c.self.inside.index
+    (was_read c.args.edit.now _ c.args.self.now c.self.view_is ahead c.self.inside.index (c.as_slice.ensures.items ∙ c.in_ok-gone.ensures.takes)
+    (subst (λ (former : List FormerTarget). AreFormerTargetsOf c.args.edit.now c.args.self.now.tree former) (sym c.as_slice-2.ensures.items) c.in_ok-gone.ensures.former) c.self.invariant.refers)
+    c.self.inside.counting c.self.invariant.counted
+    (ahead_of (λ styled. IfSome c.in_ok-gone.field-0.stops (λ local. local.extent ≡ reach (looks_beside styled.sheet styled.tree) styled.tree c.args.edit.now)) _ _ c.self.view_is c.in_ok-gone.ensures.extent)
+    c.in_ok-gone.ensures.local
+    (ahead_of (λ styled. IfSome c.in_ok-gone.field-0.stops (λ local. local.stops.items ≡ reach_stops local.extent c.args.edit.now 0 styled.tree)) _ _ c.self.view_is c.in_ok-gone.ensures.stops)
 
 pub invariant_of-self : goal.invariant_of-self
 invariant_of-self g c =
     let none : is_none c.self.inside.planned ≡ true = ap (λ (styled : StyledDocument). styled.settled) c.self.view_is ∙ c.requires.settled in
-    same_document _ _ _ _ _ _ _ _ _ _ none c.prepare.ensures.tree (λ were. still_settled _ _ were c.prepare.ensures.tree c.in_err-prepared.ensures.err) refl (omega arith) (λ id key. refl) (λ id key. refl) c.self.invariant
+    same_document _ _ _ _ _ _ _ _ _ _ _ none c.prepare.ensures.tree (λ were. still_settled _ _ were c.prepare.ensures.tree c.in_err-prepared.ensures.err) refl (omega arith) (λ id key. refl) (λ id key. refl) (λ source counted. counted) c.self.invariant
 
 pub invariant_of-self-in-Ok : goal.invariant_of-self-in-Ok
 invariant_of-self-in-Ok g c =
@@ -111,7 +117,10 @@ invariant_of-self-in-Ok g c =
           (subst (λ (t : List ℕ). TellsReferences (unwrap_or c.in-Ok.made.index c.evaluated.new.index) (evaluated_document (author_sheet t tree) tree))
           (sym (its_text c.replace_styles.new.styles text (style_texts tree) (c.replace_styles.ensures ∙ c.in-Ok.ensures.styles)))
           c.in-Ok.ensures.refers);
-      unstarted_is = c.in-Ok.ensures.unstarted ∙ ap (λ (t : List ℕ). is_unstarted (author_sheet t tree) tree) (sym (its_text c.replace_styles.new.styles text (style_texts tree) (c.replace_styles.ensures ∙ c.in-Ok.ensures.styles)));
+      counted =
+          subst (λ (t : List ℕ). IsCounted (record { tree = tree; sheet = t }) c.evaluated.new.counting)
+          (sym (its_text c.replace_styles.new.styles text (style_texts tree) (c.replace_styles.ensures ∙ c.in-Ok.ensures.styles)))
+          c.in-Ok.ensures.counted;
       back = c.commit-reversal.ensures.reversal;
       keys =
           committed _ _ _ _ _ (its_keys c.self.inside.arena c.self.inside.planned none c.self.invariant.keys) c.prepare.ensures.tree c.in_ok-prepared.ensures.reserves
@@ -121,12 +130,12 @@ invariant_of-self-in-Ok g c =
 pub invariant_of-self-in-Err : goal.invariant_of-self-in-Err
 invariant_of-self-in-Err g c =
     let none : is_none c.self.inside.planned ≡ true = ap (λ (styled : StyledDocument). styled.settled) c.self.view_is ∙ c.requires.settled in
-    same_document _ _ _ _ _ _ _ _ _ _ none (c.revert.ensures.tree ∙ c.commit-reversal.ensures.before ∙ c.prepare.ensures.tree)
+    same_document _ _ _ _ _ _ _ _ _ _ _ none (c.revert.ensures.tree ∙ c.commit-reversal.ensures.before ∙ c.prepare.ensures.tree)
     (λ were.
     reverted _ _ _
     (committed _ _ _ _ _ were c.prepare.ensures.tree c.in_ok-prepared.ensures.reserves c.commit-reversal.ensures.tree c.commit-reversal.ensures.before c.commit-reversal.ensures.used)
     c.revert.ensures.tree c.revert.ensures.freed)
-    c.evaluated.ensures.held c.evaluated.ensures.grown c.in-Err.ensures.err c.in-Err.ensures.references c.self.invariant
+    c.evaluated.ensures.held c.evaluated.ensures.grown c.in-Err.ensures.err c.in-Err.ensures.references c.in-Err.ensures.stays_counted c.self.invariant
 
 pub returns-in-Ok-clause-planned : goal.returns-in-Ok-clause-planned
 unfolding IsPlannedBy settled_after
@@ -175,13 +184,27 @@ returns-in-Ok-clause-sheet g c =
 
 pub returns-in-Ok-clause-steps : goal.returns-in-Ok-clause-steps
 returns-in-Ok-clause-steps g c =
+    let none : is_none c.self.inside.planned ≡ true = ap (λ (styled : StyledDocument). styled.settled) c.self.view_is ∙ c.requires.settled in
+    let ahead : ReadAhead = record { takes = c.as_slice.result; former = c.as_slice-2.result } in
+    let done =
+    done_by c.args.edit.now c.self.inside.arena.tree _ c.commit-reversal.new.self.tree c.args.self.now c.arena_holds_document.ensures.document c.arena_holds_document-2.ensures.document
+    (ap (λ (styled : StyledDocument). styled.tree) c.self.view_is) c.requires.allowed c.inserts_one_tree.ensures c.in_ok-prepared.ensures.edits c.commit-reversal.ensures.tree in
     let same : element_count (without_keys c.commit-reversal.new.self.tree) ≡ element_count (edited c.args.edit.now (without_keys c.args.self.now.tree)) =
     ap (λ (tree : Forest (Keyed Node)). element_count (without_keys tree)) c.commit-reversal.ensures.tree
     ∙ ap element_count c.in_ok-prepared.ensures.edits.tree
     ∙ ap (λ (styled : StyledDocument). element_count (edited c.args.edit.now (without_keys styled.tree))) c.self.view_is in
-    let gone : length c.as_slice.result.now ≤ element_count (without_keys c.args.self.now.tree) =
-    omega (arith, ap length (c.as_slice.ensures.items ∙ c.in_ok-gone.ensures.takes), taken_count c.args.edit.now c.args.self.now.tree) in
-    omega (arith, same, gone, c.evaluated.ensures.steps)
+    let was : element_count (without_keys c.self.inside.arena.tree) ≡ element_count (without_keys c.args.self.now.tree) = ap (λ (styled : StyledDocument). element_count (without_keys styled.tree)) c.self.view_is in
+    let taken : c.evaluated.new.steps ≤ c.args.steps.now + (11 * element_count (without_keys c.commit-reversal.new.self.tree) + element_count (without_keys c.self.inside.arena.tree)) =
+    within_elements c.args.edit.now c.self.inside.styles c.self.inside.board.held c.self.inside.arena.tree c.commit-reversal.new.self.tree c.in_ok-gone.field-0.stops c.self.invariant.styles_are done (c.self.invariant.kept none)
+    (edited_sheet c.args.edit.now c.self.inside.styles.sheet) refl ahead c.self.inside.index
+    (was_read c.args.edit.now _ c.args.self.now c.self.view_is ahead c.self.inside.index (c.as_slice.ensures.items ∙ c.in_ok-gone.ensures.takes)
+    (subst (λ (former : List FormerTarget). AreFormerTargetsOf c.args.edit.now c.args.self.now.tree former) (sym c.as_slice-2.ensures.items) c.in_ok-gone.ensures.former) c.self.invariant.refers)
+    c.self.inside.counting c.self.invariant.counted
+    (ahead_of (λ styled. IfSome c.in_ok-gone.field-0.stops (λ local. local.extent ≡ reach (looks_beside styled.sheet styled.tree) styled.tree c.args.edit.now)) _ _ c.self.view_is c.in_ok-gone.ensures.extent)
+    c.in_ok-gone.ensures.local
+    (ahead_of (λ styled. IfSome c.in_ok-gone.field-0.stops (λ local. local.stops.items ≡ reach_stops local.extent c.args.edit.now 0 styled.tree)) _ _ c.self.view_is c.in_ok-gone.ensures.stops)
+    c.args.steps.now c.evaluated.new.steps c.evaluated.ensures.steps c.evaluated.ensures.whole in
+    omega (arith, same, was, taken)
 
 pub returns-in-Ok-clause-puts : goal.returns-in-Ok-clause-puts
 returns-in-Ok-clause-puts g c =
@@ -228,72 +251,108 @@ returns-in-Ok-clause-size g c =
 
 pub returns-clause-steps : goal.returns-clause-steps
 returns-clause-steps g c =
+    let none : is_none c.self.inside.planned ≡ true = ap (λ (styled : StyledDocument). styled.settled) c.self.view_is ∙ c.requires.settled in
+    let ahead : ReadAhead = record { takes = c.as_slice.result; former = c.as_slice-2.result } in
+    let done =
+    done_by c.args.edit.now c.self.inside.arena.tree _ c.commit-reversal.new.self.tree c.args.self.now c.arena_holds_document.ensures.document c.arena_holds_document-2.ensures.document
+    (ap (λ (styled : StyledDocument). styled.tree) c.self.view_is) c.requires.allowed c.inserts_one_tree.ensures c.in_ok-prepared.ensures.edits c.commit-reversal.ensures.tree in
     let same : element_count (without_keys c.commit-reversal.new.self.tree) ≡ element_count (edited c.args.edit.now (without_keys c.args.self.now.tree)) =
     ap (λ (tree : Forest (Keyed Node)). element_count (without_keys tree)) c.commit-reversal.ensures.tree
     ∙ ap element_count c.in_ok-prepared.ensures.edits.tree
     ∙ ap (λ (styled : StyledDocument). element_count (edited c.args.edit.now (without_keys styled.tree))) c.self.view_is in
-    let gone : length c.as_slice.result.now ≤ element_count (without_keys c.args.self.now.tree) =
-    omega (arith, ap length (c.as_slice.ensures.items ∙ c.in_ok-gone.ensures.takes), taken_count c.args.edit.now c.args.self.now.tree) in
-    omega (arith, same, gone, c.evaluated.ensures.steps)
+    let was : element_count (without_keys c.self.inside.arena.tree) ≡ element_count (without_keys c.args.self.now.tree) = ap (λ (styled : StyledDocument). element_count (without_keys styled.tree)) c.self.view_is in
+    let taken : c.evaluated.new.steps ≤ c.args.steps.now + (11 * element_count (without_keys c.commit-reversal.new.self.tree) + element_count (without_keys c.self.inside.arena.tree)) =
+    within_elements c.args.edit.now c.self.inside.styles c.self.inside.board.held c.self.inside.arena.tree c.commit-reversal.new.self.tree c.in_ok-gone.field-0.stops c.self.invariant.styles_are done (c.self.invariant.kept none)
+    (edited_sheet c.args.edit.now c.self.inside.styles.sheet) refl ahead c.self.inside.index
+    (was_read c.args.edit.now _ c.args.self.now c.self.view_is ahead c.self.inside.index (c.as_slice.ensures.items ∙ c.in_ok-gone.ensures.takes)
+    (subst (λ (former : List FormerTarget). AreFormerTargetsOf c.args.edit.now c.args.self.now.tree former) (sym c.as_slice-2.ensures.items) c.in_ok-gone.ensures.former) c.self.invariant.refers)
+    c.self.inside.counting c.self.invariant.counted
+    (ahead_of (λ styled. IfSome c.in_ok-gone.field-0.stops (λ local. local.extent ≡ reach (looks_beside styled.sheet styled.tree) styled.tree c.args.edit.now)) _ _ c.self.view_is c.in_ok-gone.ensures.extent)
+    c.in_ok-gone.ensures.local
+    (ahead_of (λ styled. IfSome c.in_ok-gone.field-0.stops (λ local. local.stops.items ≡ reach_stops local.extent c.args.edit.now 0 styled.tree)) _ _ c.self.view_is c.in_ok-gone.ensures.stops)
+    c.args.steps.now c.evaluated.new.steps c.evaluated.ensures.steps c.evaluated.ensures.whole in
+    omega (arith, same, was, taken)
 
 pub returns-in-Ok-clause-within_work : goal.returns-in-Ok-clause-within_work
 unfolding settled_after
 returns-in-Ok-clause-within_work g c =
     let none : is_none c.self.inside.planned ≡ true = ap (λ (styled : StyledDocument). styled.settled) c.self.view_is ∙ c.requires.settled in
+    let ahead : ReadAhead = record { takes = c.as_slice.result; former = c.as_slice-2.result } in
     let old = c.self.inside.arena.tree in
     let tree = c.commit-reversal.new.self.tree in
     let text = edited_sheet c.args.edit.now c.self.inside.styles.sheet in
     let puts = c.in-Ok.made.changes.items in
     let takes = c.in_ok-gone.field-0.takes in
     let done =
-    done_by c.args.edit.now old _ tree c.args.self.now c.arena_holds_document.ensures.document c.arena_holds_document-2.ensures.document
+    done_by c.args.edit.now c.self.inside.arena.tree _ c.commit-reversal.new.self.tree c.args.self.now c.arena_holds_document.ensures.document c.arena_holds_document-2.ensures.document
     (ap (λ (styled : StyledDocument). styled.tree) c.self.view_is) c.requires.allowed c.inserts_one_tree.ensures c.in_ok-prepared.ensures.edits c.commit-reversal.ensures.tree in
     let taken = (c.in_ok-gone.ensures.takes ∙ ap (λ (styled : StyledDocument). taken_keys c.args.edit.now (elements_in (leaving c.args.edit.now styled.tree))) (sym c.self.view_is)) in
     let count : length puts + length takes ≤ element_count (without_keys tree) + element_count (without_keys old) =
     few c.args.edit.now old tree done c.self.inside.styles.sheet text c.self.inside.board.held puts takes (c.self.invariant.kept none) c.in-Ok.ensures.changes taken in
-    let gone : length c.as_slice.result.now ≤ element_count (without_keys old) =
-    omega (arith, ap length (c.as_slice.ensures.items ∙ taken), taken_count c.args.edit.now old) in
+    let steps : c.evaluated.new.steps ≤ c.args.steps.now + (11 * element_count (without_keys tree) + element_count (without_keys old)) =
+    within_elements c.args.edit.now c.self.inside.styles c.self.inside.board.held c.self.inside.arena.tree c.commit-reversal.new.self.tree c.in_ok-gone.field-0.stops c.self.invariant.styles_are done (c.self.invariant.kept none)
+    text refl ahead c.self.inside.index
+    (was_read c.args.edit.now _ c.args.self.now c.self.view_is ahead c.self.inside.index (c.as_slice.ensures.items ∙ c.in_ok-gone.ensures.takes)
+    (subst (λ (former : List FormerTarget). AreFormerTargetsOf c.args.edit.now c.args.self.now.tree former) (sym c.as_slice-2.ensures.items) c.in_ok-gone.ensures.former) c.self.invariant.refers)
+    c.self.inside.counting c.self.invariant.counted
+    (ahead_of (λ styled. IfSome c.in_ok-gone.field-0.stops (λ local. local.extent ≡ reach (looks_beside styled.sheet styled.tree) styled.tree c.args.edit.now)) _ _ c.self.view_is c.in_ok-gone.ensures.extent)
+    c.in_ok-gone.ensures.local
+    (ahead_of (λ styled. IfSome c.in_ok-gone.field-0.stops (λ local. local.stops.items ≡ reach_stops local.extent c.args.edit.now 0 styled.tree)) _ _ c.self.view_is c.in_ok-gone.ensures.stops)
+    c.args.steps.now c.evaluated.new.steps c.evaluated.ensures.steps c.evaluated.ensures.whole in
     subst
     (λ (styled : StyledDocument).
     IsWithinWork c.args.edit.now (keyed_source styled) (record { tree = tree; sheet = c.replace_styles.new.styles.sheet }) c.args.steps.now (c.evaluated.new.steps + ((length puts + length takes) + length puts)))
     c.self.view_is
-    (within_work c.args.edit.now c.self.inside.styles c.self.inside.board.held old tree c.in_ok-gone.field-0.stops
-    c.self.invariant.styles_are done (c.self.invariant.kept none)
-    c.replace_styles.new.styles.sheet (its_text c.replace_styles.new.styles text (style_texts tree) (c.replace_styles.ensures ∙ c.in-Ok.ensures.styles))
-    (record { takes = c.as_slice.result; former = c.as_slice-2.result })
-    (subst (λ (former : List FormerTarget). AreFormerTargetsOf c.args.edit.now old former) (sym c.as_slice-2.ensures.items) (ahead_of (λ styled. AreFormerTargetsOf c.args.edit.now styled.tree c.in_ok-gone.field-0.former) _ _ c.self.view_is c.in_ok-gone.ensures.former))
-    (omega (arith, ap length (c.as_slice.ensures.items ∙ taken), taken_gone c.args.edit.now old tree))
+    (within_work c.args.edit.now c.self.inside.styles c.self.inside.board.held c.self.inside.arena.tree c.commit-reversal.new.self.tree c.in_ok-gone.field-0.stops c.self.invariant.styles_are done (c.self.invariant.kept none)
+    c.replace_styles.new.styles.sheet (its_text c.replace_styles.new.styles text (style_texts tree) (c.replace_styles.ensures ∙ c.in-Ok.ensures.styles)) ahead c.self.inside.index
+    (was_read c.args.edit.now _ c.args.self.now c.self.view_is ahead c.self.inside.index (c.as_slice.ensures.items ∙ c.in_ok-gone.ensures.takes)
+    (subst (λ (former : List FormerTarget). AreFormerTargetsOf c.args.edit.now c.args.self.now.tree former) (sym c.as_slice-2.ensures.items) c.in_ok-gone.ensures.former) c.self.invariant.refers)
+    c.self.inside.counting c.self.invariant.counted
+    (ahead_of (λ styled. IfSome c.in_ok-gone.field-0.stops (λ local. local.extent ≡ reach (looks_beside styled.sheet styled.tree) styled.tree c.args.edit.now)) _ _ c.self.view_is c.in_ok-gone.ensures.extent)
+    c.in_ok-gone.ensures.local
+    (ahead_of (λ styled. IfSome c.in_ok-gone.field-0.stops (λ local. local.stops.items ≡ reach_stops local.extent c.args.edit.now 0 styled.tree)) _ _ c.self.view_is c.in_ok-gone.ensures.stops)
     c.args.steps.now (c.evaluated.new.steps + 2 * length puts) (length takes) (c.evaluated.new.steps + ((length puts + length takes) + length puts))
-    (ahead_of (λ styled. IfSome c.in_ok-gone.field-0.stops (λ _. is_unstarted (author_sheet styled.sheet styled.tree) styled.tree ≡ true)) _ _ c.self.view_is c.in_ok-gone.ensures.unstarted) (ahead_of (λ styled. IfSome c.in_ok-gone.field-0.stops (λ local. local.extent ≡ reach (looks_beside styled.sheet styled.tree) styled.tree c.args.edit.now)) _ _ c.self.view_is c.in_ok-gone.ensures.extent) c.in_ok-gone.ensures.local (ahead_of (λ styled. IfSome c.in_ok-gone.field-0.stops (λ local. local.stops.items ≡ reach_stops local.extent c.args.edit.now 0 styled.tree)) _ _ c.self.view_is c.in_ok-gone.ensures.stops) (ahead_of (λ styled. IfNone c.in_ok-gone.field-0.stops ((is_unstarted (author_sheet styled.sheet styled.tree) styled.tree ≡ false) ⊎ (reach (looks_beside styled.sheet styled.tree) styled.tree c.args.edit.now ≡ All))) _ _ c.self.view_is c.in_ok-gone.ensures.none)
+    (ahead_of (λ styled. IfNone c.in_ok-gone.field-0.stops (reach (looks_beside styled.sheet styled.tree) styled.tree c.args.edit.now ≡ All)) _ _ c.self.view_is c.in_ok-gone.ensures.none)
     c.in-Ok.ensures.few
-    (omega (arith, ap length taken, taken_gone c.args.edit.now old tree))
+    (omega (arith, ap length c.as_slice.ensures.items))
     (omega arith)
-    (omega (arith, count, gone, c.evaluated.ensures.steps)))
+    (omega (arith, count, steps)))
 
 pub returns-clause-stops_within_work : goal.returns-clause-stops_within_work
 returns-clause-stops_within_work g c =
     let none : is_none c.self.inside.planned ≡ true = ap (λ (styled : StyledDocument). styled.settled) c.self.view_is ∙ c.requires.settled in
+    let ahead : ReadAhead = record { takes = c.as_slice.result; former = c.as_slice-2.result } in
     let old = c.self.inside.arena.tree in
     let tree = c.commit-reversal.new.self.tree in
     let before = c.self.inside.styles.sheet in
     let text = edited_sheet c.args.edit.now before in
     let done =
-    done_by c.args.edit.now old _ tree c.args.self.now c.arena_holds_document.ensures.document c.arena_holds_document-2.ensures.document
+    done_by c.args.edit.now c.self.inside.arena.tree _ c.commit-reversal.new.self.tree c.args.self.now c.arena_holds_document.ensures.document c.arena_holds_document-2.ensures.document
     (ap (λ (styled : StyledDocument). styled.tree) c.self.view_is) c.requires.allowed c.inserts_one_tree.ensures c.in_ok-prepared.ensures.edits c.commit-reversal.ensures.tree in
-    let taken = (c.in_ok-gone.ensures.takes ∙ ap (λ (styled : StyledDocument). taken_keys c.args.edit.now (elements_in (leaving c.args.edit.now styled.tree))) (sym c.self.view_is)) in
-    let gone : length c.as_slice.result.now ≤ element_count (without_keys old) =
-    omega (arith, ap length (c.as_slice.ensures.items ∙ taken), taken_count c.args.edit.now old) in
+    let steps : c.evaluated.new.steps ≤ c.args.steps.now + (11 * element_count (without_keys tree) + element_count (without_keys old)) =
+    within_elements c.args.edit.now c.self.inside.styles c.self.inside.board.held c.self.inside.arena.tree c.commit-reversal.new.self.tree c.in_ok-gone.field-0.stops c.self.invariant.styles_are done (c.self.invariant.kept none)
+    text refl ahead c.self.inside.index
+    (was_read c.args.edit.now _ c.args.self.now c.self.view_is ahead c.self.inside.index (c.as_slice.ensures.items ∙ c.in_ok-gone.ensures.takes)
+    (subst (λ (former : List FormerTarget). AreFormerTargetsOf c.args.edit.now c.args.self.now.tree former) (sym c.as_slice-2.ensures.items) c.in_ok-gone.ensures.former) c.self.invariant.refers)
+    c.self.inside.counting c.self.invariant.counted
+    (ahead_of (λ styled. IfSome c.in_ok-gone.field-0.stops (λ local. local.extent ≡ reach (looks_beside styled.sheet styled.tree) styled.tree c.args.edit.now)) _ _ c.self.view_is c.in_ok-gone.ensures.extent)
+    c.in_ok-gone.ensures.local
+    (ahead_of (λ styled. IfSome c.in_ok-gone.field-0.stops (λ local. local.stops.items ≡ reach_stops local.extent c.args.edit.now 0 styled.tree)) _ _ c.self.view_is c.in_ok-gone.ensures.stops)
+    c.args.steps.now c.evaluated.new.steps c.evaluated.ensures.steps c.evaluated.ensures.whole in
     subst (λ (styled : StyledDocument). StopsWithinWork c.args.edit.now (keyed_source styled) c.args.steps.now c.evaluated.new.steps) c.self.view_is
     (inr (
       record { tree = tree; sheet = text },
       leads c.args.edit.now before text old tree done refl,
-      within_work c.args.edit.now c.self.inside.styles c.self.inside.board.held old tree c.in_ok-gone.field-0.stops
-          c.self.invariant.styles_are done (c.self.invariant.kept none) text refl
-          (record { takes = c.as_slice.result; former = c.as_slice-2.result })
-          (subst (λ (former : List FormerTarget). AreFormerTargetsOf c.args.edit.now old former) (sym c.as_slice-2.ensures.items) (ahead_of (λ styled. AreFormerTargetsOf c.args.edit.now styled.tree c.in_ok-gone.field-0.former) _ _ c.self.view_is c.in_ok-gone.ensures.former))
-          (omega (arith, ap length (c.as_slice.ensures.items ∙ taken), taken_gone c.args.edit.now old tree))
+      within_work c.args.edit.now c.self.inside.styles c.self.inside.board.held c.self.inside.arena.tree c.commit-reversal.new.self.tree c.in_ok-gone.field-0.stops c.self.invariant.styles_are done (c.self.invariant.kept none)
+          text refl ahead c.self.inside.index
+          (was_read c.args.edit.now _ c.args.self.now c.self.view_is ahead c.self.inside.index (c.as_slice.ensures.items ∙ c.in_ok-gone.ensures.takes)
+          (subst (λ (former : List FormerTarget). AreFormerTargetsOf c.args.edit.now c.args.self.now.tree former) (sym c.as_slice-2.ensures.items) c.in_ok-gone.ensures.former) c.self.invariant.refers)
+          c.self.inside.counting c.self.invariant.counted
+          (ahead_of (λ styled. IfSome c.in_ok-gone.field-0.stops (λ local. local.extent ≡ reach (looks_beside styled.sheet styled.tree) styled.tree c.args.edit.now)) _ _ c.self.view_is c.in_ok-gone.ensures.extent)
+          c.in_ok-gone.ensures.local
+          (ahead_of (λ styled. IfSome c.in_ok-gone.field-0.stops (λ local. local.stops.items ≡ reach_stops local.extent c.args.edit.now 0 styled.tree)) _ _ c.self.view_is c.in_ok-gone.ensures.stops)
           c.args.steps.now c.evaluated.new.steps 0 c.evaluated.new.steps
-          (ahead_of (λ styled. IfSome c.in_ok-gone.field-0.stops (λ _. is_unstarted (author_sheet styled.sheet styled.tree) styled.tree ≡ true)) _ _ c.self.view_is c.in_ok-gone.ensures.unstarted) (ahead_of (λ styled. IfSome c.in_ok-gone.field-0.stops (λ local. local.extent ≡ reach (looks_beside styled.sheet styled.tree) styled.tree c.args.edit.now)) _ _ c.self.view_is c.in_ok-gone.ensures.extent) c.in_ok-gone.ensures.local (ahead_of (λ styled. IfSome c.in_ok-gone.field-0.stops (λ local. local.stops.items ≡ reach_stops local.extent c.args.edit.now 0 styled.tree)) _ _ c.self.view_is c.in_ok-gone.ensures.stops) (ahead_of (λ styled. IfNone c.in_ok-gone.field-0.stops ((is_unstarted (author_sheet styled.sheet styled.tree) styled.tree ≡ false) ⊎ (reach (looks_beside styled.sheet styled.tree) styled.tree c.args.edit.now ≡ All))) _ _ c.self.view_is c.in_ok-gone.ensures.none)
+          (ahead_of (λ styled. IfNone c.in_ok-gone.field-0.stops (reach (looks_beside styled.sheet styled.tree) styled.tree c.args.edit.now ≡ All)) _ _ c.self.view_is c.in_ok-gone.ensures.none)
           c.evaluated.ensures.most
-          (omega arith) (omega arith) (omega (arith, gone, c.evaluated.ensures.steps)),
+          (omega arith) (omega arith) (omega (arith, steps)),
     ))

@@ -1,7 +1,7 @@
 use Rattle.std.proofs.Common.{◌≤◌, ◌+◌, ◌*◌, ap, arith, inl, refl, sym, subst}
-use Rattle.dirty_walk.specs.Books.{StyledDocument}
+use Rattle.dirty_walk.specs.Books.{StyledDocument, keyed_source}
 use Rattle.dirty_walk.specs.Plans.{settled_after}
-use Rattle.dirty_walk.specs.WorkBounds.{IsWithinWork, StopsWithinWork, keyed_source}
+use Rattle.dirty_walk.specs.WorkBounds.{IsWithinWork, StopsWithinWork}
 use Rattle.ports.proofs.GrownLemmas.{on_err}
 use Rattle.marker_engine.proofs.ApplyLemmas.{allowed_by, fewer_within_work, no_fault, same_evaluated}
 use Rattle.marker_engine.proofs.engine.Engine.apply.Goals as goal

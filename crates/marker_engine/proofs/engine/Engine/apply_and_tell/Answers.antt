@@ -1,8 +1,8 @@
 use Rattle.std.proofs.Common.{◌≡◌, ◌≤◌, ◌+◌, ◌*◌, ◌∙◌, ap, arith, inl, length, refl, sym, subst}
 use Rattle.std.proofs.lemmas.Result.{IfOk-weaker}
-use Rattle.dirty_walk.specs.Books.{StyledDocument}
+use Rattle.dirty_walk.specs.Books.{StyledDocument, keyed_source}
 use Rattle.dirty_walk.specs.Plans.{IsPlannedBy, settled_after}
-use Rattle.dirty_walk.specs.WorkBounds.{IsWithinWork, StopsWithinWork, keyed_source}
+use Rattle.dirty_walk.specs.WorkBounds.{IsWithinWork, StopsWithinWork}
 use Rattle.changed_lines.specs.Changes.{changed_lines}
 use Rattle.ports.proofs.GrownLemmas.{on_err}
 use Rattle.marker_engine.proofs.ApplyLemmas.{allowed_by, fewer_within_work, no_fault, planned_from, same_evaluated}

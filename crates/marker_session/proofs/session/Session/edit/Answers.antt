@@ -1,7 +1,7 @@
 use Rattle.std.proofs.Common.{◌≡◌, ◌≤◌, ◌+◌, ◌*◌, ℕ, Ok, IfOk, length, subst, sym}
 use Rattle.changed_lines.specs.Changes.{changed_lines}
-use Rattle.dirty_walk.specs.Books.{StyledDocument}
-use Rattle.dirty_walk.specs.WorkBounds.{IsWithinWork, keyed_source}
+use Rattle.dirty_walk.specs.Books.{StyledDocument, keyed_source}
+use Rattle.dirty_walk.specs.WorkBounds.{IsWithinWork}
 use Rattle.document_walk.specs.Elements.{element_count}
 use Rattle.marker_engine.specs.Edited.{edited}
 use Rattle.marker_engine.specs.Engines.{source_of}

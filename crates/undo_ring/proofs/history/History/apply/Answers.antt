@@ -1,7 +1,7 @@
 use Rattle.std.proofs.Common.{◌≡◌, ◌≤◌, ◌+◌, ◌*◌, [], ◌∷◌, take, None, Some, Ok, Err, IfOk, IfErr, OnOk, OnErr, refl, sym, ap, subst, ◌∙◌, inl, arith}
 use Rattle.circular_buffer.specs.Buffer.{Buffer}
-use Rattle.dirty_walk.specs.Books.{StyledDocument}
-use Rattle.dirty_walk.specs.WorkBounds.{IsWithinWork, StopsWithinWork, keyed_source}
+use Rattle.dirty_walk.specs.Books.{StyledDocument, keyed_source}
+use Rattle.dirty_walk.specs.WorkBounds.{IsWithinWork, StopsWithinWork}
 use Rattle.document_walk.specs.Elements.{element_count}
 use Rattle.std.specs.Str.{chars}
 use Rattle.edit_inverses.specs.Versions.{AreSameVersions, versions_after}

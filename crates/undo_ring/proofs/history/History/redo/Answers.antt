@@ -1,7 +1,8 @@
 use Rattle.std.proofs.Common.{◌≡◌, ◌↔◌, ◌∙◌, [], Err, ap, subst, OnOk, OnErr, IfSome, slice_get}
 use Rattle.std.proofs.lemmas.Result.{on_err_weaker, on_ok_weaker}
 use Rattle.circular_buffer.specs.Buffer.{Buffer}
-use Rattle.dirty_walk.specs.WorkBounds.{IsWithinWork, StopsWithinWork, keyed_source}
+use Rattle.dirty_walk.specs.Books.{keyed_source}
+use Rattle.dirty_walk.specs.WorkBounds.{IsWithinWork, StopsWithinWork}
 use Rattle.node_arena.specs.Edits.{IsEdited}
 use Rattle.undo_ring.specs.Histories.{AreRings, EditHistory, in_rings, future, version_of}
 use Rattle.undo_ring.specs.declared.undo_fault.UndoFault.TheVariants.{Nothing}
