@@ -17,6 +17,7 @@ use crate::full_texts::full_text;
 use book_definitions::laws::texts_are_told_piece_by_piece;
 use dump_text::put_line::put_line;
 use generated_texts::entry::{BoxText, NodeEntry};
+use marker_engine::node_path::fill_path;
 use plain_types::box_kind::BoxKind;
 use ports::put_fault::PutFault;
 use ports::sink::Sink;
@@ -31,9 +32,11 @@ struct OpenNode<'a> {
     entry: Option<&'a NodeEntry>,
 }
 
-/// Puts the line of a box of a node, if there is the box, which has this text where its document stands alone.
+/// Puts the line of a box of a node, if there is the box, which has this text where its document stands alone. The
+/// positions are room for the node's path.
 fn put_box<O: Sink, L: Ledger>(
     alloc: Global,
+    positions: &mut Vec<usize>,
     volume: &[EvaluatedChapter],
     own: &EvaluatedChapter,
     key: usize,
@@ -54,13 +57,13 @@ fn put_box<O: Sink, L: Ledger>(
     let Some(text) = text else {
         return Ok(());
     };
-    let path = own.arena().path_of(alloc, key)?;
+    fill_path(positions, own.arena(), key)?;
     if let Some(pieces) = own.pieces(key, kind, steps) {
         let full = full_text(alloc, volume, own, pieces, steps)?;
-        put_line(&path, kind, &full, out)?;
+        put_line(positions.as_slice(), kind, &full, out)?;
         return Ok(());
     }
-    put_line(&path, kind, &text.full, out)?;
+    put_line(positions.as_slice(), kind, &text.full, out)?;
     Ok(())
 }
 
@@ -68,6 +71,7 @@ fn put_box<O: Sink, L: Ledger>(
 /// alone.
 fn enter<'a, O: Sink, L: Ledger>(
     alloc: Global,
+    positions: &mut Vec<usize>,
     volume: &[EvaluatedChapter],
     own: &'a EvaluatedChapter,
     key: usize,
@@ -86,6 +90,7 @@ fn enter<'a, O: Sink, L: Ledger>(
     };
     put_box(
         alloc,
+        positions,
         volume,
         own,
         key,
@@ -96,6 +101,7 @@ fn enter<'a, O: Sink, L: Ledger>(
     )?;
     put_box(
         alloc,
+        positions,
         volume,
         own,
         key,
@@ -110,6 +116,7 @@ fn enter<'a, O: Sink, L: Ledger>(
 /// Puts the line of the after box of a node of which this is kept where its document stands alone.
 fn leave<O: Sink, L: Ledger>(
     alloc: Global,
+    positions: &mut Vec<usize>,
     volume: &[EvaluatedChapter],
     own: &EvaluatedChapter,
     key: usize,
@@ -126,6 +133,7 @@ fn leave<O: Sink, L: Ledger>(
     if let Some(entry) = kept {
         put_box(
             alloc,
+            positions,
             volume,
             own,
             key,
@@ -138,8 +146,8 @@ fn leave<O: Sink, L: Ledger>(
     Ok(())
 }
 
-/// Puts the lines of a chapter of a volume. It takes memory for the path of a node, for the nodes that it is in, and for the
-/// texts of a box.
+/// Puts the lines of a chapter of a volume. It takes memory for the path of one node, for the nodes that it is in, and for the
+/// texts of a box that has urls: none for another line, once there is room for the first two.
 pub(crate) fn put_chapter<O: Sink, L: Ledger>(
     alloc: Global,
     volume: &[EvaluatedChapter],
@@ -153,19 +161,29 @@ pub(crate) fn put_chapter<O: Sink, L: Ledger>(
     ensures steps { steps.new ≤ steps.old + 4 * chapter_work volume.now own.now }
 {
     let arena = own.arena();
+    let mut positions = Vec::new(alloc);
     let mut inside = Vec::new(alloc);
     let mut link = Some(arena.root());
     'walk: loop {
         match link {
             Some(key) => {
-                let entry = enter(alloc, volume, own, key, out, steps)?;
+                let entry = enter(alloc, &mut positions, volume, own, key, out, steps)?;
                 inside.push(OpenNode { key, entry })?;
                 link = arena.first_child(key);
             }
             None => match inside.pop() {
                 None => return Ok(()),
                 Some(node) => {
-                    leave(alloc, volume, own, node.key, node.entry, out, steps)?;
+                    leave(
+                        alloc,
+                        &mut positions,
+                        volume,
+                        own,
+                        node.key,
+                        node.entry,
+                        out,
+                        steps,
+                    )?;
                     link = arena.next_sibling(node.key);
                 }
             },

@@ -113,7 +113,7 @@ impl Volume {
     /// anew at each call, those of all other boxes are there already. Where it fails, a front of the dump went out.
     ///
     /// It takes time linear in the chapter and the bytes of the dump, and for each url in the chapters' names and in what it
-    /// writes; and memory for the path of a node, for the nodes that it is in, and for the texts of a box.
+    /// writes; and memory for the path of one node, for the nodes that it is in, and for the texts of a box that has urls.
     pub fn show<O: Sink, L: Ledger>(
         &self,
         alloc: Global,

@@ -5,14 +5,14 @@
 //! quotes with its escapes: `\"`, `\\` and `\n` for the quote, the backslash and the line feed, and
 //! `\u{h}` for the other controls below U+0020 and for U+007F. The format is our own.
 //!
-//! What goes in is a box's path, kind and text, what comes out goes to a sink. Nothing here takes
-//! memory: a text goes out in the runs between its escapes. The layers above know these bytes by
-//! `line_text`, `quoted` and `dump` of the definitions of a dump; `proofs/DumpLemmas` says that a dump's
-//! bytes are those of its lines, one after the other.
+//! What goes in is a box's path, as a slice of its positions, its kind and its text, what comes out goes to
+//! a sink. Nothing here takes memory: a text goes out in the runs between its escapes. The layers above
+//! know these bytes by `line_text`, `quoted` and `dump` of the definitions of a dump; `proofs/DumpLemmas`
+//! says that a dump's bytes are those of its lines, one after the other.
 //!
 //! ```
 //! // puts `/0/1 marker "2. "` and a line feed
-//! put_line(&Path::of(alloc, &[0, 1])?, BoxKind::Marker, &Text::from_str(alloc, "2. ")?, out)?;
+//! put_line(&[0, 1], BoxKind::Marker, &Text::from_str(alloc, "2. ")?, out)?;
 //! ```
 #![tactic(auto)]
 

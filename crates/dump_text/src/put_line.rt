@@ -10,7 +10,6 @@ ghost use Rattle.ports.specs.Grown.{grown, GrowsByFront};
 use crate::put_quoted::put_quoted;
 use itoa::Buffer;
 use plain_types::box_kind::BoxKind;
-use plain_types::path::Path;
 use plain_types::text::Text;
 use ports::failed::Failed;
 use ports::sink::{Sink, put_all};
@@ -27,17 +26,16 @@ fn put_position<O: Sink>(position: usize, out: &mut O) -> Result<(), Failed>
     put_all(out, digits.as_bytes())
 }
 
-/// Puts a path, as `/` or `/0/12`. After `Failed` a front of its bytes went out. It takes no memory.
-pub fn put_path<O: Sink>(path: &Path, out: &mut O) -> Result<(), Failed>
+/// Puts the path of these positions, as `/` or `/0/12`. After `Failed` a front of its bytes went out. It takes no memory.
+pub fn put_path<O: Sink>(path: &[usize], out: &mut O) -> Result<(), Failed>
     ensures ok { OnOk result (O.out out.new ≡ grown (O.out out.old) (encode_utf8_all (path_text path.now))) }
     ensures failed { OnErr result (GrowsByFront (O.out out.old) (O.out out.new) (encode_utf8_all (path_text path.now))) }
     ensures cause { HasCause (O.faults out.old) (O.faults out.new) result }
 {
-    let positions = path.as_slice();
-    if positions.is_empty() {
+    if path.is_empty() {
         return put_all(out, b"/");
     }
-    for position in positions {
+    for position in path {
         put_position(*position, out)?;
     }
     Ok(())
@@ -57,10 +55,15 @@ pub fn put_kind<O: Sink>(kind: BoxKind, out: &mut O) -> Result<(), Failed>
     }
 }
 
-/// Puts the line of a box: the path of its element, which of the element's boxes it is, and its text.
+/// Puts the line of a box: the positions of its element's path, which of the element's boxes it is, and its text.
 /// After `Failed` a front of its bytes went out. It takes no memory, and time linear in the path and the
 /// text.
-pub fn put_line<O: Sink>(path: &Path, kind: BoxKind, text: &Text, out: &mut O) -> Result<(), Failed>
+pub fn put_line<O: Sink>(
+    path: &[usize],
+    kind: BoxKind,
+    text: &Text,
+    out: &mut O,
+) -> Result<(), Failed>
     // an element's own box has no line
     requires pseudo { kind ≢ kinds.Element }
     ensures ok { OnOk result (O.out out.new

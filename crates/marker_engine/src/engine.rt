@@ -187,8 +187,9 @@ impl Engine {
     /// Puts the dump of the document to `out`: a line for each marker, before and after box, in tree order. Where
     /// it fails, a front of the dump went out.
     ///
-    /// It takes time linear in the document and the bytes of the dump, and memory for the path of a node and for
-    /// the nodes that it is in. The texts are there already: what is kept of an element is looked up once.
+    /// It takes time linear in the document and the bytes of the dump, and memory for the path of one node and for
+    /// the nodes that it is in: none for a line, once there is room for these. The texts are there already: what is
+    /// kept of an element is looked up once.
     pub fn show<O: Sink, L: Ledger>(
         &self,
         alloc: Global,

@@ -22,3 +22,4 @@ pub mod edit_fault;
 pub mod engine;
 mod entries;
 mod lines;
+pub mod node_path;

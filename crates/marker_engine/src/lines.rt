@@ -13,6 +13,7 @@ ghost use Rattle.ports.specs.Puts.{HasPutCause};
 ghost use Rattle.document_walk.specs.Elements.{element_count};
 
 use crate::entries::find_entry;
+use crate::node_path::fill_path;
 use dirty_walk::book::Book;
 use dump_text::put_line::put_line;
 use generated_texts::entry::{BoxText, NodeEntry};
@@ -31,9 +32,9 @@ struct OpenNode<'a> {
     entry: Option<&'a NodeEntry>,
 }
 
-/// Puts the line of a box of a node, where there is one.
+/// Puts the line of a box of a node, where there is one. The positions are room for its path.
 fn put_box<O: Sink>(
-    alloc: Global,
+    positions: &mut Vec<usize>,
     arena: &Arena,
     key: usize,
     kind: BoxKind,
@@ -47,15 +48,15 @@ fn put_box<O: Sink>(
     ensures cause { HasPutCause (O.faults out.old) (O.faults out.new) result }
 {
     if let Some(text) = text {
-        let path = arena.path_of(alloc, key)?;
-        put_line(&path, kind, &text.full, out)?;
+        fill_path(positions, arena, key)?;
+        put_line(positions.as_slice(), kind, &text.full, out)?;
     }
     Ok(())
 }
 
 /// Puts the lines of the marker and the before box of a node of which this is kept.
 fn put_first<O: Sink>(
-    alloc: Global,
+    positions: &mut Vec<usize>,
     arena: &Arena,
     key: usize,
     kept: Option<&NodeEntry>,
@@ -67,15 +68,15 @@ fn put_first<O: Sink>(
     ensures cause { HasPutCause (O.faults out.old) (O.faults out.new) result }
 {
     if let Some(entry) = kept {
-        put_box(alloc, arena, key, BoxKind::Marker, &entry.marker, out)?;
-        put_box(alloc, arena, key, BoxKind::Before, &entry.before, out)?;
+        put_box(positions, arena, key, BoxKind::Marker, &entry.marker, out)?;
+        put_box(positions, arena, key, BoxKind::Before, &entry.before, out)?;
     }
     Ok(())
 }
 
 /// Puts the line of the after box of a node of which this is kept.
 fn put_last<O: Sink>(
-    alloc: Global,
+    positions: &mut Vec<usize>,
     arena: &Arena,
     key: usize,
     kept: Option<&NodeEntry>,
@@ -87,13 +88,13 @@ fn put_last<O: Sink>(
     ensures cause { HasPutCause (O.faults out.old) (O.faults out.new) result }
 {
     if let Some(entry) = kept {
-        put_box(alloc, arena, key, BoxKind::After, &entry.after, out)?;
+        put_box(positions, arena, key, BoxKind::After, &entry.after, out)?;
     }
     Ok(())
 }
 
 /// Puts the lines of a document, in time linear in its nodes and the bytes of the lines, a step an element at most. It
-/// takes memory for the path of a node and for the nodes that it is in.
+/// takes memory for the path of one node and for the nodes that it is in, and none for a line once there is room for these.
 pub(crate) fn put_lines<O: Sink, L: Ledger>(
     alloc: Global,
     book: &Book,
@@ -107,20 +108,21 @@ pub(crate) fn put_lines<O: Sink, L: Ledger>(
     ensures steps { steps.new ≤ steps.old + element_count (without_keys book.now.tree) }
 {
     let arena = book.arena();
+    let mut positions = Vec::new(alloc);
     let mut inside = Vec::new(alloc);
     let mut link = Some(arena.root());
     'walk: loop {
         match link {
             Some(key) => {
                 let entry = find_entry(book, key, steps);
-                put_first(alloc, arena, key, entry, out)?;
+                put_first(&mut positions, arena, key, entry, out)?;
                 inside.push(OpenNode { key, entry })?;
                 link = arena.first_child(key);
             }
             None => match inside.pop() {
                 None => return Ok(()),
                 Some(node) => {
-                    put_last(alloc, arena, node.key, node.entry, out)?;
+                    put_last(&mut positions, arena, node.key, node.entry, out)?;
                     link = arena.next_sibling(node.key);
                 }
             },

@@ -49,7 +49,7 @@ fn put_counter<O: Sink>(
     put_all(out, b"counter ")?;
     put_quoted(counter.name.as_str(), out)?;
     put_all(out, b" ")?;
-    put_path(&path, out)?;
+    put_path(path.as_slice(), out)?;
     put_kind(counter.creator.kind, out)?;
     put_value(counter.value, out)?;
     Ok(())
