@@ -2,3 +2,4 @@ pub mod Predefined
 pub mod Rules
 pub mod Counts
 pub mod Extends
+pub mod Named

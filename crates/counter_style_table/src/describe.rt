@@ -1,10 +1,11 @@
 //! What a rule says of a style (CSS Counter Styles 3, 3).
 
-ghost use Rattle.std.specs.Prelude.{◌≡◌, IfOk, OnOk, codes, option_copied, unwrap_or};
+ghost use Rattle.std.specs.Prelude.{◌≡◌, IfOk, IfSome, None, OnOk, codes, option_copied, unwrap_or};
 ghost use Rattle.std.specs.List.{fold};
 ghost use Rattle.std.specs.Option.{option_map};
 ghost use Rattle.std.specs.Str.{chars};
 ghost use Rattle.plain_types.specs.StyleNames.{style_name};
+ghost use Rattle.counter_style_table.specs.Named.{named_after};
 ghost use Rattle.css_definitions.specs.CounterStyles.{automatic_range, described, system_after, extended_by, initial_style, over, own_style, system_of};
 
 use plain_types::count::Count;
@@ -42,6 +43,7 @@ pub fn over(alloc: Global, rule: &StyleDef, mut style: CounterStyle) -> Result<C
 /// The name of the style that a rule extends, as the rule has it.
 pub fn extended_name(rule: &StyleDef) -> Option<&Text>
     ensures name { option_map style_name (option_copied result) ≡ extended_by (system_of rule.now) }
+    ensures written { IfSome result (λ name. system_of rule.now ≡ System.Extends name.now) }
 {
     match named_system(rule.descriptors.as_slice()) {
         Some(System::Extends(name)) => Some(name),
@@ -52,6 +54,7 @@ pub fn extended_name(rule: &StyleDef) -> Option<&Text>
 /// The system that is named last.
 pub fn named_system(descriptors: &[Descriptor]) -> Option<&System>
     ensures system { unwrap_or (option_copied result) System.Symbolic ≡ fold system_after System.Symbolic descriptors.now }
+    ensures last { option_copied result ≡ fold named_after None descriptors.now }
 {
     let mut named = None;
     for descriptor in descriptors {
