@@ -3,7 +3,7 @@ use Rattle.std.proofs.Common.{◌≡◌, Option, None, Some, refl, sym, ◌∙�
 use Rattle.box_eval.specs.Starts.{has_starts}
 use Rattle.counter_index.specs.declared.deeds.CounterDeeds.{CounterDeeds}
 use Rattle.counter_index.specs.declared.index.CounterIndex.{CounterIndex}
-use Rattle.counter_index.specs.Asking.{HasAsking, is_asking}
+use Rattle.counter_index.specs.Machinery.Asking.{HasAsking, is_asking}
 use Rattle.counter_index.specs.Indexes.{AsksForStarts, asked_by, deeds_at}
 
 asks-here : (deeds : Option CounterDeeds) → is_asking (λ (its : CounterDeeds). has_starts its.asked) deeds ≡ has_starts (asked_by deeds)

@@ -5,7 +5,7 @@ use Rattle.std.proofs.Math.ListN.{length-set}
 use Rattle.snapshot_board.specs.Records.{Records}
 use Rattle.snapshot_board.specs.Slots.{held_in, records_in}
 use Rattle.snapshot_board.proofs.SlotLemmas.{get-held_in}
-use Rattle.counter_index.specs.Asking.{HasAsking, count_asking, is_asking}
+use Rattle.counter_index.specs.Machinery.Asking.{HasAsking, count_asking, is_asking}
 
 module _ {T : Type 0} (asks : T → Bool) where
   abbrev one_if : Bool → ℕ

@@ -15,7 +15,7 @@ use Rattle.box_eval.specs.Starts.{events_of}
 use Rattle.scope_reading.specs.ScopeChanges.{has_it}
 use Rattle.scope_deeds.specs.Counting.{Counting}
 use Rattle.scope_deeds.specs.KeptScopes.{kept_after, kept_before, kept_changes, kept_own, kept_row}
-use Rattle.counter_index.specs.Rows.{boxed_changes, lacks_it}
+use Rattle.counter_index.specs.Machinery.Rows.{boxed_changes, lacks_it}
 use Rattle.counter_index.proofs.EventTurns.{events-append}
 
 module _ (creator : BoxId) (name : List ℕ) where

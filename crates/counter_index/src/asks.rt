@@ -1,7 +1,7 @@
 //! What asks for starts.
 
 ghost use Rattle.std.specs.Prelude.{◌≡◌, Bool, option_copied};
-ghost use Rattle.counter_index.specs.Asking.{is_asking};
+ghost use Rattle.counter_index.specs.Machinery.Asking.{is_asking};
 
 use crate::deeds::CounterDeeds;
 use box_eval::inputs::Start;

@@ -9,7 +9,7 @@ ghost use Rattle.box_eval.specs.Starts.{events_of};
 ghost use Rattle.scope_reading.specs.ScopeChanges.{has_it};
 ghost use Rattle.scope_deeds.specs.KeptScopes.{kept_after, kept_before, kept_changes, kept_from, kept_own, kept_row, kept_scope};
 ghost use Rattle.counter_index.specs.Indexes.{countings, told_by_scope, with_values};
-ghost use Rattle.counter_index.specs.Rows.{boxed_changes, lacks_it, tree_changes};
+ghost use Rattle.counter_index.specs.Machinery.Rows.{boxed_changes, lacks_it, tree_changes};
 
 use crate::deeds::CounterDeeds;
 use crate::events::{add_after, add_before, add_under};

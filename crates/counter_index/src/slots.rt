@@ -2,7 +2,7 @@
 
 ghost use Rattle.std.specs.Prelude.{◌≡◌, ◌↔◌, ◌+◌, ◌<◌, ◌≤◌, ◌++◌, ℕ, IsTrue, None, OnErr, OnOk, cond, length, option_copied, replicate, slice_index_or, slice_set};
 ghost use Rattle.std.specs.FinMap.{empty, get};
-ghost use Rattle.counter_index.specs.Asking.{HasAsking, count_asking};
+ghost use Rattle.counter_index.specs.Machinery.Asking.{HasAsking, count_asking};
 ghost use Rattle.counter_index.specs.Exchanges.{HasRoomFor, IsWayBack, after_exchange, exchanged, keys_in, restored};
 
 use crate::asks::{Asks, is_asking};
@@ -23,7 +23,7 @@ impl<T: Asks> Model for Slots<T> {
     ghost use Rattle.std.specs.Prelude.{◌≡◌};
     ghost use Rattle.snapshot_board.specs.Records.{Records, records_code};
     ghost use Rattle.snapshot_board.specs.Slots.{records_in};
-    ghost use Rattle.counter_index.specs.Asking.{count_asking};
+    ghost use Rattle.counter_index.specs.Machinery.Asking.{count_asking};
 
     ghost Value = { Records T };
 

@@ -30,12 +30,12 @@ use Rattle.started_walk.specs.Countings.{Counts}
 use Rattle.target_index.specs.declared.index.Index.{Index}
 use Rattle.kept_elements.specs.declared.kept.Kept.{Kept}
 use Rattle.dirty_walk.specs.declared.read_ahead.ReadAhead.{ReadAhead}
-use Rattle.dirty_walk.specs.CountedEdits.{IsSomeCountedEdit, IsWithinCounted, IsWithinCountedElements}
+use Rattle.dirty_walk.specs.Machinery.CountedEdits.{IsSomeCountedEdit, IsWithinCounted, IsWithinCountedElements}
 use Rattle.dirty_walk.specs.Countings.{IsCounted, IsSomeStartedEdit, StaysCounted}
-use Rattle.dirty_walk.specs.PlaceNews.{IsWithinPlace}
+use Rattle.dirty_walk.specs.Machinery.PlaceNews.{IsWithinPlace}
 use Rattle.dirty_walk.specs.Places.{IsLocalEdit, place_budget, place_work}
 use Rattle.dirty_walk.specs.ReadAhead.{IsSomePlaceRead, WasReadOf}
-use Rattle.dirty_walk.specs.StartedSteps.{IsWithinElements, IsWithinStarted}
+use Rattle.dirty_walk.specs.Machinery.StartedSteps.{IsWithinElements, IsWithinStarted}
 use Rattle.dirty_walk.specs.Unstarted.{are_unstarted, is_unstarted}
 use Rattle.dirty_walk.proofs.AskLemmas.{asks_same}
 use Rattle.dirty_walk.proofs.ExchangeLaws.{taken_count}

@@ -37,8 +37,8 @@ use Rattle.dirty_walk.specs.DocumentStyles.{document_styles}
 use Rattle.dirty_walk.specs.Exchanges.{elements_in, leaving, taken_keys}
 use Rattle.dirty_walk.specs.FormerTargets.{AreFormerTargetsOf}
 use Rattle.dirty_walk.specs.Places.{place_work}
-use Rattle.dirty_walk.specs.ReferenceExchanges.{ChangesReferences, IsWithinKeys}
-use Rattle.dirty_walk.specs.SomeNews.{IsSomeNews}
+use Rattle.dirty_walk.specs.Machinery.ReferenceExchanges.{ChangesReferences, IsWithinKeys}
+use Rattle.dirty_walk.specs.Machinery.SomeNews.{IsSomeNews}
 use Rattle.dirty_walk.proofs.ExchangeLaws.{takes_are}
 use Rattle.dirty_walk.proofs.KeptReferences.{changes_references}
 use Rattle.dirty_walk.proofs.PlaceLemmas.{its_table}

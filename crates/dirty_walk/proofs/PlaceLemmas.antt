@@ -53,7 +53,7 @@ use Rattle.dirty_walk.specs.declared.styled_arena.StyledArena.{StyledArena}
 use Rattle.dirty_walk.specs.DocumentStyles.{document_styles, read_styles}
 use Rattle.kept_elements.specs.Evaluations.{document_kept, document_told}
 use Rattle.kept_elements.specs.Renewals.{kept_in}
-use Rattle.dirty_walk.specs.PlaceReadings.{read_of}
+use Rattle.dirty_walk.specs.Machinery.PlaceReadings.{read_of}
 use Rattle.dirty_walk.specs.PlaceStyles.{StandsBefore}
 use Rattle.dirty_walk.specs.Places.{IsLocalEdit, IsSomePlace, place_budget, place_merge, reading_of, walked_at}
 use Rattle.dirty_walk.specs.Unstarted.{is_unstarted}

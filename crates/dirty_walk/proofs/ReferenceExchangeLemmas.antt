@@ -33,7 +33,7 @@ use Rattle.kept_elements.specs.Renewals.{is_told}
 use Rattle.dirty_walk.specs.declared.reference_exchange.Reference.{Reference}
 use Rattle.dirty_walk.specs.Exchanges.{exchanges, held, unheld}
 use Rattle.dirty_walk.specs.Machinery.ReferenceLists.{all_kept, all_told, box_references, boxes_references, element_references, exchanged, kept_box_references, kept_references, piece_references, referred, unreferred}
-use Rattle.dirty_walk.specs.ReferenceExchanges.{ChangesReferences, LeadsBack, references_in, references_kept, references_of_boxes}
+use Rattle.dirty_walk.specs.Machinery.ReferenceExchanges.{ChangesReferences, LeadsBack, references_in, references_kept, references_of_boxes}
 
 -- Tests.
 

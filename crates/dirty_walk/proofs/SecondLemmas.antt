@@ -52,8 +52,8 @@ use Rattle.kept_elements.proofs.StopLemmas.{stops_lead}
 use Rattle.kept_elements.proofs.ToldLemmas.{told_once}
 use Rattle.dirty_walk.specs.declared.read_ahead.ReadAhead.{ReadAhead}
 use Rattle.dirty_walk.specs.Places.{IsLocalEdit, place_work}
-use Rattle.dirty_walk.specs.SecondWalks.{IsSomeSecondWalk}
-use Rattle.dirty_walk.specs.SomeNews.{IsSomeNews, IsSomeNewsRead}
+use Rattle.dirty_walk.specs.Machinery.SecondWalks.{IsSomeSecondWalk}
+use Rattle.dirty_walk.specs.Machinery.SomeNews.{IsSomeNews, IsSomeNewsRead}
 use Rattle.dirty_walk.proofs.KeptReferences.{told_keys}
 use Rattle.dirty_walk.proofs.ExchangeLaws.{taken_beside}
 use Rattle.dirty_walk.proofs.PlaceLemmas.{held_are, sheet_is, sheet_stays}

@@ -46,10 +46,10 @@ use Rattle.kept_elements.proofs.StopLemmas.{stops_lead}
 use Rattle.kept_elements.proofs.ToldLemmas.{told_once}
 use Rattle.dirty_walk.specs.declared.styled_arena.StyledArena.{StyledArena}
 use Rattle.dirty_walk.specs.DocumentStyles.{document_styles}
-use Rattle.dirty_walk.specs.PlaceNews.{AreNewsFrom}
-use Rattle.dirty_walk.specs.PlaceReadings.{read_of}
+use Rattle.dirty_walk.specs.Machinery.PlaceNews.{AreNewsFrom}
+use Rattle.dirty_walk.specs.Machinery.PlaceReadings.{read_of}
 use Rattle.dirty_walk.specs.Places.{IsSomePlace, place_merge, place_work, reading_of, walked_at}
-use Rattle.dirty_walk.specs.SomeNews.{IsSomeNews}
+use Rattle.dirty_walk.specs.Machinery.SomeNews.{IsSomeNews}
 use Rattle.dirty_walk.specs.Unstarted.{are_unstarted, is_unstarted}
 use Rattle.dirty_walk.proofs.AskLemmas.{unstarted_without_starts, without_starts_unstarted}
 use Rattle.dirty_walk.proofs.KeptReferences.{told_keys}

@@ -46,10 +46,10 @@ use Rattle.dirty_walk.specs.declared.styled_arena.StyledArena.{StyledArena}
 use Rattle.dirty_walk.specs.Countings.{IsSomeStartedEdit}
 use Rattle.dirty_walk.specs.DocumentStyles.{document_styles}
 use Rattle.dirty_walk.specs.Exchanges.{elements_in, leaving, taken_keys}
-use Rattle.dirty_walk.specs.PlaceReadings.{read_of}
+use Rattle.dirty_walk.specs.Machinery.PlaceReadings.{read_of}
 use Rattle.dirty_walk.specs.Places.{IsLocalEdit, place_work, walked_at}
-use Rattle.dirty_walk.specs.SecondWalks.{IsSomeSecondWalk, IsWithinSecond}
-use Rattle.dirty_walk.specs.StartedSteps.{IsWithinStarted}
+use Rattle.dirty_walk.specs.Machinery.SecondWalks.{IsSomeSecondWalk, IsWithinSecond}
+use Rattle.dirty_walk.specs.Machinery.StartedSteps.{IsWithinStarted}
 use Rattle.dirty_walk.proofs.ExchangeLaws.{takes_are}
 use Rattle.dirty_walk.proofs.GoneLemmas.{gone-reached, taken_gone}
 use Rattle.dirty_walk.proofs.KeptReferences.{turned}

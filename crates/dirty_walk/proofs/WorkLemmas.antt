@@ -46,7 +46,7 @@ use Rattle.dirty_walk.specs.declared.local_stops.LocalStops.{LocalStops}
 use Rattle.dirty_walk.specs.DocumentStyles.{document_styles}
 use Rattle.kept_elements.specs.Evaluations.{document_kept}
 use Rattle.dirty_walk.specs.declared.read_ahead.ReadAhead.{ReadAhead}
-use Rattle.dirty_walk.specs.CountedEdits.{IsWithinEdit, IsWithinEditElements}
+use Rattle.dirty_walk.specs.Machinery.CountedEdits.{IsWithinEdit, IsWithinEditElements}
 use Rattle.dirty_walk.specs.Countings.{IsCounted, StandsCounted}
 use Rattle.dirty_walk.specs.Places.{place_budget, place_work}
 use Rattle.dirty_walk.specs.ReadAhead.{WasReadOf}

@@ -10,9 +10,9 @@ ghost use Rattle.referring_elements.specs.Indexes.{IsIndexOf, TellsReferences};
 ghost use Rattle.kept_elements.specs.Changes.{AreBelow, Renews};
 ghost use Rattle.kept_elements.specs.Evaluations.{document_kept, evaluated_document};
 ghost use Rattle.started_walk.specs.Countings.{Counts};
-ghost use Rattle.dirty_walk.specs.CountedEdits.{IsSomeCountedEdit, IsWithinCounted, IsWithinCountedElements};
+ghost use Rattle.dirty_walk.specs.Machinery.CountedEdits.{IsSomeCountedEdit, IsWithinCounted, IsWithinCountedElements};
 ghost use Rattle.dirty_walk.specs.Countings.{IsCounted, StaysCounted};
-ghost use Rattle.dirty_walk.specs.ReferenceExchanges.{HoldersStayReserved};
+ghost use Rattle.dirty_walk.specs.Machinery.ReferenceExchanges.{HoldersStayReserved};
 ghost use Rattle.dirty_walk.specs.Unstarted.{is_unstarted};
 
 use crate::places::changes_from_place;

@@ -11,7 +11,7 @@ ghost use Rattle.kept_elements.specs.Evaluations.{all_kept_of, document_told, sa
 ghost use Rattle.referring_elements.specs.Indexes.{IsIndexOf};
 ghost use Rattle.kept_elements.specs.Known.{IsKeptIn, all_flat_texts_of, known_by};
 ghost use Rattle.dirty_walk.specs.Countings.{IsCounted};
-ghost use Rattle.dirty_walk.specs.DocumentWalks.{told_by_index, told_without_starts};
+ghost use Rattle.dirty_walk.specs.Machinery.DocumentWalks.{told_by_index, told_without_starts};
 
 use crate::named_elements::NamedElements;
 use crate::styled_arena::StyledArena;

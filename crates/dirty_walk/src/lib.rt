@@ -44,8 +44,8 @@
 //! `IsPlannedBy` and `plan_size` of `specs/Plans.antt`: what a planned edit makes of a book, which plans are a book's,
 //! and how much comes and goes. Between the two `specs/PlannedEntries.antt` says what is kept of the edited document,
 //! by what the plan puts and by what was kept before. `specs/WorkBounds.antt` says of which edits the work bounds the
-//! steps, `specs/Places.antt` where a walk from a place stands, and `specs/PlaceNews.antt` what it costs; `specs/Countings.antt`
-//! what is kept for two walks, and `specs/CountedEdits.antt` what an edit costs by one walk or by two. What a volume
+//! steps, `specs/Places.antt` where a walk from a place stands, and `specs/Countings.antt` what is kept for two walks. What private
+//! functions say, of one walk or two and of what these cost, is in `specs/Machinery`. What a volume
 //! of several documents needs of each, beside entries, a settled book tells too: its counter styles, the first element
 //! of an id, and by `fresh_pieces` of `specs/FreshPieces.antt` the pieces of a box where one of them has a url.
 //!

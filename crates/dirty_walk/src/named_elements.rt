@@ -7,7 +7,7 @@ ghost use Rattle.forest.specs.Spots.{IsLink};
 ghost use Rattle.generated_texts.specs.References.{first_holder};
 ghost use Rattle.surroundings.specs.declared.told.Told.{Told};
 ghost use Rattle.referring_elements.specs.Indexes.{IsIndexOf};
-ghost use Rattle.dirty_walk.specs.NamedElements.{AreHoldersOf};
+ghost use Rattle.dirty_walk.specs.Machinery.NamedElements.{AreHoldersOf};
 ghost use Rattle.box_pieces.specs.BoxPieces.{refers};
 
 use box_pieces::box_pieces::refers;

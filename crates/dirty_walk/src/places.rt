@@ -19,12 +19,12 @@ ghost use Rattle.kept_elements.specs.Changes.{AreBelow, Renews};
 ghost use Rattle.kept_elements.specs.Evaluations.{all_kept_of, document_kept, evaluated_document, said_of};
 ghost use Rattle.kept_elements.specs.RenewalSteps.{renewal_weight};
 ghost use Rattle.kept_elements.specs.Renewals.{IsSomeWalk, evaluated_as};
-ghost use Rattle.dirty_walk.specs.PlaceNews.{AreNewsFrom, IsWithinPlace};
-ghost use Rattle.dirty_walk.specs.PlaceReadings.{read_of};
+ghost use Rattle.dirty_walk.specs.Machinery.PlaceNews.{AreNewsFrom, IsWithinPlace};
+ghost use Rattle.dirty_walk.specs.Machinery.PlaceReadings.{read_of};
 ghost use Rattle.dirty_walk.specs.Places.{IsSomePlace, walked_at};
 ghost use Rattle.dirty_walk.specs.ReadAhead.{IsSomePlaceRead};
-ghost use Rattle.dirty_walk.specs.ReferenceExchanges.{HoldersStayReserved};
-ghost use Rattle.dirty_walk.specs.SomeNews.{IsSomeNewsRead, IsWithinNews};
+ghost use Rattle.dirty_walk.specs.Machinery.ReferenceExchanges.{HoldersStayReserved};
+ghost use Rattle.dirty_walk.specs.Machinery.SomeNews.{IsSomeNewsRead, IsWithinNews};
 ghost use Rattle.dirty_walk.specs.Unstarted.{is_unstarted};
 
 use crate::board::room_for;

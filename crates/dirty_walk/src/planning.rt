@@ -8,13 +8,13 @@ ghost use Rattle.node_arena.specs.Edits.{edited_sheet};
 ghost use Rattle.document_walk.specs.Elements.{element_count};
 ghost use Rattle.target_index.specs.Holders.{is_holder, is_reference};
 ghost use Rattle.kept_elements.specs.Changes.{AreBelow, Renews};
-ghost use Rattle.dirty_walk.specs.CountedEdits.{IsWithinEdit, IsWithinEditElements};
+ghost use Rattle.dirty_walk.specs.Machinery.CountedEdits.{IsWithinEdit, IsWithinEditElements};
 ghost use Rattle.dirty_walk.specs.Countings.{IsCounted, StandsCounted, StaysCounted};
 ghost use Rattle.dirty_walk.specs.DocumentStyles.{document_styles, read_styles};
-ghost use Rattle.dirty_walk.specs.EditedArenas.{evaluated_after, is_unstarted_after, kept_after, source_after, styles_after};
+ghost use Rattle.dirty_walk.specs.Machinery.EditedArenas.{evaluated_after, is_unstarted_after, kept_after, source_after, styles_after};
 ghost use Rattle.dirty_walk.specs.Exchanges.{IsIndexBefore};
 ghost use Rattle.referring_elements.specs.Indexes.{IsIndexOf, TellsReferences};
-ghost use Rattle.dirty_walk.specs.ReferenceExchanges.{HoldersStayReserved};
+ghost use Rattle.dirty_walk.specs.Machinery.ReferenceExchanges.{HoldersStayReserved};
 
 use crate::counted::changes_at_place;
 use crate::document_styles::DocumentStyles;

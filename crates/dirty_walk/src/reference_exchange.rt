@@ -5,7 +5,7 @@ ghost use Rattle.target_index.specs.Changes.{AreReserved, refers_after_all};
 ghost use Rattle.target_index.specs.Holders.{is_holder, is_reference};
 ghost use Rattle.reference_reach.specs.ChangedTargets.{Evaluated};
 ghost use Rattle.referring_elements.specs.Indexes.{TellsReferences};
-ghost use Rattle.dirty_walk.specs.ReferenceExchanges.{ChangesReferences, HoldersStayReserved, IsWithinKeys, LeadsBack};
+ghost use Rattle.dirty_walk.specs.Machinery.ReferenceExchanges.{ChangesReferences, HoldersStayReserved, IsWithinKeys, LeadsBack};
 ghost use Rattle.dirty_walk.specs.Machinery.ReferenceLists.{all_kept, all_told, box_references, boxes_references, element_references, exchanged, kept_box_references, kept_references, piece_references, referred, unreferred};
 
 use box_eval::element_record::ElementRecord;

@@ -11,9 +11,9 @@ ghost use Rattle.kept_elements.specs.Changes.{AreBelow, Renews};
 ghost use Rattle.kept_elements.specs.Evaluations.{document_kept, evaluated_document};
 ghost use Rattle.started_walk.specs.Countings.{Counts};
 ghost use Rattle.dirty_walk.specs.Countings.{IsSomeStartedEdit};
-ghost use Rattle.dirty_walk.specs.ReferenceExchanges.{HoldersStayReserved};
-ghost use Rattle.dirty_walk.specs.SecondWalks.{IsSomeSecondWalk, IsWithinSecond, IsWithinSecondElements};
-ghost use Rattle.dirty_walk.specs.StartedSteps.{IsWithinElements, IsWithinStarted};
+ghost use Rattle.dirty_walk.specs.Machinery.ReferenceExchanges.{HoldersStayReserved};
+ghost use Rattle.dirty_walk.specs.Machinery.SecondWalks.{IsSomeSecondWalk, IsWithinSecond, IsWithinSecondElements};
+ghost use Rattle.dirty_walk.specs.Machinery.StartedSteps.{IsWithinElements, IsWithinStarted};
 
 use crate::places::changes_by_news;
 use crate::read_ahead::ReadAhead;

@@ -26,7 +26,7 @@ use Rattle.document_walk.specs.declared.catching.OpenElement.{OpenElement}
 use Rattle.document_walk.specs.Catching.{CanClose, Reading, document_of, frames_of, stops_left, with_changes}
 use Rattle.document_walk.specs.CatchingUp.{CanCatchUp, budget, told_all}
 use Rattle.document_walk.specs.Elements.{element_count, one_where}
-use Rattle.document_walk.specs.Standing.{Handing, IsAt, IsWhole, OpenNode, Reaches, Stands, changes_left, elements_behind, elements_in, elements_left, frame_of, spared_for, state_at}
+use Rattle.document_walk.specs.Machinery.Standing.{Handing, IsAt, IsWhole, OpenNode, Reaches, Stands, changes_left, elements_behind, elements_in, elements_left, frame_of, spared_for, state_at}
 use Rattle.document_walk.specs.TreeChanges.{tree_changes}
 use Rattle.document_walk.proofs.ChangeLemmas.{document_changes, with-none}
 use Rattle.document_walk.proofs.ChoiceLemmas.{closes_as}

@@ -20,7 +20,7 @@ use Rattle.surroundings.specs.Surroundings.{handed_by, surroundings_of}
 use Rattle.surroundings.specs.StyledEvaluators.{inside_node, is_element, past_styled, root_surroundings, said_in, styled_evaluator}
 use Rattle.surroundings.proofs.Said as said
 use Rattle.document_walk.specs.Catching.{Reading, with_changes}
-use Rattle.document_walk.specs.Standing.{Handing, OpenNode, changes_behind, changes_left, opened_as, opened_of}
+use Rattle.document_walk.specs.Machinery.Standing.{Handing, OpenNode, changes_behind, changes_left, opened_as, opened_of}
 use Rattle.document_walk.specs.TreeChanges.{changes_after_children, changes_before_children, tree_changes}
 use Rattle.document_walk.specs.Walking.{changes_before}
 use Rattle.document_walk.proofs.NodeLemmas.{made_in}

@@ -28,7 +28,7 @@ use Rattle.surroundings.specs.Surroundings.{is_same}
 use Rattle.surroundings.specs.StyledEvaluators.{closes_styled, is_element, opens_styled, styled_asks, styled_evaluator}
 use Rattle.document_walk.specs.declared.catching.Catching.{Catching}
 use Rattle.document_walk.specs.Catching.{CanClose, CanOpen, HasSkipped, Reading, frames_of, is_fresh_in, is_same_at, stops_left}
-use Rattle.document_walk.specs.Standing.{Handing, IsAt, IsRootLed, OpenNode, Reaches, frame_of, state_at}
+use Rattle.document_walk.specs.Machinery.Standing.{Handing, IsAt, IsRootLed, OpenNode, Reaches, frame_of, state_at}
 use Rattle.document_walk.proofs.SkippingLemmas.{skips, skips-paid}
 use Rattle.document_walk.proofs.SparingLemmas.{spares-entering}
 use Rattle.document_walk.proofs.WholeLemmas.{comes, not_come}

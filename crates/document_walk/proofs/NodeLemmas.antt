@@ -22,7 +22,7 @@ use Rattle.surroundings.specs.StyledEvaluators.{asks_of, inside_node, is_element
 use Rattle.surroundings.proofs.Ties.{inside-entry}
 use Rattle.document_walk.specs.declared.opened.Opened.{Opened}
 use Rattle.document_walk.specs.Catching.{Reading, inside_opened, opened_at, past_by, said_by, style_above}
-use Rattle.document_walk.specs.Standing.{AreBoxed, Handing, OpenNode, attrs_in, frame_of, opened_as, opened_of, parent_style, style_in}
+use Rattle.document_walk.specs.Machinery.Standing.{AreBoxed, Handing, OpenNode, attrs_in, frame_of, opened_as, opened_of, parent_style, style_in}
 use Rattle.document_walk.specs.Walking.{asks_before, closing_with, opened_in, own_changes, starts_before, told_opened}
 
 module _ (from : Reading) where

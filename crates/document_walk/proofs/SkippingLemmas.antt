@@ -26,7 +26,7 @@ use Rattle.surroundings.specs.MergedLevels.{HasLeaves}
 use Rattle.surroundings.specs.StyledEvaluators.{is_element, past_styled, styled_evaluator}
 use Rattle.document_walk.specs.declared.catching.Catching.{Catching}
 use Rattle.document_walk.specs.Catching.{HasSkipped, Reading, frames_of, from_of, link_of, parent_in, stop_ahead, stops_left, told_at}
-use Rattle.document_walk.specs.Standing.{Handing, IsAt, IsRootLed, OpenNode, Reaches, frame_of, parent_style, state_at}
+use Rattle.document_walk.specs.Machinery.Standing.{Handing, IsAt, IsRootLed, OpenNode, Reaches, frame_of, parent_style, state_at}
 use Rattle.document_walk.proofs.NodeLemmas.{boxed_as, boxed_past, here_is, next_first}
 use Rattle.document_walk.proofs.SparingLemmas.{Sparing, spares-skipping}
 use Rattle.document_walk.proofs.WholeLemmas.{comes, not_come}

@@ -17,7 +17,7 @@ use Rattle.surroundings.specs.declared.told.Told.{Told}
 use Rattle.surroundings.specs.StyledEvaluators.{is_element}
 use Rattle.document_walk.specs.Catching.{Reading}
 use Rattle.document_walk.specs.Elements.{one_where}
-use Rattle.document_walk.specs.Standing.{Handing, OpenNode, Stands, elements_behind, elements_in, frame_of, parent_style}
+use Rattle.document_walk.specs.Machinery.Standing.{Handing, OpenNode, Stands, elements_behind, elements_in, frame_of, parent_style}
 use Rattle.document_walk.proofs.NodeLemmas.{styled_element}
 
 pub one_longer : {A : Type 0} (n : ℕ) (xs : List A) (x : A) → n + length (xs ++ x ∷ []) ≡ n + length xs + 1

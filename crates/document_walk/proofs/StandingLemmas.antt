@@ -27,7 +27,7 @@ use Rattle.surroundings.specs.StyledEvaluators.{inside_node, is_element, kept_of
 use Rattle.document_walk.specs.declared.catching.Catching.{Catching}
 use Rattle.document_walk.specs.declared.catching.OpenElement.{OpenElement}
 use Rattle.document_walk.specs.Catching.{HasEntered, HasLeft, Reading, frames_of, inside_opened, opened_at, past_by, said_by, stops_left, told_by, with_changes}
-use Rattle.document_walk.specs.Standing.{AllCome, AreBoxed, Handing, IsAt, IsRootLed, IsWhole, OpenNode, Reaches, Spares, Stands, changes_left, elements_behind, elements_in, elements_left, frame_of, left_frames, left_of, opened_of, parent_style, spared_for, state_at, style_in}
+use Rattle.document_walk.specs.Machinery.Standing.{AllCome, AreBoxed, Handing, IsAt, IsRootLed, IsWhole, OpenNode, Reaches, Spares, Stands, changes_left, elements_behind, elements_in, elements_left, frame_of, left_frames, left_of, opened_of, parent_style, spared_for, state_at, style_in}
 use Rattle.document_walk.specs.TreeChanges.{changes_after_children, changes_before_children}
 use Rattle.document_walk.specs.Walking.{changes_before}
 use Rattle.document_walk.proofs.ChangeLemmas.{changes_entered, changes_opened, changes_passed, with-more}

@@ -2,5 +2,5 @@ pub mod Elements
 pub mod Walking
 pub mod Catching
 pub mod TreeChanges
-pub mod Standing
 pub mod CatchingUp
+pub mod Machinery

@@ -33,7 +33,7 @@
 //! is `all_changes` of `box_eval`, which recurses on the tree and knows nothing of keys, links and stacks; a whole document's
 //! steps are bounded by `element_count` of `specs/Elements.antt`. What is made of an element is in `specs/Walking.antt`,
 //! what a turn does in `specs/Catching.antt`, what trees do to counters in `specs/TreeChanges.antt`, and where a walk stands
-//! in the merge in `specs/Standing.antt`.
+//! in the merge in `specs/Machinery/Standing.antt`.
 //!
 //! ```text
 //! let sources = Sources { arena: &arena, agent: &agent, author: &author, table: &table, starts: &NoStarts };

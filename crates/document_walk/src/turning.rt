@@ -5,7 +5,7 @@ ghost use Rattle.forest.specs.Spots.{IsLive};
 ghost use Rattle.node_arena.specs.Nodes.{name_of};
 ghost use Rattle.merged_walk.specs.Stops.{is_at};
 ghost use Rattle.document_walk.specs.Catching.{frames_of, reading, stops_left};
-ghost use Rattle.document_walk.specs.Standing.{GoesOn, IsSomewhere, IsWithinMost};
+ghost use Rattle.document_walk.specs.Machinery.Standing.{GoesOn, IsSomewhere, IsWithinMost};
 
 use crate::catching::Catching;
 use crate::snapshot::Snapshots;

@@ -13,7 +13,7 @@ use Rattle.marker_cli.specs.declared.status.Status.TheVariants.{Memory, ReadFaul
 use Rattle.marker_cli.specs.declared.status.Status.TheVariants as status
 use Rattle.marker_cli.specs.Ends.{IsCaused, part_status, ReadsFailed, EndsAs, whole, no_memory, not_written, not_read}
 use Rattle.marker_cli.specs.Output.{Output, ends, turn, writes, bytes_of, status_of, ComesAfter, goes_on}
-use Rattle.marker_cli.specs.Stands.{IsAt}
+use Rattle.marker_cli.specs.Machinery.Stands.{IsAt}
 use Rattle.marker_cli.specs.Turns.{StopsBy, is_refused, lacks_memory, was_not_read, with_text, text_in}
 
 -- at the start

@@ -24,7 +24,7 @@ use Rattle.marker_cli.specs.Edit.{commands_of}
 use Rattle.marker_cli.specs.Ends.{Gives, IsCaused, IsPutCaused, IsStop, part_status}
 use Rattle.marker_cli.specs.Names.{TellsOfLine}
 use Rattle.marker_cli.specs.Parts.{part_of}
-use Rattle.marker_cli.specs.Statuses.{document_status, part_fault, put_status, script_status}
+use Rattle.marker_cli.specs.Machinery.Statuses.{document_status, part_fault, put_status, script_status}
 
 -- what a `?` hands on
 abbrev pub HandsOn : {A : Type 0} → Result A Status → Status → Type 0

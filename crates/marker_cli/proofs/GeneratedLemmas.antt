@@ -16,7 +16,7 @@ use Rattle.plain_types.specs.declared.edit.Edit.{Edit}
 use Rattle.plain_types.specs.declared.node.Node.{Node}
 use Rattle.marker_cli.specs.declared.generated.Tally.{Tally}
 use Rattle.marker_cli.specs.Generated.{Outcome, after_edits, generated, number_lines, numbers, unedited, with_answer}
-use Rattle.marker_cli.specs.Tallies.{tallied}
+use Rattle.marker_cli.specs.Machinery.Tallies.{tallied}
 
 -- the next edit
 pub edits_next : (edits : List Edit) (place : ℕ) (edit : Edit) (now : Outcome) → place < length edits → edit ≡ get_or edits place edit

@@ -18,7 +18,7 @@ use Rattle.marker_cli.specs.Ends.{EndsAs}
 use Rattle.marker_cli.specs.OpenBooks.{OpenBook, edited_book}
 use Rattle.marker_cli.specs.OpenVolumes.{AnswersEnter}
 use Rattle.marker_cli.specs.Output.{Output, writes}
-use Rattle.marker_cli.specs.Stands.{Goes, IsAt, Spends}
+use Rattle.marker_cli.specs.Machinery.Stands.{Goes, IsAt, Spends}
 use Rattle.marker_cli.proofs.EndsLemmas.{at_same, at_start, at_written, ends_no_memory, ends_not_written}
 
 module _ (number : ℕ) (edit : Edit) (old : OpenBook) (place : Option PlaceFault) where

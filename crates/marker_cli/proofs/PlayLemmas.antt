@@ -20,7 +20,7 @@ use Rattle.marker_cli.specs.Edit.{action_output, after_edit, after_step, command
 use Rattle.marker_cli.specs.Editors.{AnswersStep, AreSameHistories, TellsNoneApart}
 use Rattle.marker_cli.specs.Ends.{EndsAs}
 use Rattle.marker_cli.specs.Output.{Output, writes}
-use Rattle.marker_cli.specs.Stands.{Goes, IsAt}
+use Rattle.marker_cli.specs.Machinery.Stands.{Goes, IsAt}
 use Rattle.marker_cli.specs.Versions.{Versions, edited}
 use Rattle.marker_cli.proofs.EndsLemmas.{at_same, at_start, at_written, ends_no_memory, ends_not_written, ends_weaker}
 

@@ -34,7 +34,7 @@ use Rattle.marker_cli.specs.Edit.{commands_of, kept_edits}
 use Rattle.marker_cli.specs.EditSteps.{action_steps, change_steps, edit_steps, led_steps, left_by_edit, most_edit_steps, placed_steps, script_steps, start_steps, steps_with}
 use Rattle.marker_cli.specs.Editors.{AnswersStep, AreSameHistories, TellsNoneApart}
 use Rattle.marker_cli.specs.Generated.{Outcome, edits_steps, most_generated_steps, outcome_steps, version_in, with_answer}
-use Rattle.marker_cli.specs.Stands.{Spends}
+use Rattle.marker_cli.specs.Machinery.Stands.{Spends}
 use Rattle.marker_cli.specs.Turns.{text_in}
 use Rattle.marker_cli.specs.Versions.{Versions, begun, edited, redone, stepped_back, stepped_forth, undone}
 use Rattle.marker_cli.proofs.PlayLemmas.{where_err, where_ok}

@@ -15,10 +15,8 @@ pub mod OpenVolumes
 pub mod Output
 pub mod Parts
 pub mod Run
-pub mod Stands
-pub mod Statuses
 pub mod Table
-pub mod Tallies
 pub mod Turns
 pub mod Versions
 pub mod Words
+pub mod Machinery

@@ -19,7 +19,7 @@ ghost use Rattle.marker_cli.specs.OpenBooks.{chapters_of};
 ghost use Rattle.marker_cli.specs.Output.{Output};
 ghost use Rattle.marker_cli.specs.Parts.{HaveTexts, PartsReadAs, part_of, seen_by, trees_of, with_texts};
 ghost use Rattle.marker_cli.specs.Run.{commands_in, commands_size, size_of};
-ghost use Rattle.marker_cli.specs.Stands.{Goes};
+ghost use Rattle.marker_cli.specs.Machinery.Stands.{Goes};
 ghost use Rattle.marker_cli.specs.Words.{AreDocumentNames};
 
 use crate::fetch_text::fetch_text;

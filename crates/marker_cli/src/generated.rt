@@ -9,7 +9,7 @@ ghost use Rattle.marker_cli.specs.EditSteps.{edit_steps};
 ghost use Rattle.marker_cli.specs.Ends.{EndsAs, IsCaused, IsStop, part_status};
 ghost use Rattle.marker_cli.specs.Generated.{after_edits, edits_steps, generated_output, most_generated_steps, number_lines, numbers, outcome_steps, unedited, version_in, with_answer};
 ghost use Rattle.marker_cli.specs.Output.{ends, writes};
-ghost use Rattle.marker_cli.specs.Tallies.{tallied};
+ghost use Rattle.marker_cli.specs.Machinery.Tallies.{tallied};
 ghost use Rattle.marker_cli.specs.declared.status.Status.TheVariants as status;
 
 use crate::put_number::put_numbered;

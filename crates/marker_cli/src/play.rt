@@ -16,7 +16,7 @@ ghost use Rattle.marker_cli.specs.Editors.{AnswersStep, AreSameHistories, TellsN
 ghost use Rattle.marker_cli.specs.Ends.{EndsAs, IsCaused, IsPutCaused, IsStop, ReadsFailed, part_status};
 ghost use Rattle.marker_cli.specs.Output.{Output};
 ghost use Rattle.marker_cli.specs.Run.{action_size, commands_size, size_of};
-ghost use Rattle.marker_cli.specs.Stands.{Goes, Spends};
+ghost use Rattle.marker_cli.specs.Machinery.Stands.{Goes, Spends};
 ghost use Rattle.marker_cli.specs.Turns.{text_in, with_text};
 ghost use Rattle.marker_cli.specs.Versions.{Versions, edited};
 

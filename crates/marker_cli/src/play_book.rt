@@ -18,7 +18,7 @@ ghost use Rattle.marker_cli.specs.OpenBooks as books;
 ghost use Rattle.marker_cli.specs.OpenBooks.{edited_book, entered, version_in};
 ghost use Rattle.marker_cli.specs.Output.{Output};
 ghost use Rattle.marker_cli.specs.Run.{action_size, commands_size, size_of};
-ghost use Rattle.marker_cli.specs.Stands.{Goes, Spends};
+ghost use Rattle.marker_cli.specs.Machinery.Stands.{Goes, Spends};
 ghost use Rattle.marker_cli.specs.Turns.{text_in, with_text};
 
 use crate::fetch_text::fetch_text;

@@ -13,7 +13,7 @@ ghost use Rattle.marker_cli.specs.Edit.{commands_of};
 ghost use Rattle.marker_cli.specs.Ends.{Gives, IsCaused, IsStop, part_status};
 ghost use Rattle.marker_cli.specs.Names.{TellsOfLine};
 ghost use Rattle.marker_cli.specs.Parts.{part_of};
-ghost use Rattle.marker_cli.specs.Statuses.{part_fault};
+ghost use Rattle.marker_cli.specs.Machinery.Statuses.{part_fault};
 
 use crate::status::{FileAt, Status};
 use edit_script::command::Command;

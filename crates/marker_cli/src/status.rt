@@ -102,7 +102,7 @@ impl From<Failed> for Status {
 }
 
 impl From<DocFault> for Status {
-    ghost use Rattle.marker_cli.specs.Statuses.{document_status};
+    ghost use Rattle.marker_cli.specs.Machinery.Statuses.{document_status};
 
     ghost from_gives = { λ fault e. e ≡ document_status fault };
 
@@ -115,7 +115,7 @@ impl From<DocFault> for Status {
 }
 
 impl From<ScriptFault> for Status {
-    ghost use Rattle.marker_cli.specs.Statuses.{script_status};
+    ghost use Rattle.marker_cli.specs.Machinery.Statuses.{script_status};
 
     ghost from_gives = { λ fault e. e ≡ script_status fault };
 
@@ -128,7 +128,7 @@ impl From<ScriptFault> for Status {
 }
 
 impl From<PutFault> for Status {
-    ghost use Rattle.marker_cli.specs.Statuses.{put_status};
+    ghost use Rattle.marker_cli.specs.Machinery.Statuses.{put_status};
 
     ghost from_gives = { λ fault e. e ≡ put_status fault };
 

@@ -3,7 +3,7 @@ use Rattle.std.specs.Str.{chars}
 use Rattle.std.proofs.lemmas.Result.{on_ok_weaker}
 use Rattle.forest.specs.Spots.{children_of}
 use Rattle.counter_index.specs.Indexes.{countings}
-use Rattle.counter_index.specs.Rows.{tree_changes}
+use Rattle.counter_index.specs.Machinery.Rows.{tree_changes}
 use Rattle.counter_index.proofs.EventTurns.{two_read}
 use Rattle.counter_index.proofs.RowTurns.{row-after}
 use Rattle.counter_index.proofs.scope.add_own.Goals as goal

@@ -1,5 +1,5 @@
 use Rattle.std.proofs.Common.{◌≡◌}
-use Rattle.counter_index.specs.Asking.{count_asking}
+use Rattle.counter_index.specs.Machinery.Asking.{count_asking}
 use Rattle.counter_index.proofs.ExchangeLemmas.{Exchanging}
 use Rattle.counter_index.proofs.slots.exchange_all.Given as goal
 

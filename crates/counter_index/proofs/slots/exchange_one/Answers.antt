@@ -1,5 +1,5 @@
 use Rattle.std.proofs.Common.{ap, arith, set, ◌∙◌}
-use Rattle.counter_index.specs.Asking.{is_asking}
+use Rattle.counter_index.specs.Machinery.Asking.{is_asking}
 use Rattle.counter_index.proofs.AskingLemmas.{count-put, few-asking, some-asking}
 use Rattle.counter_index.proofs.slots.exchange_one.Goals as goal
 

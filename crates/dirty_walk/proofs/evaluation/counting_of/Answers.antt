@@ -3,7 +3,7 @@ use Rattle.box_eval.specs.Starts.{no_starts}
 use Rattle.surroundings.specs.declared.told.Told.{Told}
 use Rattle.reference_reach.specs.ToldLaws.{told_with}
 use Rattle.dirty_walk.specs.declared.styled_arena.StyledArena.{StyledArena}
-use Rattle.dirty_walk.specs.DocumentWalks.{source_of, told_without_starts}
+use Rattle.dirty_walk.specs.Machinery.DocumentWalks.{source_of, told_without_starts}
 use Rattle.dirty_walk.specs.Unstarted.{are_unstarted}
 use Rattle.dirty_walk.proofs.CountedLemmas.{counted_none, counted_some, unstarted_told}
 use Rattle.dirty_walk.proofs.evaluation.counting_of.Goals as goal

@@ -16,7 +16,7 @@ use Rattle.started_walk.specs.declared.counting.Counting.{Counting}
 use Rattle.started_walk.specs.Countings.{Counts}
 use Rattle.dirty_walk.specs.declared.styled_arena.StyledArena.{StyledArena}
 use Rattle.dirty_walk.specs.Countings.{IsCounted}
-use Rattle.dirty_walk.specs.DocumentWalks.{source_of, told_by_index, told_without_starts}
+use Rattle.dirty_walk.specs.Machinery.DocumentWalks.{source_of, told_by_index, told_without_starts}
 use Rattle.dirty_walk.specs.Unstarted.{is_unstarted}
 use Rattle.dirty_walk.proofs.AskLemmas.{without_starts_unstarted}
 use Rattle.dirty_walk.proofs.CountedLemmas.{unstarted_told}

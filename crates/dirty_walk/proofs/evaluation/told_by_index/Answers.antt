@@ -1,6 +1,6 @@
 use Rattle.std.proofs.Common.{◌∙◌}
 use Rattle.counter_index.specs.Indexes.{value_at}
-use Rattle.dirty_walk.specs.DocumentWalks.{told_by_index}
+use Rattle.dirty_walk.specs.Machinery.DocumentWalks.{told_by_index}
 use Rattle.dirty_walk.proofs.BookLemmas.{walk_told}
 use Rattle.dirty_walk.proofs.evaluation.told_by_index.Goals as goal
 

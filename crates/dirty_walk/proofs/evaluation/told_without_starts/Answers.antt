@@ -1,6 +1,6 @@
 use Rattle.std.proofs.Common.{◌∙◌}
 use Rattle.box_eval.specs.Starts.{no_starts}
-use Rattle.dirty_walk.specs.DocumentWalks.{told_without_starts}
+use Rattle.dirty_walk.specs.Machinery.DocumentWalks.{told_without_starts}
 use Rattle.dirty_walk.proofs.BookLemmas.{walk_told}
 use Rattle.dirty_walk.proofs.evaluation.told_without_starts.Goals as goal
 

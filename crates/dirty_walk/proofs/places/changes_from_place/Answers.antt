@@ -1,6 +1,6 @@
 use Rattle.std.proofs.Common.{◌≡◌, ℕ, List, Option, Some, IfSome, arith, subst}
 use Rattle.surroundings.specs.declared.told.Told.{Told}
-use Rattle.dirty_walk.specs.PlaceNews.{AreNewsFrom}
+use Rattle.dirty_walk.specs.Machinery.PlaceNews.{AreNewsFrom}
 use Rattle.dirty_walk.proofs.PlaceLemmas.{walk_within}
 use Rattle.dirty_walk.proofs.SomeWalk.{document_news, document_unstarted}
 use Rattle.dirty_walk.proofs.places.changes_from_place.Goals as goal

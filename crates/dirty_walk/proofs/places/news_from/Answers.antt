@@ -7,7 +7,7 @@ use Rattle.document_walk.specs.Catching.{Reading}
 use Rattle.document_walk.specs.CatchingUp.{AreAllAmong, CoversAll, IsWithinBudget}
 use Rattle.kept_elements.specs.News.{AreNewsOf, is_news}
 use Rattle.reference_reach.specs.MergedNodes.{elements_at_stops}
-use Rattle.dirty_walk.specs.PlaceReadings.{read_of}
+use Rattle.dirty_walk.specs.Machinery.PlaceReadings.{read_of}
 use Rattle.dirty_walk.specs.Places.{IsSomePlace, walked_at}
 use Rattle.dirty_walk.specs.Unstarted.{are_unstarted}
 use Rattle.dirty_walk.proofs.PlaceLemmas.{stands}

@@ -16,8 +16,8 @@ use Rattle.dirty_walk.specs.declared.exchange.ElementId.{ElementId}
 use Rattle.kept_elements.specs.declared.kept.Kept.{Kept}
 use Rattle.dirty_walk.specs.declared.local_stops.LocalStops.{LocalStops}
 use Rattle.dirty_walk.specs.declared.read_ahead.ReadAhead.{ReadAhead}
-use Rattle.dirty_walk.specs.EditedArenas.{evaluated_after}
-use Rattle.dirty_walk.specs.CountedEdits.{IsWithinEdit, IsWithinEditElements}
+use Rattle.dirty_walk.specs.Machinery.EditedArenas.{evaluated_after}
+use Rattle.dirty_walk.specs.Machinery.CountedEdits.{IsWithinEdit, IsWithinEditElements}
 use Rattle.dirty_walk.specs.Countings.{StandsCounted}
 use Rattle.dirty_walk.specs.Exchanges.{IsIndexBefore, coming, elements_in, exchanges}
 use Rattle.referring_elements.specs.Indexes.{IsIndexOf, TellsReferences}

@@ -20,8 +20,8 @@ use Rattle.dirty_walk.specs.declared.edited_arena.EditedArena.{EditedArena}
 use Rattle.dirty_walk.specs.declared.local_stops.LocalStops.{LocalStops}
 use Rattle.dirty_walk.specs.declared.read_ahead.ReadAhead.{ReadAhead}
 use Rattle.dirty_walk.specs.DocumentStyles.{document_styles}
-use Rattle.dirty_walk.specs.EditedArenas.{is_unstarted_after}
-use Rattle.dirty_walk.specs.CountedEdits.{IsSomeCountedEdit, IsWithinCounted, IsWithinCountedElements, IsWithinEdit, IsWithinEditElements}
+use Rattle.dirty_walk.specs.Machinery.EditedArenas.{is_unstarted_after}
+use Rattle.dirty_walk.specs.Machinery.CountedEdits.{IsSomeCountedEdit, IsWithinCounted, IsWithinCountedElements, IsWithinEdit, IsWithinEditElements}
 use Rattle.dirty_walk.specs.Countings.{IsCounted, StandsCounted}
 use Rattle.dirty_walk.specs.Unstarted.{is_unstarted}
 use Rattle.dirty_walk.proofs.PlaceLemmas.{AreNamed, its_stops, sheet_now, styles_after, styles_now}

@@ -15,9 +15,9 @@ use Rattle.dirty_walk.specs.declared.planning.Renewal.{Renewal}
 use Rattle.dirty_walk.specs.declared.read_ahead.ReadAhead.{ReadAhead}
 use Rattle.referring_elements.specs.Indexes.{IsIndexOf, TellsReferences}
 use Rattle.started_walk.specs.declared.counting.Counting.{Counting}
-use Rattle.dirty_walk.specs.CountedEdits.{IsWithinEdit, IsWithinEditElements}
+use Rattle.dirty_walk.specs.Machinery.CountedEdits.{IsWithinEdit, IsWithinEditElements}
 use Rattle.dirty_walk.specs.Countings.{IsCounted}
-use Rattle.dirty_walk.specs.EditedArenas.{evaluated_after, is_unstarted_after, source_after}
+use Rattle.dirty_walk.specs.Machinery.EditedArenas.{evaluated_after, is_unstarted_after, source_after}
 use Rattle.dirty_walk.proofs.CountedLemmas.{stays_same}
 use Rattle.node_arena.proofs.GoneLaws.{on-error}
 use Rattle.dirty_walk.proofs.planning.renewed.Goals as goal

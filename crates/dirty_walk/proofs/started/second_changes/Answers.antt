@@ -3,8 +3,8 @@ use Rattle.std.proofs.lemmas.List.Sums.{count_by-le-length, length-filter}
 use Rattle.std.proofs.lemmas.Result.{IfOk-weaker}
 use Rattle.reference_reach.specs.MergedNodes.{elements_at_stops}
 use Rattle.kept_elements.specs.News.{is_news}
-use Rattle.dirty_walk.specs.SecondWalks.{IsWithinSecond}
-use Rattle.dirty_walk.specs.SomeNews.{IsWithinNews}
+use Rattle.dirty_walk.specs.Machinery.SecondWalks.{IsWithinSecond}
+use Rattle.dirty_walk.specs.Machinery.SomeNews.{IsWithinNews}
 use Rattle.dirty_walk.proofs.SecondLemmas.{links, news_read, passed_and_taken, some_news}
 use Rattle.dirty_walk.proofs.started.second_changes.Goals as goal
 

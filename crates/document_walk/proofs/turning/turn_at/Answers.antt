@@ -1,7 +1,7 @@
 use Rattle.std.proofs.Common.{ℕ, arith, refl, sym, ◌∙◌, true, false}
 use Rattle.surroundings.proofs.Said.{sound}
 use Rattle.document_walk.specs.Catching.{HasEntered, HasSkipped, reading, stops_left}
-use Rattle.document_walk.specs.Standing.{GoesOn}
+use Rattle.document_walk.specs.Machinery.Standing.{GoesOn}
 use Rattle.document_walk.proofs.BeginningLemmas.{on_ok, plus}
 use Rattle.document_walk.proofs.ChoiceLemmas.{can_open, fresh_entering, other_entering, passes_turn, skip_most, skip_turn}
 use Rattle.document_walk.proofs.StandingLemmas.{entering-paid, enters, still}

@@ -4,7 +4,7 @@ use Rattle.merged_walk.specs.Merges.{Merge}
 use Rattle.surroundings.specs.declared.told.Told.{Told}
 use Rattle.document_walk.specs.Catching.{reading, stops_left}
 use Rattle.document_walk.specs.CatchingUp.{CanCatchUp}
-use Rattle.document_walk.specs.Standing.{left_of}
+use Rattle.document_walk.specs.Machinery.Standing.{left_of}
 use Rattle.document_walk.proofs.BeginningLemmas.{IsUnderWay}
 use Rattle.document_walk.proofs.walk.go.Given as goal
 

@@ -5,7 +5,7 @@ use Rattle.ports.specs.Files.{Files}
 use Rattle.marker_cli.specs.Output.{Output}
 use Rattle.marker_cli.specs.Parts.{HaveTexts, with_texts}
 use Rattle.marker_cli.specs.Run.{size_of}
-use Rattle.marker_cli.specs.Stands.{IsAt}
+use Rattle.marker_cli.specs.Machinery.Stands.{IsAt}
 use Rattle.marker_cli.proofs.book.fetch_texts.Given as goal
 
 abbrev pub invariant-loop-place : goal.invariant-loop-place

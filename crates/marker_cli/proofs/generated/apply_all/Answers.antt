@@ -1,7 +1,7 @@
 use Rattle.std.proofs.Common.{◌∙◌, ◌+◌, ap, arith, drop, sym}
 use Rattle.marker_engine.specs.Engines.{source_of}
 use Rattle.marker_cli.specs.Generated.{after_edits, edits_steps}
-use Rattle.marker_cli.specs.Tallies.{tallied}
+use Rattle.marker_cli.specs.Machinery.Tallies.{tallied}
 use Rattle.marker_cli.proofs.GeneratedLemmas.{edits_next}
 use Rattle.marker_cli.proofs.StepLemmas.{edits_steps_next}
 use Rattle.marker_cli.proofs.generated.apply_all.Goals as goal

@@ -1,7 +1,7 @@
 use Rattle.std.proofs.Common.{◌≡◌, ◌≤◌, ◌+◌, drop}
 use Rattle.marker_engine.specs.Engines.{source_of}
 use Rattle.marker_cli.specs.Generated.{after_edits, edits_steps, unedited}
-use Rattle.marker_cli.specs.Tallies.{tallied}
+use Rattle.marker_cli.specs.Machinery.Tallies.{tallied}
 use Rattle.marker_cli.proofs.generated.apply_all.Given as goal
 
 abbrev pub invariant-loop-edit : goal.invariant-loop-edit

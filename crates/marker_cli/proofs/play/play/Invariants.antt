@@ -4,7 +4,7 @@ use Rattle.ports.specs.Files.{Files}
 use Rattle.marker_cli.specs.Edit.{play}
 use Rattle.marker_cli.specs.EditSteps.{script_steps}
 use Rattle.marker_cli.specs.Editors.{depth_of, versions_of}
-use Rattle.marker_cli.specs.Stands.{IsAt}
+use Rattle.marker_cli.specs.Machinery.Stands.{IsAt}
 use Rattle.marker_cli.proofs.ReadLemmas.{HaveRead}
 use Rattle.marker_cli.proofs.play.play.Given as goal
 

@@ -3,7 +3,7 @@ use Rattle.std.specs.Prelude.{Some}
 use Rattle.ports.specs.Files.{Files}
 use Rattle.marker_cli.specs.Book.{play_book}
 use Rattle.marker_cli.specs.BookSteps.{book_script_steps}
-use Rattle.marker_cli.specs.Stands.{IsAt}
+use Rattle.marker_cli.specs.Machinery.Stands.{IsAt}
 use Rattle.marker_cli.proofs.ReadLemmas.{HaveRead}
 use Rattle.marker_cli.proofs.play_book.play_book.Given as goal
 

@@ -13,7 +13,7 @@ use Rattle.kept_elements.specs.News.{AreNewsOf}
 use Rattle.dirty_walk.specs.declared.read_ahead.ReadAhead.{ReadAhead}
 use Rattle.dirty_walk.specs.declared.styled_arena.StyledArena.{StyledArena}
 use Rattle.dirty_walk.specs.FormerTargets.{AreFormerTargetsOf}
-use Rattle.dirty_walk.specs.PlaceReadings.{read_of}
+use Rattle.dirty_walk.specs.Machinery.PlaceReadings.{read_of}
 use Rattle.dirty_walk.specs.Places.{IsSomePlace, place_budget, place_work, walked_at}
 use Rattle.dirty_walk.specs.Unstarted.{are_unstarted}
 
