@@ -1,13 +1,13 @@
 #!/usr/bin/env bash
 # Hostile input over the built program: it must end with a status of its table and the line of that status, write what
-# it should or a front of it, never die of a signal, and take no more time and memory than docs/hostile-use.md says.
+# it should or a front of it, never die of a signal, and take no more time and memory than docs/limits.md says.
 # Every run has a stack of 256 KiB. The last line is 'N runs, M wrong', and the status is 1 where one went wrong.
 #   bench/hostile.sh [PROGRAM] [PART[=NUMBER]..]      the repository's program and all parts where none is named
 # The parts:
 #   fronts     every front of a document, of its sheet and of a script
 #   requests   each request for memory of a script's run and of a book's refused, one at a time; NUMBER of those of a long
 #              script (100)
-#   again      a request for memory refused in a test that does 50 edits of 1,000 elements, NUMBER times (100), each
+#   again      a request for memory refused in a test that does 200 edits of 1,000 elements, NUMBER times (100), each
 #              another request: an edit that was refused is done again, and then all is as without the refusal
 #   devices    each read and each write of a script's run failed, one at a time; and files and output byte by byte
 #   limits     large runs with little memory

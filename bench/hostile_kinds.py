@@ -1,12 +1,15 @@
 """Kinds of large input, for the part growth of hostile.sh: the files of each at a size, what must come of them, and how
-time and memory are to grow. Sizes are so that a run at twice the size takes a second or so, or that a file is near its
-16 MiB. What grows faster than linear says what it is the square of; docs/hostile-use.md has the reasons."""
+time and memory are to grow. Sizes are so that a run at twice the size takes some seconds at most, or that a file is near
+its 16 MiB. What grows faster than linear says what it is the square or the product of; docs/limits.md has the reasons."""
 
 from dataclasses import dataclass
 from typing import Callable, Optional
 
 DUMP = ("dump", "d.xhtml", "s.css")
 EDIT = ("edit", "d.xhtml", "s.css", "t.txt")
+HISTORY = ("history", "d.xhtml", "s.css", "t.txt", "1000")
+BAKE = ("bake", "d.xhtml", "s.css")
+TEXT = ("text", "d.xhtml", "s.css")
 MIB = 1 << 20
 
 
@@ -115,8 +118,12 @@ KINDS = [
         "d.xhtml": wrapped("<p", lambda k: f' a{k}=""', "/>")(size), "s.css": wrapped("", "[b]{counter-reset:c}", "")(size),
     }, grows="tests by attributes", check=is_empty),
     Kind("tests of classes, on an element with as many", 2_000, lambda size: {
-        "d.xhtml": wrapped('<p class="', "a ", '"/>')(size), "s.css": wrapped("", ".b{counter-reset:c}", "")(size),
+        "d.xhtml": wrapped('<p class="', "a ", '"/>')(size), "s.css": wrapped("", ":is(.b){counter-reset:c}", "")(size),
     }, grows="tests by classes", check=is_empty),
+    # Rules are filed by the class that they ask for, so an element without it looks at none of them.
+    Kind("rules for a class, over an element with as many others", 50_000, lambda size: {
+        "d.xhtml": wrapped('<p class="', "a ", '"/>')(size), "s.css": wrapped("", ".b{counter-reset:c}", "")(size),
+    }, check=is_empty),
     # counters and their styles
     Kind("counters of one element", 2_000, of_sheet(wrapped("p{counter-reset:", lambda k: f" c{k}", "}")),
          grows="the square of the counters", check=is_empty),
@@ -137,22 +144,48 @@ KINDS = [
     Kind("counter styles that fall back on each other, for each of 100 items", 5_000, lambda size: {
         "d.xhtml": wrapped("<ol>", "<li/>", "</ol>")(100), "s.css": ["li{list-style:n0}", *styles('system:fixed;symbols:"x";fallback:NEXT')(size)],
     }, check=lines(lambda _: 100)),
+    Kind("a ring of two counter styles among many, for each item", 1_000, lambda size: {
+        "d.xhtml": wrapped("<ol>", "<li/>", "</ol>")(size),
+        "s.css": [
+            "li{list-style:a}", *(f'@counter-style {name}{{system:fixed;symbols:"x";fallback:{other}}}' for name, other in ("ab", "ba")),
+            *many(lambda k: f'@counter-style n{k}{{symbols:"x"}}', size),
+        ],
+    }, grows="items by styles", check=lines(lambda size: size)),
+    Kind("counter styles that extend one of many symbols", 500, of_sheet(lambda size: [
+        "@counter-style z{symbols:", *many('"x" ', size), "}", *many(lambda k: f"@counter-style n{k}{{system:extends z}}", size),
+    ]), ("table", "s.css", "n0", "2", "2"), grows="styles by symbols", check=lambda _size, out: out == b'2 "x"\n'),
+    # The fallback writes each number, since none is as long.
+    Kind("padding of 2,147,483,647", 50_000, of_document(
+        wrapped("<ol>", "<li/>", "</ol>"), '@counter-style z{system:numeric;symbols:"0" "1";pad:2147483647 "x"}li{list-style:z}'),
+        check=lambda size, out: out.endswith(f'/{size - 1} marker "{size}. "\n'.encode())),
     Kind("a style of many symbols", 1 * MIB, of_sheet(wrapped("@counter-style z{system:cyclic;symbols:", "a ", "}")),
          ("table", "s.css", "z", "5", "5"), check=lambda _size, out: out == b'5 "a"\n'),
     Kind("a style of many weights", 100_000, of_sheet(lambda size: chained(
         "@counter-style z{system:additive;additive-symbols:", (f'{size - k} "a",' for k in range(size)), '0 "b"}')),
         ("table", "s.css", "z", "5", "5"), check=lambda _size, out: out == b'5 "a"\n'),
+    Kind("a style of many weights, for each item", 3_000, lambda size: {
+        "d.xhtml": wrapped("<ol>", "<li/>", "</ol>")(size),
+        "s.css": chained("li{list-style:z}@counter-style z{system:additive;additive-symbols:", (f'{size - k} "a",' for k in range(size)), '0 "b"}'),
+    }, grows="items by weights", check=lines(lambda size: size)),
+    Kind("a symbol of many characters, for each item", 5_000, lambda size: {
+        "d.xhtml": wrapped("<ol>", "<li/>", "</ol>")(size),
+        "s.css": wrapped('li{list-style:z}@counter-style z{system:cyclic;symbols:"', "a", '"}')(size),
+    }, grows="items by characters", check=lines(lambda size: size)),
     Kind("a symbol of many characters", 4 * MIB, of_sheet(wrapped('@counter-style z{system:cyclic;symbols:"', "a", '"}')),
          ("table", "s.css", "z", "5", "5"), check=lambda _size, out: out == b'5 "5"\n'),
     Kind("a symbol of one character and many marks", 2 * MIB, of_sheet(wrapped('@counter-style z{system:cyclic;pad:3 "x";symbols:"a', "\u0301", '"}')),
          ("table", "s.css", "z", "5", "5"), check=lambda _size, out: out == b'5 "5"\n'),
     Kind("quotes of many pairs", 500_000, of_sheet(wrapped("p{quotes:", '"a" "b" ', "}p::before{content:open-quote}")), check=lines(lambda _: 1)),
+    Kind("quotes of many pairs, which as many elements inherit", 500, lambda size: {
+        "d.xhtml": wrapped("<body>", "<p/>", "</body>")(size), "s.css": wrapped("body{quotes:", '"a" "b" ', "}")(size),
+    }, grows="elements by pairs", check=is_empty),
     Kind("content of many items", 200_000, of_sheet(wrapped("p::before{content:", "counter(c)", "}")), check=lines(lambda _: 1)),
     # documents
     Kind("nested elements", 100_000, of_document(nested("<b>", "", "</b>")), check=is_empty),
     Kind("nested elements that nothing closes", 1 * MIB, of_document(wrapped("", "<b>", "")), status=6, check=is_empty),
     Kind("elements beside each other", 100_000, of_document(wrapped("<body>", "<p/>", "</body>")), check=is_empty),
     Kind("items beside each other", 100_000, of_document(wrapped("<ol>", "<li/>", "</ol>")), check=lines(lambda size: size)),
+    # 16 MiB have 1.4 million at most, since no two may have one name.
     Kind("attributes of one element", 100_000, of_document(wrapped("<p", lambda k: f' a{k}=""', "/>")), check=is_empty),
     Kind("an attribute twice, at the end", 100_000, of_document(wrapped("<p", lambda k: f' a{k}=""', ' a0=""/>')), status=6, check=is_empty),
     Kind("a name of many characters", 4 * MIB, of_document(wrapped("<", "a", "/>")), check=is_empty),
@@ -163,9 +196,11 @@ KINDS = [
     Kind("comments that nothing closes", 4 * MIB, of_document(wrapped("<p><!--", "-", "")), status=6, check=is_empty),
     Kind("line feeds before a fault", 4 * MIB, of_document(wrapped("<p>", "\n", "&")), status=6, check=is_empty),
     Kind("carriage returns", 4 * MIB, of_document(wrapped("<p>", "\r", "</p>")), check=is_empty),
-    Kind("style elements without rules", 20_000, of_document(wrapped("<body>", "<style>/**/</style>", "</body>")), check=is_empty),
-    Kind("style elements with a rule each", 1_000, of_document(wrapped("<body>", "<style>p{}</style>", "</body>")),
-         grows="elements by rules", check=is_empty),
+    Kind("style elements without rules", 50_000, of_document(wrapped("<body>", "<style>/**/</style>", "</body>")), check=is_empty),
+    # Their texts are one sheet, whose rules are filed by the name that they ask for; no element here has it.
+    Kind("style elements with a rule each", 50_000, of_document(wrapped("<body>", "<style>p{}</style>", "</body>")), check=is_empty),
+    Kind("style elements in each other", 3_000, of_document(nested("<style>", "p{}", "</style>")),
+         grows="the square of the depth", check=is_empty),
     Kind("style attributes", 50_000, of_document(wrapped("<body>", '<p style="counter-reset:c"/>', "</body>")), check=is_empty),
     # selectors over documents
     Kind(":nth-child over siblings", 100_000, of_document(wrapped("<body>", "<p/>", "</body>"), "p:nth-child(2n){list-style:none}"), check=is_empty),
@@ -184,6 +219,8 @@ KINDS = [
     Kind("next siblings", 100_000, of_document(wrapped("<body>", "<p/>", "</body>"), "i+p{list-style:none}"), check=is_empty),
     Kind("descendants of what isn't there", 10_000, of_document(nested("<b>", "", "</b>"), "i b{list-style:none}"),
          grows="the square of the depth", check=is_empty),
+    Kind("lists at the bottom of a deep tree, by the user agent's sheet", 3_000, of_document(
+        lambda size: [*many("<b>", size), *many("<ul/>", size), *many("</b>", size)]), grows="lists by their depth", check=is_empty),
     Kind("children", 100_000, of_document(nested("<b>", "", "</b>"), "i>b{list-style:none}"), check=is_empty),
     Kind(":empty and :root", 100_000, of_document(wrapped("<body>", "<p>a</p>", "</body>"), ":empty,:root{list-style:none}"), check=is_empty),
     # counters, quotes and references over documents
@@ -210,9 +247,10 @@ KINDS = [
          check=lines(lambda size: size)),
     Kind("references to nothing", 50_000, of_document(wrapped("<body>", '<a href="#t"/>', "</body>"), "a::after{content:target-counter(attr(href),c)}"),
          check=lines(lambda size: size)),
-    Kind("elements of one id, each referred to", 2_000, of_document(wrapped("<body>", '<a id="t" href="#t"/>', "</body>"), "a::after{content:target-counter(attr(href),c)}"),
-         grows="the square of the elements", check=lines(lambda size: size)),
-    Kind("a ring of references", 20_000, of_document(
+    # The first holders of all ids are found by one walk over the document.
+    Kind("elements of one id, each referred to", 50_000, of_document(wrapped("<body>", '<a id="t" href="#t"/>', "</body>"), "a::after{content:target-counter(attr(href),c)}"),
+         check=lines(lambda size: size)),
+    Kind("a ring of references", 50_000, of_document(
         lambda size: ["<body>", *(f'<a id="a{k}" href="#a{(k + 1) % size}"/>' for k in range(size)), "</body>"],
         'a::after{content:"x"target-text(attr(href),after)}'), check=lines(lambda size: size)),
     Kind("references to one text of 1,000 characters", 2_000, of_document(
@@ -220,6 +258,14 @@ KINDS = [
     Kind("a string of the sheet, at every element", 2_000, lambda size: {
         "d.xhtml": wrapped("<body>", "<p/>", "</body>")(size), "s.css": wrapped('p::before{content:"', "x", '"}')(size),
     }, grows="the output is the string by the elements", check=lines(lambda size: size)),
+    # other commands than dump and edit
+    Kind("items whose numbers are baked", 50_000, of_document(wrapped("<ol>", "<li/>", "</ol>")), BAKE,
+         check=lambda size, out: out.count(b'<span class="baked-marker">') == size),
+    Kind("nested quotes, as a line of text", 50_000, of_document(nested("<q>", "", "</q>")), TEXT, check=lambda size, out: len(out) == 6 * size + 1),
+    Kind("why, of what stands behind counted siblings", 50_000, of_document(
+        wrapped("<body><div>", "<p/>", "</div><h1/></body>"), "body{counter-reset:c}p{counter-increment:c}"), ("why", "d.xhtml", "s.css", "/1"),
+        check=lambda size, out: out.endswith(f'counter "c" / element {size}\n'.encode())),
+    Kind("edits that are undone", 5_000, of_script(wrapped("", "remove /0\nundo\n", "")), HISTORY, check=is_empty),
     # scripts
     Kind("a script of moves", 5_000, of_script(wrapped("", "move /0 / 1\n", "")), EDIT, check=is_empty),
     Kind("a script of refused edits", 100_000, of_script(wrapped("", "remove /9\n", "")), EDIT, check=lines(lambda size: size)),
@@ -230,17 +276,26 @@ KINDS = [
     Kind("an attribute set again and again", 5_000, of_script(wrapped("", lambda k: f"set /0 a {k}\n", "")), EDIT, check=is_empty),
     Kind("attributes that come, one after the other", 2_000, of_script(wrapped("", lambda k: f"set /0 a{k} x\n", "")), EDIT,
          grows="the square of the edits, each over a larger element", check=is_empty),
-    Kind("elements that come, one after the other", 500, of_script(wrapped("", "insert / 0 <p/>\n", "")), EDIT,
-         grows="the square of the edits, each over a larger document", check=is_empty),
+    # The siblings are handed what they were handed before, so each edit evaluates the new element and what it stands in.
+    Kind("elements that come at the end, one after the other", 5_000, of_script(wrapped("", lambda k: f"insert / {k + 2} <p/>\n", "")), EDIT,
+         check=is_empty),
+    Kind("elements that come at the beginning, one after the other", 5_000, of_script(wrapped("", "insert / 0 <p/>\n", "")), EDIT,
+         grows="the square of the edits, each of which changes the places of all siblings behind", check=is_empty),
+    Kind("elements of one id that go at once", 1_000, lambda size: {
+        "d.xhtml": wrapped("<body><div>", '<a id="t" href="#t"/>', "</div></body>")(size),
+        "s.css": ["a::after{content:target-counter(attr(href),c)}"], "t.txt": ["remove /0\n"],
+    }, EDIT, grows="the square of the elements", check=is_empty),
 ]
 
-# Linear too, and yet not for a run at the most that a file may have: it would take tens of GiB, or an hour.
+# Linear too, and yet not for a run at the most that a file may have: some take tens of GiB, and others many minutes.
 TOO_LARGE = {
-    "100,000 rules over 100 elements", "counter styles that items name", "items beside each other", "style elements without rules", "style attributes",
+    "100,000 rules over 100 elements", "counter styles that items name", "items beside each other", "padding of 2,147,483,647",
+    "style elements without rules", "style elements with a rule each", "style attributes",
     "next siblings", "children", ":empty and :root", "counters of siblings", "reversed lists beside each other",
-    "references to one element", "references to nothing", "a ring of references",
-    "references to one text of 1,000 characters", "a script of moves", "a script of sheets", "a script of shows",
-    "an attribute set again and again", "counters of the root and of its first child, at every element",
+    "references to one element", "references to nothing", "elements of one id, each referred to", "a ring of references",
+    "references to one text of 1,000 characters", "items whose numbers are baked", "nested quotes, as a line of text",
+    "why, of what stands behind counted siblings", "edits that are undone", "a script of sheets", "a script of shows",
+    "elements that come at the end, one after the other", "counters of the root and of its first child, at every element",
 }
 LARGEST = [kind for kind in KINDS if kind.grows == "linear" and kind.name not in TOO_LARGE]
 

@@ -23,7 +23,7 @@ const SEED: u32 = 1;
 
 const COUNT: u32 = 1_240;
 
-const EDITS: usize = 50;
+const EDITS: usize = 200;
 
 /// Room for the dump of that document.
 const ROOM: usize = 100_000;
