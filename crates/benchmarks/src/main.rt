@@ -22,14 +22,18 @@
 //! | `show-tokens` | prints the tokens of the style sheet on standard input, one a line |
 //! | `show-rules` | prints its rules as they are cut, read or not: the tokens of preludes and blocks |
 //! | `show-declarations` | prints the declarations of the block's content on standard input, known or not |
+//! | `show-reaches` | does the edits on standard input, and prints of each its reach and how many elements have other styles then |
 #![tactic(auto)]
 
 mod arena;
 mod cascade;
 mod cutting;
+mod element_styles;
 mod lanes;
 mod matching;
+mod reaching;
 mod sheet;
+mod style_words;
 
 use std::env;
 use std::process::ExitCode;
@@ -58,6 +62,7 @@ fn perform(rt: &HostRuntime, words: &[String]) -> Option<usize> {
         [work] if work.as_str() == "show-tokens" => sheet::show_tokens(rt),
         [work] if work.as_str() == "show-rules" => cutting::show_rules(rt),
         [work] if work.as_str() == "show-declarations" => cutting::show_declarations(rt),
+        [work] if work.as_str() == "show-reaches" => reaching::show_reaches(rt),
         [work, file] if work.as_str() == "tokens" => sheet::count_tokens(rt, file.as_str()),
         [work, file] if work.as_str() == "sheet" => sheet::count_rules(rt, file.as_str()),
         _ => None,
