@@ -275,8 +275,9 @@ def unwritable(program, work, output, name):
 
 
 def make(program, work, *words):
-    """GNU make in the folder of the example of a book, four runs side by side, into the folder `made`."""
-    words = ["make", "-s", "-j4", "-C", "examples/book", f"MARKER={program}", "OUT=made", *words]
+    """GNU make in the folder of the example of a book, four runs side by side, into the folder `made`. What each of them
+    says stands together, and not between parts of what another says."""
+    words = ["make", "-s", "-j4", "--output-sync", "-C", "examples/book", f"MARKER={program}", "OUT=made", *words]
     return subprocess.run(words, cwd=work, stdin=subprocess.DEVNULL, capture_output=True)
 
 
