@@ -1,4 +1,4 @@
-//! Documents that are opened, edited by lines, listed and shown.
+//! Documents that are opened, edited by lines, listed and shown; and the messages of lines that are not done.
 
 ghost use Rattle.std.specs.Prelude.{◌≡◌, ◌<◌};
 
@@ -164,6 +164,21 @@ fn faults_have_their_place(rt: HostRuntime) -> Result<(), Fail> {
     let wanted = [(1, 4), (2, 4), (1, 1)];
     for (fault, (line, column)) in faults::<Brand>(&rt, Blank::new(1))?.iter().zip(wanted) {
         assert_eq!(rt; *fault, Some(DocFault::Malformed { line, column }));
+    }
+    Ok(())
+}
+
+#[test]
+fn messages(rt: HostRuntime) -> Result<(), Fail> {
+    for (fault, message) in [
+        (LineFault::BadLine, "the line is no edit"),
+        (LineFault::NotAnEdit, "the line shows and edits nothing"),
+        (LineFault::NoPlace, "the edit has no place in the document"),
+        (LineFault::IntoItself, "a node can't be moved into itself"),
+        (LineFault::Memory, "out of memory"),
+    ] {
+        let told = format!(in rt.alloc(); "{fault}")?;
+        assert_eq!(rt; told.as_str(), message);
     }
     Ok(())
 }

@@ -12,6 +12,7 @@
 //! | `baked` | runs of `bake DOC SHEET` |
 //! | `tables` | runs of `table SHEET STYLE FROM TO`, with the author's styles |
 //! | `predefined` | the same with the predefined styles, at the ends of their ranges |
+//! | `messages` | no runs: the messages of `UndoFault` and `WhyFault`, which no run shows |
 //!
 //! A row has the words, the files in memory, and what must come out on both sinks and as code (`rows`). What is expected is
 //! worked out by hand from the rules in docs/; of the predefined counter styles it is the standard's. All stand here,
@@ -28,6 +29,8 @@ mod books;
 mod dumps;
 #[cfg(test)]
 mod histories;
+#[cfg(test)]
+mod messages;
 #[cfg(test)]
 mod predefined;
 #[cfg(test)]
