@@ -111,6 +111,12 @@ def counting_styles(place):
     return "insert /0 0 p{counter-increment:s}", "remove /0/0"
 
 
+def first_reversed(place):
+    """The one list of the document that counts down comes and goes: the first of the two edits makes the document ask for a
+    start, for which it is evaluated as a whole."""
+    return f'insert /{place} 3 <ol reversed=""><li/></ol>', f"remove /{place}/3"
+
+
 SIBLINGS = 'li+li::after{content:"."}li:nth-child(2n)::after{content:"!"}'
 EMPTY = 'ol:empty::after{content:"none"}'
 REVERSED = "ol{counter-reset:reversed(i)}"
@@ -135,6 +141,7 @@ KINDS = (
     ("an item of lists that count down", COUNTERS + REVERSED, nothing, items, ITEMS),
     ("an item of lists that count down, in lists that do", COUNTERS + REVERSED, nothing, inner_items, NESTED_ITEMS),
     ("a list that counts down comes under display: none", COUNTERS + REVERSED + HIDDEN, nothing, hidden, ITEMS),
+    ("the first list that counts down comes, and goes", COUNTERS, nothing, first_reversed, ITEMS),
     ("a rule in a style element", COUNTERS, nothing, styles, ITEMS),
     ("a rule in a style element that changes numbers", COUNTERS, nothing, counting_styles, ITEMS),
 )
