@@ -214,13 +214,14 @@ KINDS = [
          check=is_empty),
     Kind("positions of rows and cells", 30_000, of_document(wrapped("<table>", "<tr><td/><th/><td/></tr>", "</table>"), "tr:nth-child(even) td:nth-of-type(2)::before{content:'x'}"),
          check=lines(lambda size: size // 2)),
-    Kind("later siblings of what isn't there", 10_000, of_document(wrapped("<body>", "<p/>", "</body>"), "i~p{list-style:none}"),
-         grows="the square of the siblings", check=is_empty),
+    Kind("later siblings of what isn't there", 40_000, of_document(wrapped("<body>", "<p/>", "</body>"), "i~p{list-style:none}"), check=is_empty),
+    Kind("later siblings of the first", 40_000, of_document(wrapped("<body><i/>", "<p/>", "</body>"), "i~p::before{content:'x'}"), check=lines(lambda size: size)),
+    Kind("later siblings of what isn't there, in a row at each depth", 1_000, of_document(nested("<b>" + "<i/>" * 40, "", "</b>"), "u~i~b b~b{list-style:none}"), check=is_empty),
     Kind("next siblings", 100_000, of_document(wrapped("<body>", "<p/>", "</body>"), "i+p{list-style:none}"), check=is_empty),
-    Kind("descendants of what isn't there", 10_000, of_document(nested("<b>", "", "</b>"), "i b{list-style:none}"),
-         grows="the square of the depth", check=is_empty),
-    Kind("lists at the bottom of a deep tree, by the user agent's sheet", 3_000, of_document(
-        lambda size: [*many("<b>", size), *many("<ul/>", size), *many("</b>", size)]), grows="lists by their depth", check=is_empty),
+    Kind("descendants of what isn't there", 40_000, of_document(nested("<b>", "", "</b>"), "i b{list-style:none}"), check=is_empty),
+    Kind("descendants of the root", 40_000, of_document(nested("<b>", "", "</b>"), "b:root b{list-style:none}"), check=is_empty),
+    Kind("lists at the bottom of a deep tree, by the user agent's sheet", 20_000, of_document(
+        lambda size: [*many("<b>", size), *many("<ul/>", size), *many("</b>", size)]), check=is_empty),
     Kind("children", 100_000, of_document(nested("<b>", "", "</b>"), "i>b{list-style:none}"), check=is_empty),
     Kind(":empty and :root", 100_000, of_document(wrapped("<body>", "<p>a</p>", "</body>"), ":empty,:root{list-style:none}"), check=is_empty),
     # counters, quotes and references over documents
@@ -291,6 +292,8 @@ KINDS = [
 TOO_LARGE = {
     "100,000 rules over 100 elements", "counter styles that items name", "items beside each other", "padding of 2,147,483,647",
     "style elements without rules", "style elements with a rule each", "style attributes",
+    "later siblings of what isn't there", "later siblings of the first", "later siblings of what isn't there, in a row at each depth",
+    "descendants of what isn't there", "descendants of the root", "lists at the bottom of a deep tree, by the user agent's sheet",
     "next siblings", "children", ":empty and :root", "counters of siblings", "reversed lists beside each other",
     "references to one element", "references to nothing", "elements of one id, each referred to", "a ring of references",
     "references to one text of 1,000 characters", "items whose numbers are baked", "nested quotes, as a line of text",

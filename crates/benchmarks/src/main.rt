@@ -14,6 +14,7 @@
 //! | `matching descendant N COMPOUNDS` | matches the innermost of N nested elements a thousand times with a selector of as many compounds, in vain |
 //! | `matching child ..` | the same, where all combinators but the last are `>` |
 //! | `matching later ..` | the same with `~` and the last of N siblings |
+//! | `matching-all WORK N COMPOUNDS` | matches each of these elements once instead, where what is asked for is kept |
 //! | `styles N RULES` | gives N elements their styles by as many rules, of which one at most matches each |
 //! | `lanes WORK TIMES` | searches 16 MiB for a class of bytes so often, for the `first` place, the `count`, or all `runs` between |
 //! | `lanes WORK-plainly TIMES` | the same by a plain loop |
@@ -45,6 +46,11 @@ fn perform(rt: &HostRuntime, words: &[String]) -> Option<usize> {
             let size = size.as_str().parse::<usize>().ok()?;
             let compounds = compounds.as_str().parse::<usize>().ok()?;
             matching::perform(rt.alloc(), join.as_str(), size, compounds)
+        }
+        [work, join, size, compounds] if work.as_str() == "matching-all" => {
+            let size = size.as_str().parse::<usize>().ok()?;
+            let compounds = compounds.as_str().parse::<usize>().ok()?;
+            matching::perform_all(rt.alloc(), join.as_str(), size, compounds)
         }
         [work, elements, rules] if work.as_str() == "styles" => {
             let elements = elements.as_str().parse::<usize>().ok()?;

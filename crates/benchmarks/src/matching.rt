@@ -65,6 +65,43 @@ fn count_matching(siblings: &Siblings<'_>, node: usize, selector: &Selector) -> 
         .count()
 }
 
+/// How many elements of a document the selector matches, where what is asked for is kept; at most so many nodes are gone
+/// over.
+fn count_elements(alloc: Global, arena: &Arena, selector: &Selector, most: usize) -> usize {
+    let mut siblings = Siblings::new(alloc, arena);
+    let mut count: usize = 0;
+    let mut at = arena.root();
+    'walk: for _ in 0..most {
+        if matches(&siblings, at, selector) {
+            count = count.saturating_add(1);
+        }
+        siblings.keep(alloc, at);
+        match arena.next_in_order(at) {
+            Some(next) => at = next,
+            None => break,
+        }
+    }
+    count
+}
+
+/// Matches each of so many elements once with a selector of so many compounds, two at least, and answers how many it
+/// matched.
+pub(crate) fn perform_all(
+    alloc: Global,
+    work: &str,
+    size: usize,
+    compounds: usize,
+) -> Option<usize> {
+    let (shape, between, last) = plan(work)?;
+    let tree = tree_of(alloc, shape, size)?;
+    if !has_element_root(&tree) {
+        return None;
+    }
+    let arena = Arena::from_tree(alloc, &tree).ok()?;
+    let selector = selector_of(alloc, between, last, compounds.checked_sub(2)?).ok()?;
+    Some(count_elements(alloc, &arena, &selector, tree.len()))
+}
+
 /// Matches the last of so many elements with a selector of so many compounds, two at least, a thousand times,
 /// and answers how often it matched.
 pub(crate) fn perform(alloc: Global, work: &str, size: usize, compounds: usize) -> Option<usize> {

@@ -10,3 +10,4 @@ mod ChainLaws
 pub mod StepLaws
 mod WalkLaws
 mod CountLaws
+pub mod OutcomeLaws

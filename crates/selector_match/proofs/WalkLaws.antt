@@ -3,11 +3,13 @@ use Rattle.std.proofs.Common.{◌≡◌, ◌≢◌, ◌∷◌, ◌&&◌, ◌||�
 use Rattle.std.specs.List.{list_any}
 use Rattle.std.specs.Prelude.{IfSome, IfNone, None}
 use Rattle.std.proofs.lemmas.Bool.{and_parts, or_cases, or_left}
+use Rattle.std.proofs.lemmas.Option.{none-some}
 use Rattle.plain_types.specs.declared.selector.Compound.{Compound}
 use Rattle.plain_types.specs.declared.selector.Selector.{Selector}
 use Rattle.plain_types.specs.declared.selector_parts.Join.TheVariants.{Descendant, Child, Next, Later}
 use Rattle.selector_match.specs.Elements.{Standing, ancestors, earlier_siblings}
 use Rattle.selector_match.specs.Matching.{matches_compound}
+use Rattle.selector_match.specs.Machinery.Outcomes.{IsOutcome}
 use Rattle.selector_match.specs.Machinery.Walks.{matched_before, join_before, IsStep, IsRowDone, IsNearestSibling, EndsRow, IsNearestAncestor}
 use Rattle.selector_match.proofs.ChainLaws.{IsChain, any-mono, any-first, only-first, chain-down, chain-up, chain-stays, commits, ancestors-chain, siblings-chain, siblings-row, row-same}
 use Rattle.selector_match.proofs.StepLaws.{up-only, back-only, above-only, none-left}
@@ -278,3 +280,33 @@ module _ (selector : Selector) where
 
     pub column-ends : (place : ℕ) (element at : Standing) (left : ℕ) → place ≤ length selector.joins → InColumn place element at left → join_before selector left ≢ Some Descendant → matched_before selector place element ≡ true
     column-ends place element at left within i not_descendant = i.same ∙ none-left selector whole left (omega (arith, i.left_is)) i.done i.not_child not_descendant at
+
+    -- What came of matching what is left before an element of the walk, tells what comes of all.
+
+    pub row-recalls : (place : ℕ) (element at : Standing) (left : ℕ) (outcome : Option ℕ) → place ≤ length selector.joins → InRow place element at left → IsOutcome selector left at outcome → IsOutcome selector place element outcome
+    row-recalls place element at left None within i none = i.same ∙ none
+    row-recalls place element at left (Some end) within i ends =
+        let few : end ≤ length selector.joins = omega (arith, within, i.left_is, ends.fewer) in
+        record {
+          same = i.same ∙ ends.same ∙ up-only selector whole end few ends.done at element i.above;
+          others = λ other h. row-others end few ends.done other (any-mono (matched_before selector left) (matched_before selector end) ends.others (other ∷ earlier_siblings other) (i.row other h));
+          done = ends.done;
+          fewer = omega (arith, i.left_is, ends.fewer);
+        }
+
+  -- what is matched before an element comes out at the beginning of the selector
+  pub all-ends : (place : ℕ) (element : Standing) → matched_before selector place element ≡ true → EndsRow selector place element 0
+  all-ends place element is = record {
+    same = is;
+    others = λ other h. refl;
+    done = record { not_next = λ e. absurd (none-some Next e); not_later = λ e. absurd (none-some Later e) };
+    fewer = omega arith;
+  }
+
+  pub tells-end : (place : ℕ) (element : Standing) (outcome : Option ℕ) → IsOutcome selector place element outcome → IfSome outcome (EndsRow selector place element)
+  tells-end place element None is = tt
+  tells-end place element (Some end) is = is
+
+  pub tells-none : (place : ℕ) (element : Standing) (outcome : Option ℕ) → IsOutcome selector place element outcome → IfNone outcome (matched_before selector place element ≡ false)
+  tells-none place element None is = is
+  tells-none place element (Some end) is = tt

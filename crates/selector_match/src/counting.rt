@@ -56,7 +56,7 @@ impl<'a> Passed<'a> {
 }
 
 /// The last element on a side of this one among its siblings, or this one.
-fn outermost(arena: &Arena, key: usize, side: Side) -> usize
+pub(crate) fn outermost(arena: &Arena, key: usize, side: Side) -> usize
     requires live { IsLive arena.now.tree key }
     requires element { IsElement arena.now.tree key }
     ensures live { IsLive arena.now.tree result }

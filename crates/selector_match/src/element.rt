@@ -7,6 +7,7 @@ ghost use Rattle.plain_types.specs.Attributes.{value_of};
 ghost use Rattle.selector_match.specs.Elements.{ancestors, earlier_siblings, is_root, standing_of};
 ghost use Rattle.selector_match.specs.Positions.{is_counted, sibling_count, siblings};
 ghost use Rattle.selector_match.specs.Machinery.Kept.{AreRight};
+ghost use Rattle.selector_match.specs.Machinery.Outcomes.{IsOutcome};
 ghost use Rattle.selector_match.specs.Machinery.Sides.{is_later};
 
 use crate::kept::Kept;
@@ -14,6 +15,7 @@ use crate::neighbours::{element_beside, is_empty};
 use crate::side::Side;
 use node_arena::arena::Arena;
 use node_arena::laws::arena_holds_document;
+use plain_types::selector::Selector;
 use std::marker::Model;
 
 /// An element of a document. A clause sees where it stands.
@@ -152,6 +154,20 @@ impl<'a> Element<'a> {
             Some(count) => count.of(same_type),
             None => self.count_along(side, same_type),
         }
+    }
+
+    /// What came of matching the compounds of a selector before a place, before this element, where that is kept: the
+    /// place where the row of its siblings ends, or nothing where they are not matched. It is asked after so many nodes
+    /// were passed by.
+    pub(crate) fn outcome(
+        &self,
+        selector: &Selector,
+        place: usize,
+        passed: usize,
+    ) -> Option<Option<usize>>
+        ensures { IfSome result (IsOutcome selector.now place self.now) }
+    {
+        self.kept.outcomes.get(self.key, selector, place, passed)
     }
 
     /// How many siblings after it, or before it, count, from one to the next. Time linear in the number of siblings.

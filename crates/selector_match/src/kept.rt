@@ -1,4 +1,4 @@
-//! The counts of siblings that are kept for elements.
+//! What is kept for elements: counts of siblings, and what came of matching left parts of selectors.
 
 ghost use Rattle.std.specs.Prelude.{◌≡◌, [], nat_eq, IfSome};
 ghost use Rattle.std.specs.Map.{lookup};
@@ -7,6 +7,7 @@ ghost use Rattle.selector_match.specs.Machinery.Kept.{count_in, kept_on};
 ghost use Rattle.selector_match.specs.Machinery.Lookups.{IsElement};
 ghost use Rattle.selector_match.specs.Machinery.Sides.{is_later};
 
+use crate::outcomes::Outcomes;
 use crate::side::Side;
 use indexmap::IndexMap;
 use node_arena::arena::Arena;
@@ -35,7 +36,8 @@ impl Count {
     }
 }
 
-/// The counts that are kept, under the keys of the elements, and the side on which one was asked for that is not.
+/// The counts that are kept, under the keys of the elements, and the side on which one was asked for that is not; and
+/// the outcomes.
 #[derive(Drop)]
 pub(crate) struct Kept {
     pub(crate) earlier: IndexMap<usize, Count>,
@@ -43,19 +45,22 @@ pub(crate) struct Kept {
     missed: Cell<Option<Side>>,
     /// How often one was missing, up to `FEW`.
     misses: Cell<usize>,
+    pub(crate) outcomes: Outcomes,
 }
 
 impl Kept {
-    /// No counts. It takes no memory.
+    /// Nothing. It takes no memory.
     pub(crate) fn new(alloc: Global) -> Kept
         ensures earlier { result.earlier.entries ≡ [] }
         ensures later { result.later.entries ≡ [] }
+        ensures outcomes { result.outcomes.parts.items ≡ [] }
     {
         Kept {
             earlier: IndexMap::new(alloc),
             later: IndexMap::new(alloc),
             missed: Cell::new(None),
             misses: Cell::new(0),
+            outcomes: Outcomes::new(alloc),
         }
     }
 

@@ -14,10 +14,14 @@
 //! and [`siblings::Siblings::keep`] then counts for all children of the same element at once (`counting`), and keeps it
 //! (`kept`): so a walk over a document pays for the children of an element once, and not once for each child.
 //!
-//! Matching takes no memory, and does not recurse on the document; recursion follows `:is()`, `:where()` and
+//! Matching does not recurse on the document; recursion follows `:is()`, `:where()` and
 //! `:not()` alone. At a descendant or subsequent-sibling combinator the nearest element is taken from which
 //! the nearer combinators before it hold, and no other is ever tried again: no other could do better, which
 //! `proofs/ChainLaws.antt` proves. So each element of a chain is looked at once.
+//!
+//! What comes of the compounds before such a combinator at an element is kept too, once many elements were passed by in
+//! vain (`outcomes`), by the same walk from the topmost element down (`filling`). A selector is known again by a copy of it
+//! (`copies`), which is found by a number (`fingerprint`) and compared (`same`).
 //!
 //! ```text
 //! let selector = ..;                                  // ol > li:first-child
@@ -30,12 +34,17 @@
 mod attributes;
 mod case;
 mod compounds;
+mod copies;
 mod counting;
 mod element;
+mod filling;
+mod fingerprint;
 mod kept;
 pub mod matching;
 mod neighbours;
+mod outcomes;
 mod positions;
+mod same;
 pub mod siblings;
 mod side;
 #[cfg(test)]

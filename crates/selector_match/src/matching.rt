@@ -3,6 +3,7 @@
 ghost use Rattle.std.specs.Prelude.{◌≡◌, ◌≢◌, ◌&&◌, ◌+◌, ◌≤◌, Some, IfSome, IfNone, false, true, length};
 ghost use Rattle.forest.specs.Spots.{IsLive};
 ghost use Rattle.selector_match.specs.Matching.{matches, matches_compound};
+ghost use Rattle.selector_match.specs.Machinery.Outcomes.{IsOutcome};
 ghost use Rattle.selector_match.specs.Machinery.Walks.{EndsRow, IsNearestAncestor, IsNearestSibling, IsRowDone, IsStep, join_before, matched_before};
 
 use crate::compounds::matches_compound;
@@ -10,6 +11,47 @@ use crate::element::Element;
 use crate::siblings::Siblings;
 use plain_types::selector::{Compound, Selector};
 use plain_types::selector_parts::Join;
+
+/// So many siblings or ancestors that do not match are passed by, one after the other, before it is asked what is kept.
+const NEAR: usize = 16;
+
+/// Whether it is asked what is kept, after so many were passed by: when they are so many, and as many as the selector has
+/// compounds, and then each time that they are twice as many. To ask takes as long as the selector.
+fn is_asked(selector: &Selector, passed: usize) -> bool {
+    passed >= NEAR && passed >= selector.compounds.len() && passed.is_power_of_two()
+}
+
+/// What is kept of an element of which the compounds before this place are to be matched, where it is asked.
+fn recalled(
+    selector: &Selector,
+    element: &Element<'_>,
+    place: usize,
+    passed: usize,
+) -> Option<Option<usize>>
+    ensures { IfSome result (IsOutcome selector.now place element.now) }
+{
+    if is_asked(selector, passed) {
+        element.outcome(selector, place, passed)
+    } else {
+        None
+    }
+}
+
+/// Whether the compounds before this place are matched before an element, all of them, where that is kept and asked.
+fn recalled_whole(
+    selector: &Selector,
+    element: &Element<'_>,
+    place: usize,
+    passed: usize,
+) -> Option<bool>
+    ensures { IfSome result (λ matched. matched ≡ matched_before selector.now place element.now) }
+{
+    match recalled(selector, element, place, passed)? {
+        None => Some(false),
+        Some(0) => Some(true),
+        Some(_) => None,
+    }
+}
 
 /// The compound before that of this place, where this combinator stands between the two.
 fn compound_before(selector: &Selector, place: usize, join: Join) -> Option<&Compound>
@@ -78,11 +120,18 @@ fn match_earlier_siblings(selector: &Selector, element: &Element<'_>, place: usi
     ensures none { IfNone result (matched_before selector.now place element.now ≡ false) }
 {
     let (mut at, mut left) = match_previous_siblings(selector, element, place)?;
+    let mut passed: usize = 0;
     'earlier: while let Some(compound) = compound_before(selector, left, Join::Later) {
         at = at.previous_sibling()?;
         if let Some((end, rest)) = match_from_sibling(selector, &at, left - 1, compound) {
             at = end;
             left = rest;
+            passed = 0;
+            continue;
+        }
+        passed = passed.saturating_add(1);
+        if let Some(outcome) = recalled(selector, &at, left, passed) {
+            return outcome;
         }
     }
     Some(left)
@@ -160,6 +209,7 @@ fn match_ancestors(selector: &Selector, element: &Element<'_>, place: usize) -> 
     let Some((mut at, mut left)) = match_parents(selector, element, place) else {
         return false;
     };
+    let mut passed: usize = 0;
     'ancestors: while let Some(compound) = compound_before(selector, left, Join::Descendant) {
         match at.parent() {
             Some(parent) => at = parent,
@@ -168,18 +218,61 @@ fn match_ancestors(selector: &Selector, element: &Element<'_>, place: usize) -> 
         if let Some((end, rest)) = match_from_ancestor(selector, &at, left - 1, compound) {
             at = end;
             left = rest;
+            passed = 0;
+            continue;
+        }
+        passed = passed.saturating_add(1);
+        if let Some(matched) = recalled_whole(selector, &at, left, passed) {
+            return matched;
         }
     }
     true
 }
 
+/// Whether `~` follows the compounds before this place.
+pub(crate) fn is_in_row(selector: &Selector, place: usize) -> bool {
+    match place.checked_sub(1) {
+        Some(before) => selector.joins.as_slice().get(before) == Some(&Join::Later),
+        None => false,
+    }
+}
+
+/// What comes of matching the compounds before this place before the element: where `~` follows them the place where
+/// its row ends, and else the beginning, where its ancestors are matched too; or nothing where they are not matched. A
+/// selector of another shape has no such compounds.
+pub(crate) fn outcome_before(
+    selector: &Selector,
+    place: usize,
+    element: &Element<'_>,
+) -> Option<Option<usize>>
+    ensures { IfSome result (IsOutcome selector.now place element.now) }
+{
+    let joins = selector.joins.len();
+    if place > joins || selector.compounds.len().checked_sub(1) != Some(joins) {
+        return None;
+    }
+    let Some(left) = match_earlier_siblings(selector, element, place) else {
+        return Some(None);
+    };
+    if is_in_row(selector, place) {
+        return Some(Some(left));
+    }
+    if match_ancestors(selector, element, left) {
+        Some(Some(0))
+    } else {
+        Some(None)
+    }
+}
+
 /// Whether the selector matches the element, its pseudo-element aside. A text is matched by no selector,
 /// and nothing by a selector without compounds or whose combinators are not one less.
 ///
-/// It takes no memory. Its time is at most that of the tests of all compounds on all ancestors and, where
-/// there are `+` and `~`, on all earlier siblings of each of these. A test of a position takes constant time where
-/// [`Siblings::keep`] has counted the siblings, and else their number; `*=` takes the product of the two lengths;
-/// every other test takes the length of attribute and value.
+/// It takes memory only to note what is missing, and does without where that is refused. Its time is at most that of the
+/// tests of all compounds on all ancestors and, where there are `+` and `~`, on all earlier siblings of each of these.
+/// Where [`Siblings::keep`] has kept what comes of matching before them, a chain of these is left after some dozens that
+/// do not match, or a few times as many as the selector has compounds. A test of a position takes constant time where
+/// `keep` has counted the siblings, and else their number; `*=` takes the product of the two lengths; every other test
+/// takes the length of attribute and value.
 pub fn matches(siblings: &Siblings<'_>, key: usize, selector: &Selector) -> bool
     requires { IsLive siblings.now key }
     ensures matches { result ≡ matches siblings.now key selector.now }

@@ -6,6 +6,7 @@ ghost use Rattle.selector_match.specs.Elements.{standing_of};
 
 use crate::counting::keep_counts;
 use crate::element::Element;
+use crate::filling::keep_parts;
 use crate::kept::Kept;
 use crate::side::Side;
 use node_arena::arena::Arena;
@@ -64,13 +65,25 @@ impl<'a> Siblings<'a> {
         Element::of(self.arena, &self.kept, key)
     }
 
-    /// Keeps counts of siblings, where one was asked for that is not kept. It is to be called after selectors were
-    /// matched with the node of this key: then the same count of it, of its siblings and of its ancestors is soon
-    /// there in constant time. The first few counts that are asked for are not kept.
+    /// Keeps what was asked for and is not kept: counts of siblings, and what came of matching the left part of a selector
+    /// over many ancestors or siblings. It is to be called after selectors were matched with the node of this key: then the
+    /// same of it, of its siblings and of its ancestors is there in constant time. The first 16 counts that are asked for
+    /// are not kept, and no outcome before as many nodes were passed by for it as it takes to keep those of all.
     ///
-    /// Where memory is refused, nothing is said: the counts are not there, and are made each time that they are asked
-    /// for. Time linear in the number of siblings, where a count was missing, and in the depth of the node.
+    /// Where memory is refused, nothing is said: what is missing is found each time that it is asked for. Time linear in
+    /// the number of siblings of the node and of its ancestors, where something was missing, and in the depth of the node;
+    /// that for each left part that is kept, at most 64 at a time. Some 50 bytes for each outcome, of which at most 2^20 are
+    /// kept and those of one part more.
     pub fn keep(&mut self, alloc: Global, key: usize)
+        requires live { IsLive self.old key }
+        ensures tree { self.new ≡ self.old }
+    {
+        self.keep_missed_counts(alloc, key);
+        self.keep_wanted_outcomes(alloc, key);
+    }
+
+    /// Keeps counts of siblings, where one was asked for that is not kept.
+    fn keep_missed_counts(&mut self, alloc: Global, key: usize)
         requires live { IsLive self.old key }
         ensures tree { self.new ≡ self.old }
     {
@@ -84,5 +97,14 @@ impl<'a> Siblings<'a> {
             Side::Earlier => keep_counts(alloc, &mut self.kept.earlier, self.arena, missing, side),
             Side::Later => keep_counts(alloc, &mut self.kept.later, self.arena, missing, side),
         };
+    }
+
+    /// Keeps outcomes of the left parts of which one was asked for that is not kept.
+    fn keep_wanted_outcomes(&mut self, alloc: Global, key: usize)
+        requires live { IsLive self.old key }
+        ensures tree { self.new ≡ self.old }
+    {
+        let wanted = self.kept.outcomes.take_wanted();
+        keep_parts(alloc, &mut self.kept, self.arena, wanted, key);
     }
 }

@@ -37,6 +37,71 @@ static SHAPES: [(usize, usize, &'static [usize]); 6] = [
     (2, 0, &[]),
 ];
 
+/// Elements in a row or nested in each other, so many of each name; a selector of such names with this combinator between
+/// them; and how many elements it matches. They are so many that outcomes are kept, and asked for.
+static CROWDS: [(
+    Join,
+    &'static [(&'static str, usize)],
+    &'static [&'static str],
+    usize,
+); 12] = [
+    // there is no `i`, it comes first, or it comes in the middle
+    (Join::Later, &[("b", 90)], &["i", "b"], 0),
+    (Join::Later, &[("i", 1), ("b", 90)], &["i", "b"], 90),
+    (
+        Join::Later,
+        &[("b", 70), ("i", 1), ("b", 80)],
+        &["i", "b"],
+        80,
+    ),
+    // the first two compounds in their order, and in the other
+    (
+        Join::Later,
+        &[("i", 1), ("b", 70), ("u", 1), ("b", 80)],
+        &["i", "u", "b"],
+        80,
+    ),
+    (
+        Join::Later,
+        &[("u", 1), ("b", 70), ("i", 1), ("b", 80)],
+        &["i", "u", "b"],
+        0,
+    ),
+    (
+        Join::Later,
+        &[("u", 70), ("i", 1), ("u", 70), ("b", 80)],
+        &["i", "u", "b"],
+        80,
+    ),
+    // the same nested in each other
+    (Join::Descendant, &[("b", 90)], &["i", "b"], 0),
+    (Join::Descendant, &[("i", 1), ("b", 90)], &["i", "b"], 90),
+    (
+        Join::Descendant,
+        &[("b", 70), ("i", 1), ("b", 80)],
+        &["i", "b"],
+        80,
+    ),
+    (
+        Join::Descendant,
+        &[("i", 1), ("b", 70), ("u", 1), ("b", 80)],
+        &["i", "u", "b"],
+        80,
+    ),
+    (
+        Join::Descendant,
+        &[("u", 1), ("b", 70), ("i", 1), ("b", 80)],
+        &["i", "u", "b"],
+        0,
+    ),
+    (
+        Join::Descendant,
+        &[("u", 70), ("i", 1), ("u", 70), ("b", 80)],
+        &["i", "u", "b"],
+        80,
+    ),
+];
+
 fn tree_of(alloc: Global, rows: &[Row]) -> Result<Option<Tree>, Memory> {
     let mut builder = TreeBuilder::new(alloc);
     let mut open = 0;
@@ -81,7 +146,7 @@ fn matched(alloc: Global, arena: &Arena, selector: &Selector) -> Result<Vec<usiz
     let mut places = Vec::new(alloc);
     let mut siblings = Siblings::new(alloc, arena);
     let mut at = arena.root();
-    'walk: for place in 0..100 {
+    'walk: for place in 0..300 {
         if matches(&siblings, at, selector) {
             places.push(place)?;
         }
@@ -99,6 +164,64 @@ fn arena_of(alloc: Global) -> Result<Option<Arena>, Memory> {
         Some(tree) if has_element_root(&tree) => Ok(Some(Arena::from_tree(alloc, &tree)?)),
         _ => Ok(None),
     }
+}
+
+fn start(alloc: Global, builder: &mut TreeBuilder, name: &str) -> Result<(), Memory> {
+    if builder.accepts_node() {
+        builder.start(Text::from_str(alloc, name)?, List::new(alloc))?;
+    }
+    Ok(())
+}
+
+fn end(builder: &mut TreeBuilder) {
+    if builder.is_inside() {
+        builder.end();
+    }
+}
+
+/// So many elements of each name under a root, nested in each other where the combinator leads up, and else in a row.
+fn crowd(alloc: Global, join: Join, names: &[(&str, usize)]) -> Result<Option<Arena>, Memory> {
+    let mut builder = TreeBuilder::new(alloc);
+    start(alloc, &mut builder, "r")?;
+    for (name, count) in names {
+        for _element in 0..*count {
+            start(alloc, &mut builder, name)?;
+            if join == Join::Later {
+                end(&mut builder);
+            }
+        }
+    }
+    for _ended in 0..300 {
+        end(&mut builder);
+    }
+    if !builder.is_whole() {
+        return Ok(None);
+    }
+    let tree = builder.finish();
+    if has_element_root(&tree) {
+        Ok(Some(Arena::from_tree(alloc, &tree)?))
+    } else {
+        Ok(None)
+    }
+}
+
+/// The selector of these names with this combinator between them.
+fn joined(alloc: Global, join: Join, names: &[&str]) -> Result<Selector, Memory> {
+    let mut compounds = List::new(alloc);
+    let mut joins = List::new(alloc);
+    for name in names {
+        let mut simples = List::new(alloc);
+        simples.push(Simple::Element(Text::from_str(alloc, name)?))?;
+        compounds.push(Compound { simples })?;
+        if compounds.len() > 1 {
+            joins.push(join)?;
+        }
+    }
+    Ok(Selector {
+        compounds,
+        joins,
+        pseudo: PseudoElement::Own,
+    })
 }
 
 fn bare(alloc: Global, compound_count: usize, join_count: usize) -> Result<Selector, Memory> {
@@ -207,5 +330,23 @@ fn simple_selectors_that_no_sheet_has(rt: HostRuntime) -> Result<(), Fail> {
     assert!(rt; is_matched(alloc, &arena, no_class, &[])?);
     // a text without characters leaves its element empty, which no text of a document says
     assert!(rt; is_matched(alloc, &arena, Simple::Empty, &[1])?);
+    Ok(())
+}
+
+#[test]
+fn crowds(rt: HostRuntime) -> Result<(), Fail> {
+    let alloc = rt.alloc();
+    for (row, (join, names, selector, expected)) in CROWDS.iter().enumerate() {
+        let Some(arena) = crowd(alloc, *join, names)? else {
+            assert!(rt; false);
+            return Ok(());
+        };
+        let selector = joined(alloc, *join, selector)?;
+        assert_eq!(rt;
+            matched(alloc, &arena, &selector)?.len(),
+            *expected,
+            "row {row}"
+        );
+    }
     Ok(())
 }

@@ -10,6 +10,7 @@ use Rattle.selector_match.specs.declared.kept.Count.{Count}
 use Rattle.selector_match.specs.declared.kept.Kept.{Kept}
 use Rattle.selector_match.specs.Positions.{sibling_count}
 use Rattle.selector_match.specs.Machinery.Lookups.{standing_at}
+use Rattle.selector_match.specs.Machinery.Outcomes.{AreOutcomes}
 
 -- so many siblings count: all, or those of the element's name
 abbrev pub count_in : Count → Bool → ℕ
@@ -27,9 +28,9 @@ AreCounts tree after entries = (key : ℕ) (count : Count) → lookup (nat_eq ke
 abbrev pub kept_on : Bool → Kept → List (ℕ × Count)
 kept_on after kept = if after then kept.later.entries else kept.earlier.entries
 
--- what is kept on both sides is so
+-- what is kept on both sides is so, and what came of matching
 abbrev pub AreRight : Forest (Keyed Node) → Kept → Type 0
-AreRight tree kept = AreCounts tree false kept.earlier.entries × AreCounts tree true kept.later.entries
+AreRight tree kept = AreCounts tree false kept.earlier.entries × AreCounts tree true kept.later.entries × AreOutcomes tree kept.outcomes.parts.items
 
 -- a name was passed so often
 abbrev pub times_passed : List (Bor (List ℕ) × ℕ) → Bor (List ℕ) → ℕ

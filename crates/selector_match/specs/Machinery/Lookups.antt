@@ -12,6 +12,10 @@ use Rattle.selector_match.specs.Positions.{siblings}
 abbrev pub IsElement : Forest (Keyed Node) → ℕ → Type 0
 IsElement tree key = IsSome (standing_of tree key)
 
+-- a node of the document has this key, and is an element
+abbrev pub IsElementThere : Forest (Keyed Node) → ℕ → Type 0
+IsElementThere tree key = IsLive tree key × IsElement tree key
+
 abbrev pub nowhere : Standing
 nowhere = record { level = record { element = record { name = []; attrs = []; is_empty = true }; earlier = []; later = [] }; above = [] }
 

@@ -1,4 +1,4 @@
-use Rattle.std.proofs.Common.{ap, sym, arith, length}
+use Rattle.std.proofs.Common.{ap, sym, ◌∙◌, arith, length}
 use Rattle.selector_match.proofs.WalkLaws.{column-begins, column-takes, column-passes, column-lacks, column-ends}
 use Rattle.selector_match.proofs.matching.match_ancestors.Goals as goal
 
@@ -28,3 +28,9 @@ ancestors-preserved c =
 pub returns : goal.returns
 returns c =
     sym (column-ends c.args.selector.now c.requires.whole c.args.place c.args.element.now c.ancestors.at c.ancestors.left c.requires.place c.ancestors.invariant c.in_default-compound_before.ensures.none)
+
+pub returns-in-Some-recalled_whole : goal.returns-in-Some-recalled_whole
+returns-in-Some-recalled_whole c =
+    let passes = column-passes c.args.selector.now c.args.place c.args.element.now c.ancestors.at c.in-Some-parent.parent c.ancestors.left c.in-Some-compound_before.compound.now
+    c.ancestors.invariant c.in-Some-compound_before.ensures.some c.in-Some-parent.ensures.some c.in_default-match_from_ancestor.ensures.none in
+    c.in-Some-recalled_whole.ensures ∙ sym passes.same

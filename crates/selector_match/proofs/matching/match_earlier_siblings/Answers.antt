@@ -1,5 +1,5 @@
 use Rattle.std.proofs.Common.{ap, arith, length}
-use Rattle.selector_match.proofs.WalkLaws.{none-so, row-begins, row-takes, row-passes, row-lacks, row-ends}
+use Rattle.selector_match.proofs.WalkLaws.{none-so, row-begins, row-takes, row-passes, row-lacks, row-ends, row-recalls, tells-end, tells-none}
 use Rattle.selector_match.proofs.matching.match_earlier_siblings.Goals as goal
 
 pub returns-in_err-at-2-clause-none : goal.returns-in_err-at-2-clause-none
@@ -28,3 +28,10 @@ earlier-preserved c =
 pub returns-clause-some : goal.returns-clause-some
 returns-clause-some c =
     row-ends c.args.selector.now c.requires.whole c.args.place c.args.element.now c.earlier.at c.earlier.left c.requires.place c.earlier.invariant c.in_default.ensures.none
+
+pub returns-in-Some-recalled : goal.returns-in-Some-recalled
+returns-in-Some-recalled c =
+    let passes = row-passes c.args.selector.now c.args.place c.args.element.now c.earlier.at c.in_ok-at-2.at c.earlier.left c.in-Some.compound.now
+    c.earlier.invariant c.in-Some.ensures.some c.in_ok-at-2.ensures.some c.in_ok-at-2.ensures.above c.in_default-match_from_sibling.ensures.none in
+    let is = row-recalls c.args.selector.now c.requires.whole c.args.place c.args.element.now c.in_ok-at-2.at c.earlier.left c.in-Some-recalled.outcome c.requires.place passes c.in-Some-recalled.ensures in
+    record { some = tells-end c.args.selector.now c.args.place c.args.element.now c.in-Some-recalled.outcome is; none = tells-none c.args.selector.now c.args.place c.args.element.now c.in-Some-recalled.outcome is }
