@@ -44,8 +44,8 @@ pub fn count_box(
     let reset = reset_all(alloc, starts, style.resets.as_slice(), place)?;
     let increments = increments_of(alloc, is_item, style.increments.as_slice(), &reset)?;
     let assigns = last_assigns(alloc, style.assigns.as_slice())?;
-    let raised = increment_all(alloc, increments.as_slice(), place, &reset)?;
-    let set = assign_all(alloc, assigns.as_slice(), place, &raised)?;
+    let raised = increment_all(alloc, increments.as_slice(), place, reset)?;
+    let set = assign_all(alloc, assigns.as_slice(), place, raised)?;
     let changes = changes_of(
         alloc,
         place.creator,
@@ -90,10 +90,10 @@ fn reset(
     starts: &[Start],
     op: &ResetOp,
     place: &Place,
-    set: &CounterSet,
+    set: CounterSet,
 ) -> Result<CounterSet, Memory>
-    requires distinct { AreDistinct (reset_by (is_missing_in place.now.parent) place.now.creator starts.now set.now op.now) }
-    ensures set { IfOk result (λ after. after ≡ reset_by (is_missing_in place.now.parent) place.now.creator starts.now set.now op.now) }
+    requires distinct { AreDistinct (reset_by (is_missing_in place.now.parent) place.now.creator starts.now set op.now) }
+    ensures set { IfOk result (λ after. after ≡ reset_by (is_missing_in place.now.parent) place.now.creator starts.now set op.now) }
 {
     let counter = Counter {
         name: SharedText::from_str(alloc, op.name.as_str())?,
@@ -115,10 +115,12 @@ fn reset_all(
     ensures set { IfOk result (λ after. after ≡ after_resets (is_missing_in place.now.parent) place.now.creator starts.now resets.now place.now.set) }
 {
     let mut set = place.set.share(alloc)?;
+    // It ensures that they are distinct.
+    let _counters = set.as_slice();
     let mut rest = resets;
     while let Some((op, later)) = rest.split_first() {
         if !is_reset_in(later, op.name.as_str()) {
-            set = reset(alloc, starts, op, place, &set)?;
+            set = reset(alloc, starts, op, place, set)?;
         }
         rest = later;
     }
@@ -173,11 +175,11 @@ fn increment_all(
     alloc: Global,
     increments: &[CounterOp],
     place: &Place,
-    set: &CounterSet,
+    set: CounterSet,
 ) -> Result<CounterSet, Memory>
-    ensures set { IfOk result (λ after. after ≡ incremented_all (is_missing_in place.now.parent) place.now.creator increments.now set.now) }
+    ensures set { IfOk result (λ after. after ≡ incremented_all (is_missing_in place.now.parent) place.now.creator increments.now set) }
 {
-    let mut set = set.share(alloc)?;
+    let mut set = set;
     for op in increments {
         set = set.increment(alloc, &place.parent, &op.name, op.value, place.creator)?;
     }
@@ -189,11 +191,11 @@ fn assign_all(
     alloc: Global,
     assigns: &[CounterOp],
     place: &Place,
-    set: &CounterSet,
+    set: CounterSet,
 ) -> Result<CounterSet, Memory>
-    ensures set { IfOk result (λ after. after ≡ assigned_all (is_missing_in place.now.parent) place.now.creator assigns.now set.now) }
+    ensures set { IfOk result (λ after. after ≡ assigned_all (is_missing_in place.now.parent) place.now.creator assigns.now set) }
 {
-    let mut set = set.share(alloc)?;
+    let mut set = set;
     for op in assigns {
         set = set.assign(alloc, &place.parent, &op.name, op.value, place.creator)?;
     }

@@ -155,9 +155,6 @@ changed_distinct change [] place h = tt
 changed_distinct change (c ∷ set) zero h = (h.0, h.1)
 changed_distinct change (c ∷ set) (suc place) h = (ap not (changed_lacks change c set place) ∙ h.0, changed_distinct change set place h.1)
 
-pub valued_copy_distinct : (change : ℤ → ℤ) (set copy : List Counter) (place : ℕ) → AreDistinct set → copy ≡ change_at (with_value change) set place → AreDistinct copy
-valued_copy_distinct change set copy place h e = subst AreDistinct (sym e) (changed_distinct change set place h)
-
 -- Inheriting.
 
 pub valued_from_two_distinct : (values parent others counters : List Counter) → AreDistinct parent → AreDistinct others → counters ≡ map (valued_in values) (parent ++ filter (is_missing_in parent) others) → AreDistinct counters

@@ -1,11 +1,9 @@
 -- Lemmas on the lists of sets.
-use Rattle.std.proofs.Common.{◌≡◌, ◌+◌, ◌∷◌, ◌++◌, ◌<◌, ◌==◌, ℕ, zero, suc, List, [], Bool, true, false, cond, Option, Some, None, length, take, get_or, refl, sym, ap, ◌∙◌, arith, inl, inr}
+use Rattle.std.proofs.Common.{◌≡◌, ◌∷◌, ◌++◌, ◌<◌, ℕ, zero, suc, List, [], Bool, true, false, cond, Option, Some, None, length, get_or, refl, sym, ap, ◌∙◌, arith, inl, inr}
 use Rattle.std.proofs.lemmas.Bool.{cases_Bool}
-use Rattle.std.proofs.lemmas.Bool.Decides.{nat_tests}
-use Rattle.std.proofs.lemmas.List.{take_more, length-take-le}
 use Rattle.std.proofs.lemmas.Option.{slice_get-get_or}
 use Rattle.std.proofs.lemmas.Slice.Eq.{bytes_eq-Decides}
-use Rattle.std.specs.Prelude.{ℤ, pos, is_some, remove, slice_get}
+use Rattle.std.specs.Prelude.{ℤ, pos, is_some, remove, slice_get, slice_set}
 use Rattle.std.specs.Option.{option_and_then, option_map_or}
 use Rattle.plain_types.specs.declared.box_id.BoxId.{BoxId}
 use Rattle.plain_types.specs.declared.counter.Counter.{Counter}
@@ -29,40 +27,15 @@ module _ {X : Type 0} where
   last_place_before test all front before x same ends fails =
       sym (ap (λ b. cond b (Some (length before)) (last_place test before)) fails) ∙ sym (last_place-push test before x) ∙ ap (last_place test) (sym ends) ∙ same
 
-  pub change_at-push : (change : X → X) (xs : List X) (x : X) (place : ℕ) → change_at change (xs ++ x ∷ []) place ≡ change_at change xs place ++ cond (length xs == place) (change x) x ∷ []
-  change_at-push change [] x zero = refl
-  change_at-push change [] x (suc place) = let e : (0 == suc place) ≡ false = grind (arith, nat_tests) in rw e refl
-  change_at-push change (y ∷ xs) x zero = let e : (suc (length xs) == 0) ≡ false = grind (arith, nat_tests) in rw e refl
-  change_at-push change (y ∷ xs) x (suc place) =
-      let e : (suc (length xs) == suc place) ≡ (length xs == place) = grind (arith, nat_tests) in
-      rw e (ap (λ zs. y ∷ zs) (change_at-push change xs x place))
-
   pub change_at_last : (change : X → X) (xs : List X) (x : X) → change_at change (xs ++ x ∷ []) (length xs) ≡ xs ++ change x ∷ []
   change_at_last change [] x = refl
   change_at_last change (y ∷ xs) x = ap (λ zs. y ∷ zs) (change_at_last change xs x)
 
-  -- one more item of a list with one item changed
-  change_at_more : (change : X → X) (xs : List X) (at place : ℕ) (d : X) → at < length xs → change_at change (take (at + 1) xs) place ≡ change_at change (take at xs) place ++ cond (at == place) (change (get_or xs at d)) (get_or xs at d) ∷ []
-  change_at_more change xs at place d below =
-      ap (λ ys. change_at change ys place) (take_more xs at d below) ∙ change_at-push change (take at xs) (get_or xs at d) place
-      ∙ ap (λ n. change_at change (take at xs) place ++ cond (n == place) (change (get_or xs at d)) (get_or xs at d) ∷ []) (length-take-le at xs (omega arith))
-
-  -- a copy that has one more item, changed at its place
-  pub copy_changed : (change : X → X) (xs copy more : List X) (at place : ℕ) (d copied x : X) → at < length xs → copy ≡ change_at change (take at xs) place → more ≡ copy ++ x ∷ []
-      → d ≡ get_or xs at d → copied ≡ d → at ≡ place → x ≡ change copied → more ≡ change_at change (take (at + 1) xs) place
-  copy_changed change xs copy more at place d copied x below same added read equal here changed =
-      let e : (at == place) ≡ true = grind (arith, nat_tests) in
-      added ∙ ap (λ c. c ++ x ∷ []) same
-      ∙ ap (λ y. change_at change (take at xs) place ++ y ∷ []) (changed ∙ ap change (equal ∙ read) ∙ sym (ap (λ b. cond b (change (get_or xs at d)) (get_or xs at d)) e))
-      ∙ sym (change_at_more change xs at place d below)
-
-  pub copy_kept : (change : X → X) (xs copy more : List X) (at place : ℕ) (d copied x : X) → at < length xs → copy ≡ change_at change (take at xs) place → more ≡ copy ++ x ∷ []
-      → d ≡ get_or xs at d → copied ≡ d → (at ≡ place → ⊥) → x ≡ copied → more ≡ change_at change (take (at + 1) xs) place
-  copy_kept change xs copy more at place d copied x below same added read equal apart kept =
-      let e : (at == place) ≡ false = grind (arith, nat_tests) in
-      added ∙ ap (λ c. c ++ x ∷ []) same
-      ∙ ap (λ y. change_at change (take at xs) place ++ y ∷ []) (kept ∙ equal ∙ read ∙ sym (ap (λ b. cond b (change (get_or xs at d)) (get_or xs at d)) e))
-      ∙ sym (change_at_more change xs at place d below)
+  -- an item put in the place of another that it is made of
+  pub set_changed : (change : X → X) (xs : List X) (place : ℕ) (x : X) → x ≡ get_or xs place x → slice_set xs place (change x) ≡ change_at change xs place
+  set_changed change [] place x read = refl
+  set_changed change (y ∷ xs) zero x read = ap (λ z. change z ∷ xs) read
+  set_changed change (y ∷ xs) (suc place) x read = ap (λ zs. y ∷ zs) (set_changed change xs place x read)
 
 -- a value put in the place of another that it is made of
 pub changed_alike : (change : ℤ → ℤ) (value : ℤ) (set : List Counter) (place : ℕ) (counter : Counter) → counter ≡ get_or set place counter → value ≡ change counter.value

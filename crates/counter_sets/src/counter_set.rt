@@ -1,18 +1,15 @@
 //! Sets that share their lists.
 
-ghost use Rattle.std.specs.Prelude.{◌≡◌, ◌≢◌, ◌↔◌, None, Some, ◌++◌, ◌∷◌, [], ◌<◌, IfNone, IfOk, IfSome, IsTrue, length, option_copied, false, unwrap_or};
+ghost use Rattle.std.specs.Prelude.{◌≡◌, ◌≢◌, ◌↔◌, None, Some, ◌++◌, ◌∷◌, [], ◌<◌, IfNone, IfOk, IfSome, IsTrue, length, option_copied, false, remove, unwrap_or};
+ghost use Rattle.std.specs.Option.{option_map_or};
 ghost use Rattle.std.specs.Str.{chars};
 ghost use Rattle.counter_sets.specs.Sets.{AreDistinct, assigned, incremented, inherited, innermost, innermost_place, instantiated, is_missing_in, replaced_place, change_at, with_value};
 
-use crate::counters::{
-    are_equal, copy_with_room, copy_with_value, copy_without, is_missing_in, last_place,
-};
+use crate::counters::{are_equal, copy_with_capacity, is_missing_in, last_place};
 use crate::inheriting::{copy_inherited, is_inherited};
 use plain_types::box_id::BoxId;
 use plain_types::count::{Count, add_counts};
 use plain_types::counter::Counter;
-use plain_types::duplicate::Duplicate;
-use plain_types::list::List;
 use plain_types::memory::Memory;
 use plain_types::shared_text::SharedText;
 use plain_types::text::Text;
@@ -23,7 +20,7 @@ use std::rc::Rc;
 /// The counters in whose scope a box is, the innermost of a name last, in a list that sets can share.
 #[derive(Drop)]
 pub struct CounterSet {
-    counters: Rc<List<Counter>>,
+    counters: Rc<Vec<Counter>>,
 }
 
 impl Model for CounterSet {
@@ -34,9 +31,9 @@ impl Model for CounterSet {
 
     ghost use Rattle.counter_sets.specs.Sets.{AreDistinct};
 
-    ghost view = { λ set. set.counters.value };
+    ghost view = { λ set. set.counters.value.items };
 
-    ghost invariant = { λ set. AreDistinct set.counters.value };
+    ghost invariant = { λ set. AreDistinct set.counters.value.items };
 }
 
 #[cfg(test)]
@@ -52,7 +49,7 @@ impl CounterSet {
     pub fn empty(alloc: Global) -> Result<CounterSet, Memory>
         ensures empty { IfOk result (λ set. set ≡ []) }
     {
-        CounterSet::of(alloc, List::new(alloc))
+        CounterSet::of(alloc, Vec::new(alloc))
     }
 
     /// The set that a box inherits (CSS Lists 3, 4.4): the parent's counters, then those that the sibling
@@ -78,37 +75,36 @@ impl CounterSet {
     }
 
     /// The set with a new counter at its end (CSS Lists 3, 4.4). The innermost counter of its name goes where
-    /// the parent's set lacks it: the box itself or an earlier sibling created it. It takes time linear in
-    /// the sets' lengths. The caller sees to it that no other counter of the set is the same as the new one.
+    /// the parent's set lacks it: the box itself or an earlier sibling created it. The list is changed in place where
+    /// no other set shares it, and copied first where one does. It takes time linear in the sets' lengths. The
+    /// caller sees to it that no other counter of the set is the same as the new one.
     pub fn instantiate(
-        &self,
+        self,
         alloc: Global,
         parent: &CounterSet,
         counter: Counter,
     ) -> Result<CounterSet, Memory>
-        requires distinct { AreDistinct (instantiated (is_missing_in parent.now) self.now counter) }
-        ensures set { IfOk result (λ set. set ≡ instantiated (is_missing_in parent.now) self.now counter) }
+        requires distinct { AreDistinct (instantiated (is_missing_in parent.now) self counter) }
+        ensures set { IfOk result (λ set. set ≡ instantiated (is_missing_in parent.now) self counter) }
     {
-        let mut counters = match self.replaced_place(parent, counter.name.as_str()) {
-            Some(place) => copy_without(alloc, self.as_slice(), place)?,
-            None => copy_with_room(alloc, self.as_slice())?,
-        };
+        let mut counters = self.without_replaced(alloc, parent, counter.name.as_str())?;
         counters.push(counter)?;
         CounterSet::of(alloc, counters)
     }
 
     /// The set with the innermost counter of the name raised (CSS Lists 3, 4.2), saturated. Where there is
-    /// none, the box `creator` creates one with 0 first. Where the value stays as it is, the list is shared, as
-    /// by `share`, and none is made. It takes time linear in the set's length.
+    /// none, the box `creator` creates one with 0 first. The list is changed in place, or copied first, as by
+    /// `instantiate`; where the value stays as it is, it is neither changed nor copied. It takes time linear in the
+    /// set's length.
     pub fn increment(
-        &self,
+        self,
         alloc: Global,
         parent: &CounterSet,
         name: &Text,
         by: Count,
         creator: BoxId,
     ) -> Result<CounterSet, Memory>
-        ensures set { IfOk result (λ set. set ≡ incremented (is_missing_in parent.now) creator self.now name.now by) }
+        ensures set { IfOk result (λ set. set ≡ incremented (is_missing_in parent.now) creator self name.now by) }
     {
         match self.innermost_place(name.as_str()) {
             Some(place) => {
@@ -120,17 +116,18 @@ impl CounterSet {
     }
 
     /// The set with another value for the innermost counter of the name (CSS Lists 3, 4.2). Where there is
-    /// none, the box `creator` creates one. Where the counter has that value already, the list is shared, as by
-    /// `share`, and none is made. It takes time linear in the set's length.
+    /// none, the box `creator` creates one. The list is changed in place, or copied first, as by `instantiate`;
+    /// where the counter has that value already, it is neither changed nor copied. It takes time linear in the set's
+    /// length.
     pub fn assign(
-        &self,
+        self,
         alloc: Global,
         parent: &CounterSet,
         name: &Text,
         value: Count,
         creator: BoxId,
     ) -> Result<CounterSet, Memory>
-        ensures set { IfOk result (λ set. set ≡ assigned (is_missing_in parent.now) creator self.now name.now value) }
+        ensures set { IfOk result (λ set. set ≡ assigned (is_missing_in parent.now) creator self name.now value) }
     {
         match self.innermost_place(name.as_str()) {
             Some(place) => self.with_value(alloc, place, value),
@@ -145,7 +142,10 @@ impl CounterSet {
     {
         match self.counters.clone() {
             Ok(counters) => Ok(CounterSet { counters }),
-            Err(_) => CounterSet::of(alloc, self.counters.duplicate(alloc)?),
+            Err(_) => CounterSet::of(
+                alloc,
+                copy_with_capacity(alloc, self.as_slice(), self.len())?,
+            ),
         }
     }
 
@@ -174,13 +174,32 @@ impl CounterSet {
     }
 
     /// The set of these counters.
-    fn of(alloc: Global, counters: List<Counter>) -> Result<CounterSet, Memory>
-        requires distinct { AreDistinct counters }
-        ensures counters { IfOk result (λ set. set ≡ counters) }
+    fn of(alloc: Global, counters: Vec<Counter>) -> Result<CounterSet, Memory>
+        requires distinct { AreDistinct counters.items }
+        ensures counters { IfOk result (λ set. set ≡ counters.items) }
     {
         Ok(CounterSet {
             counters: Rc::new(alloc, counters)?,
         })
+    }
+
+    /// How many counters there are.
+    fn len(&self) -> usize
+        ensures length { result ≡ length self.now }
+    {
+        self.as_slice().len()
+    }
+
+    /// The counters in a list that no set holds: that of this set where no other one shares it, and else a copy with
+    /// room for so many.
+    fn into_counters(self, alloc: Global, capacity: usize) -> Result<Vec<Counter>, Memory>
+        ensures counters { IfOk result (λ counters. counters.items ≡ self) }
+        ensures distinct { IfOk result (λ counters. AreDistinct counters.items) }
+    {
+        match Rc::try_unwrap(self.counters) {
+            Ok(counters) => Ok(counters),
+            Err(shared) => copy_with_capacity(alloc, shared.as_slice(), capacity),
+        }
     }
 
     /// The place of the innermost counter of a name.
@@ -221,34 +240,57 @@ impl CounterSet {
         }
     }
 
+    /// The counters but for that whose place a new one of this name takes, in a list that no set holds, which has room
+    /// for the new one if it was copied.
+    fn without_replaced(
+        self,
+        alloc: Global,
+        parent: &CounterSet,
+        name: &str,
+    ) -> Result<Vec<Counter>, Memory>
+        ensures counters { IfOk result (λ counters. counters.items ≡ option_map_or (remove self) (replaced_place (is_missing_in parent.now) self (chars name.now)) self) }
+    {
+        let len = self.len();
+        match self.replaced_place(parent, name) {
+            Some(place) => {
+                let mut counters = self.into_counters(alloc, len)?;
+                let _replaced = counters.remove(place);
+                Ok(counters)
+            }
+            None => self.into_counters(alloc, len + 1),
+        }
+    }
+
     /// The set with this value for the counter at a place.
-    fn with_value(&self, alloc: Global, place: usize, value: Count) -> Result<CounterSet, Memory>
-        requires within { place < length self.now }
-        ensures set { IfOk result (λ set. set ≡ change_at (with_value (λ _. value)) self.now place) }
+    fn with_value(self, alloc: Global, place: usize, value: Count) -> Result<CounterSet, Memory>
+        requires within { place < length self }
+        ensures set { IfOk result (λ set. set ≡ change_at (with_value (λ _. value)) self place) }
     {
         if self.as_slice()[place].value == value {
-            return self.share(alloc);
+            return Ok(self);
         }
-        CounterSet::of(
-            alloc,
-            copy_with_value(alloc, self.as_slice(), place, value)?,
-        )
+        let len = self.len();
+        let mut counters = self.into_counters(alloc, len)?;
+        counters[place].value = value;
+        CounterSet::of(alloc, counters)
     }
 
     /// The set with a new counter that is not reversed, of a name that has none.
     fn with_new(
-        &self,
+        self,
         alloc: Global,
         name: &Text,
         creator: BoxId,
         value: Count,
     ) -> Result<CounterSet, Memory>
-        requires unused { innermost_place self.now name.now ≡ None }
-        ensures set { IfOk result (λ set. set ≡ self.now ++ record { name = name.now; creator = creator; reversed = false; value = value } ∷ []) }
+        requires unused { innermost_place self name.now ≡ None }
+        ensures set { IfOk result (λ set. set ≡ self ++ record { name = name.now; creator = creator; reversed = false; value = value } ∷ []) }
     {
-        let mut counters = copy_with_room(alloc, self.as_slice())?;
+        let name = SharedText::from_str(alloc, name.as_str())?;
+        let len = self.len();
+        let mut counters = self.into_counters(alloc, len + 1)?;
         counters.push(Counter {
-            name: SharedText::from_str(alloc, name.as_str())?,
+            name,
             creator,
             reversed: false,
             value,

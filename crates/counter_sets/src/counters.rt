@@ -1,14 +1,13 @@
 //! Lists of counters.
 
-ghost use Rattle.std.specs.Prelude.{◌≡◌, ◌↔◌, ◌<◌, IfOk, IfSome, IsSomeAnd, IsTrue, find, length, option_copied, remove, slice_get, true};
+ghost use Rattle.std.specs.Prelude.{◌≡◌, ◌↔◌, ◌<◌, IfOk, IfSome, IsSomeAnd, IsTrue, find, length, option_copied, slice_get, true};
 ghost use Rattle.std.specs.List.{list_any};
 ghost use Rattle.std.specs.Str.{chars};
-ghost use Rattle.counter_sets.specs.Sets.{AreDistinct, change_at, is_missing_in, is_named, is_same, last_place, with_value};
+ghost use Rattle.counter_sets.specs.Sets.{AreDistinct, is_missing_in, is_named, is_same, last_place, with_value};
 
 use plain_types::count::Count;
 use plain_types::counter::Counter;
 use plain_types::duplicate::Duplicate;
-use plain_types::list::List;
 use plain_types::memory::Memory;
 use std::alloc::Global;
 
@@ -97,50 +96,17 @@ pub(crate) fn last_place(counters: &[Counter], name: &str) -> Option<usize>
     None
 }
 
-/// Copies of the counters, in a list with room for one more.
-pub(crate) fn copy_with_room(alloc: Global, counters: &[Counter]) -> Result<List<Counter>, Memory>
-    ensures copy { IfOk result (λ copy. copy ≡ counters.now) }
+/// Copies of the counters, in a list with room for so many.
+pub(crate) fn copy_with_capacity(
+    alloc: Global,
+    counters: &[Counter],
+    capacity: usize,
+) -> Result<Vec<Counter>, Memory>
+    ensures copy { IfOk result (λ copy. copy.items ≡ counters.now) }
 {
-    let mut copy = List::with_capacity(alloc, counters.len() + 1)?;
+    let mut copy = Vec::with_capacity(alloc, capacity)?;
     for counter in counters {
         copy.push(counter.duplicate(alloc)?)?;
-    }
-    Ok(copy)
-}
-
-/// Copies of the counters but for that at a place, in a list with room for one more.
-pub(crate) fn copy_without(
-    alloc: Global,
-    counters: &[Counter],
-    place: usize,
-) -> Result<List<Counter>, Memory>
-    ensures copy { IfOk result (λ copy. copy ≡ remove counters.now place) }
-{
-    let mut copy = List::with_capacity(alloc, counters.len())?;
-    for (at, counter) in counters.iter().enumerate() {
-        if at != place {
-            copy.push(counter.duplicate(alloc)?)?;
-        }
-    }
-    Ok(copy)
-}
-
-/// Copies of the counters, with another value for that at a place.
-pub(crate) fn copy_with_value(
-    alloc: Global,
-    counters: &[Counter],
-    place: usize,
-    value: Count,
-) -> Result<List<Counter>, Memory>
-    ensures copy { IfOk result (λ copy. copy ≡ change_at (with_value (λ _. value)) counters.now place) }
-{
-    let mut copy = List::with_capacity(alloc, counters.len())?;
-    for (at, counter) in counters.iter().enumerate() {
-        let mut counter = counter.duplicate(alloc)?;
-        if at == place {
-            counter.value = value;
-        }
-        copy.push(counter)?;
     }
     Ok(copy)
 }

@@ -8,7 +8,6 @@ use crate::counters::{find_same, is_missing_in, is_same, is_with_value};
 use plain_types::count::Count;
 use plain_types::counter::Counter;
 use plain_types::duplicate::Duplicate;
-use plain_types::list::List;
 use plain_types::memory::Memory;
 use std::alloc::Global;
 
@@ -19,13 +18,13 @@ pub(crate) fn copy_inherited(
     parent: &[Counter],
     sibling: &[Counter],
     values: &[Counter],
-) -> Result<List<Counter>, Memory>
+) -> Result<Vec<Counter>, Memory>
     requires siblings { AreDistinct sibling.now }
     requires distinct { AreDistinct values.now }
-    ensures copy { IfOk result (λ copy. copy ≡ inherited parent.now (Some sibling.now) (Some values.now)) }
+    ensures copy { IfOk result (λ copy. copy.items ≡ inherited parent.now (Some sibling.now) (Some values.now)) }
 {
     let (others, added) = besides(parent, sibling);
-    let mut list = List::with_capacity(alloc, parent.len() + added.len())?;
+    let mut list = Vec::with_capacity(alloc, parent.len() + added.len())?;
     push_added(alloc, &mut list, &[], parent, values)?;
     push_added(alloc, &mut list, others, added, values)?;
     Ok(list)
@@ -84,13 +83,13 @@ fn past_front<'a>(parent: &[Counter], sibling: &'a [Counter]) -> Option<&'a [Cou
 /// Appends those of the counters that `others` lacks, each with its value among `values`.
 fn push_added(
     alloc: Global,
-    list: &mut List<Counter>,
+    list: &mut Vec<Counter>,
     others: &[Counter],
     counters: &[Counter],
     values: &[Counter],
 ) -> Result<(), Memory>
     requires distinct { AreDistinct values.now }
-    ensures ok { OnOk result (list.new ≡ list.old ++ map (valued_in values.now) (filter (is_missing_in others.now) counters.now)) }
+    ensures ok { OnOk result (list.new.items ≡ list.old.items ++ map (valued_in values.now) (filter (is_missing_in others.now) counters.now)) }
 {
     for (place, counter) in counters.iter().enumerate() {
         if is_missing_in(others, place, counter) {

@@ -2,10 +2,11 @@
 //!
 //! A `CounterSet` holds counters, the innermost of a name last. A box inherits its set from its parent, the
 //! sibling before it and the box just before it; `counter-reset` instantiates counters in it,
-//! `counter-increment` and `counter-set` change the innermost of a name, and `counter()` reads that. A set
-//! never changes: each of these calls makes a new one, and `share` hands out the same one again. Where a box
-//! inherits a set that it was lent, or a counter keeps its value, the set is shared too, so that boxes that count
-//! nothing hold one list.
+//! `counter-increment` and `counter-set` change the innermost of a name, and `counter()` reads that. Sets share
+//! lists: `share` hands out the same set again, over the same list, and so does `inherit` where a box inherits a set
+//! that it was lent. So boxes that count nothing hold one list. What changes a set takes it, and copies a list that
+//! others share once: then the list is the set's alone, and further changes are done in place. Where a counter keeps
+//! its value, nothing is copied.
 //!
 //! A new counter takes the place of one that the box itself or an earlier sibling created. A `CounterSet`
 //! knows no siblings. It looks into the parent's set: in the set of a box, the counters that the parent's set

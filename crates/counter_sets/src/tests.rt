@@ -22,7 +22,7 @@ fn element(key: usize) -> BoxId {
 /// The set after `counter-reset: NAME` on an element of this key, which has no counter yet.
 fn reset(
     alloc: Global,
-    set: &CounterSet,
+    set: CounterSet,
     parent: &CounterSet,
     name: &str,
     key: usize,
@@ -36,7 +36,7 @@ fn reset(
     if is_missing_in(set.as_slice(), 0, &counter) {
         return set.instantiate(alloc, parent, counter);
     }
-    set.share(alloc)
+    Ok(set)
 }
 
 /// Whether the set has counters with these creators and values, in this order.
@@ -54,7 +54,7 @@ fn a_later_sibling_starts_anew(rt: HostRuntime) -> Result<(), Fail> {
     let s = Text::from_str(alloc, "s")?;
     let body = CounterSet::empty(alloc)?;
     let first = CounterSet::inherit(alloc, &body, None, Some(&body))?;
-    let first = reset(alloc, &first, &body, "s", 1)?;
+    let first = reset(alloc, first, &body, "s", 1)?;
     assert!(rt; has(&first, &[(1, 0)]));
     let second = CounterSet::inherit(alloc, &body, Some(&first), Some(&first))?;
     let second = second.increment(alloc, &body, &s, 1, element(2))?;
@@ -63,7 +63,7 @@ fn a_later_sibling_starts_anew(rt: HostRuntime) -> Result<(), Fail> {
     let third = third.increment(alloc, &body, &s, 1, element(3))?;
     assert!(rt; has(&third, &[(1, 2)]));
     let fourth = CounterSet::inherit(alloc, &body, Some(&third), Some(&third))?;
-    let fourth = reset(alloc, &fourth, &body, "s", 4)?;
+    let fourth = reset(alloc, fourth, &body, "s", 4)?;
     assert!(rt; has(&fourth, &[(4, 0)]));
     let innermost = fourth.innermost("s").ok_or("the counter of the second h1")?;
     assert!(rt; innermost.creator == element(4));
@@ -77,11 +77,11 @@ fn a_child_keeps_the_counter_of_its_parent(rt: HostRuntime) -> Result<(), Fail> 
     let alloc = rt.alloc();
     let n = Text::from_str(alloc, "n")?;
     let root = CounterSet::empty(alloc)?;
-    let outer = reset(alloc, &root, &root, "n", 0)?;
+    let outer = reset(alloc, root.share(alloc)?, &root, "n", 0)?;
     let a = CounterSet::inherit(alloc, &outer, None, Some(&outer))?;
     let a = a.increment(alloc, &outer, &n, 1, element(1))?;
     let inner = CounterSet::inherit(alloc, &a, None, Some(&a))?;
-    let inner = reset(alloc, &inner, &a, "n", 2)?;
+    let inner = reset(alloc, inner, &a, "n", 2)?;
     assert!(rt; has(&inner, &[(0, 1), (2, 0)]));
     let b = CounterSet::inherit(alloc, &inner, None, Some(&inner))?;
     let b = b.increment(alloc, &inner, &n, 1, element(3))?;
@@ -105,11 +105,15 @@ fn values_end_at_the_ends_of_counts(rt: HostRuntime) -> Result<(), Fail> {
         (COUNT_LOW, -1, COUNT_LOW),
         (COUNT_LOW, COUNT_HIGH, -1),
     ] {
-        let set = root.assign(alloc, &root, &n, value, element(7))?;
+        let set = root
+            .share(alloc)?
+            .assign(alloc, &root, &n, value, element(7))?;
         let set = set.increment(alloc, &root, &n, by, element(8))?;
         assert!(rt; has(&set, &[(7, want)]), "{value} and {by}");
     }
-    let set = root.increment(alloc, &root, &n, COUNT_LOW, element(7))?;
+    let set = root
+        .share(alloc)?
+        .increment(alloc, &root, &n, COUNT_LOW, element(7))?;
     assert!(rt; has(&set, &[(7, COUNT_LOW)]));
     Ok(())
 }
@@ -118,13 +122,16 @@ fn values_end_at_the_ends_of_counts(rt: HostRuntime) -> Result<(), Fail> {
 fn a_shared_set_is_the_same(rt: HostRuntime) -> Result<(), Fail> {
     let alloc = rt.alloc();
     let root = CounterSet::empty(alloc)?;
-    let set = reset(alloc, &root, &root, "n", 3)?;
+    let n = Text::from_str(alloc, "n")?;
+    let set = reset(alloc, root.share(alloc)?, &root, "n", 3)?;
     let shared = set.share(alloc)?;
     assert!(rt; shared.shares_with(&set) && shared.is_same(&set));
-    let changed = shared.assign(alloc, &root, &Text::from_str(alloc, "n")?, 5, element(4))?;
+    let changed = shared
+        .share(alloc)?
+        .assign(alloc, &root, &n, 5, element(4))?;
     assert!(rt; has(&set, &[(3, 0)]) && has(&shared, &[(3, 0)]) && has(&changed, &[(3, 5)]));
     assert!(rt; !changed.shares_with(&set) && !changed.is_same(&set));
-    let again = reset(alloc, &root, &root, "n", 3)?;
+    let again = reset(alloc, root.share(alloc)?, &root, "n", 3)?;
     assert!(rt; !again.shares_with(&set) && again.is_same(&set));
     Ok(())
 }
@@ -135,10 +142,14 @@ fn inherited_lists_are_shared(rt: HostRuntime) -> Result<(), Fail> {
     let alloc = rt.alloc();
     let n = Text::from_str(alloc, "n")?;
     let root = CounterSet::empty(alloc)?;
-    let parent = reset(alloc, &root, &root, "n", 0)?;
-    let sibling = parent.increment(alloc, &root, &n, 1, element(1))?;
-    let nested = sibling.increment(alloc, &root, &n, 1, element(2))?;
-    let deeper = reset(alloc, &nested, &nested, "n", 3)?;
+    let parent = reset(alloc, root.share(alloc)?, &root, "n", 0)?;
+    let sibling = parent
+        .share(alloc)?
+        .increment(alloc, &root, &n, 1, element(1))?;
+    let nested = sibling
+        .share(alloc)?
+        .increment(alloc, &root, &n, 1, element(2))?;
+    let deeper = reset(alloc, nested.share(alloc)?, &nested, "n", 3)?;
     for (row, (own, before, preceding, lends)) in [
         (&root, None, None, &root),
         (&parent, None, None, &parent),
@@ -166,10 +177,16 @@ fn lists_without_a_change_are_shared(rt: HostRuntime) -> Result<(), Fail> {
     let n = Text::from_str(alloc, "n")?;
     let root = CounterSet::empty(alloc)?;
     for (value, by, shared) in [(4, 0, true), (4, 1, false), (COUNT_HIGH, 1, true)] {
-        let set = root.assign(alloc, &root, &n, value, element(7))?;
-        let after = set.increment(alloc, &root, &n, by, element(8))?;
+        let set = root
+            .share(alloc)?
+            .assign(alloc, &root, &n, value, element(7))?;
+        let after = set
+            .share(alloc)?
+            .increment(alloc, &root, &n, by, element(8))?;
         assert!(rt; after.shares_with(&set) == shared, "{value} and {by}");
-        let after = set.assign(alloc, &root, &n, value, element(8))?;
+        let after = set
+            .share(alloc)?
+            .assign(alloc, &root, &n, value, element(8))?;
         assert!(rt; after.shares_with(&set), "{value}");
     }
     Ok(())

@@ -67,8 +67,12 @@ pub(crate) fn items(alloc: Global, value: &str) -> Result<List<Item>, Memory> {
 fn place(alloc: Global) -> Result<Place, Memory> {
     let root = CounterSet::empty(alloc)?;
     let name = Text::from_str(alloc, "s")?;
-    let outer = root.assign(alloc, &root, &name, 3, element(1))?;
-    let inner = root.assign(alloc, &root, &name, 12, element(2))?;
+    let outer = root
+        .share(alloc)?
+        .assign(alloc, &root, &name, 3, element(1))?;
+    let inner = root
+        .share(alloc)?
+        .assign(alloc, &root, &name, 12, element(2))?;
     Ok(Place {
         creator: BoxId {
             key: 3,

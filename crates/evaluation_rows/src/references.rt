@@ -29,8 +29,12 @@ fn some_text(alloc: Global, text: Option<&str>) -> Result<Option<Text>, Memory> 
 fn set(alloc: Global) -> Result<CounterSet, Memory> {
     let root = CounterSet::empty(alloc)?;
     let name = Text::from_str(alloc, "s")?;
-    let outer = root.assign(alloc, &root, &name, 3, element(1))?;
-    let inner = root.assign(alloc, &root, &name, 12, element(2))?;
+    let outer = root
+        .share(alloc)?
+        .assign(alloc, &root, &name, 3, element(1))?;
+    let inner = root
+        .share(alloc)?
+        .assign(alloc, &root, &name, 12, element(2))?;
     CounterSet::inherit(alloc, &outer, Some(&inner), None)
 }
 

@@ -21,7 +21,9 @@ fn counting(alloc: Global, value: Count) -> Result<CounterSet, Memory> {
         kind: BoxKind::Element,
     };
     let none = CounterSet::empty(alloc)?;
-    none.assign(alloc, &none, &Text::from_str(alloc, "n")?, value, creator)
+    let name = Text::from_str(alloc, "n")?;
+    none.share(alloc)?
+        .assign(alloc, &none, &name, value, creator)
 }
 
 fn made(alloc: Global, value: Count) -> Result<Made, Memory> {

@@ -10,5 +10,5 @@ loop-op-preserved c =
     let op : CounterOp = c.op-item.result in
     let f : List Counter → CounterOp → List Counter = λ before (op : CounterOp). assigned (is_missing_in c.args.place.now.parent) c.args.place.now.creator before op.name op.value in
     let same : to_z w64 (of_z w64 op.value) ≡ op.value = search rules in
-    fold_step f c.args.assigns.now c.loop-op.op-index op c.loop-op.set c.in_ok-set-2.set _ c.loop-op-test.true c.op-item.is
-    (c.in_ok-set-2.ensures.set ∙ ap (λ value. assigned (is_missing_in c.args.place.now.parent) c.args.place.now.creator c.loop-op.set op.name value) same) c.loop-op.invariant
+    fold_step f c.args.assigns.now c.loop-op.op-index op c.loop-op.set c.in_ok-set.set _ c.loop-op-test.true c.op-item.is
+    (c.in_ok-set.ensures.set ∙ ap (λ value. assigned (is_missing_in c.args.place.now.parent) c.args.place.now.creator c.loop-op.set op.name value) same) c.loop-op.invariant

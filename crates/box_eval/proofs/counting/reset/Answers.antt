@@ -10,4 +10,4 @@ instantiate-requires c =
     let new : List ℕ → ℤ → Counter = λ name value. record { name = name; creator = c.args.place.now.creator; reversed = op.reversed; value = value } in
     let same : to_z w64 (of_z w64 value) ≡ value = search rules in
     let counter = ap (λ name. new name (to_z w64 (of_z w64 value))) (c.in_ok-from_str.ensures.characters ∙ c.as_str.ensures.characters) ∙ ap (new op.name) (same ∙ c.first_value.ensures.value) in
-    record { distinct = subst (λ counter. AreDistinct (instantiated (is_missing_in c.args.place.now.parent) c.args.set.now counter)) (sym counter) c.requires.distinct }
+    record { distinct = subst (λ counter. AreDistinct (instantiated (is_missing_in c.args.place.now.parent) c.args.set counter)) (sym counter) c.requires.distinct }

@@ -15,6 +15,7 @@ loop-op-init c =
     record {
       same = ap (λ set. fold (reset_by (is_missing_in c.args.place.now.parent) creator c.args.starts.now) set (last_resets c.args.resets.now)) c.in_ok-set.ensures.same;
       lacks = subst (LacksAll creator c.args.starts.now c.args.resets.now) (sym c.in_ok-set.ensures.same) (lacks_at_first creator c.args.starts.now c.args.resets.now c.args.place.now.set c.requires.new);
+      distinct = c.as_slice-counters.ensures.distinct;
     }
 
 pub reset-requires : goal.reset-requires
@@ -26,7 +27,7 @@ reset-requires c =
     record {
       distinct =
           reset_distinct c.args.place.now.creator c.args.starts.now (is_missing_in c.args.place.now.parent) c.loop-op.rest.now later op c.in-Some.ensures.cases.0 c.loop-op.set none c.loop-op.invariant.lacks
-          (subst AreDistinct c.set.view_is c.set.invariant);
+          c.loop-op.invariant.distinct;
     }
 
 pub loop-op-preserved-in_ok-set-2 : goal.loop-op-preserved-in_ok-set-2
@@ -44,6 +45,9 @@ loop-op-preserved-in_ok-set-2 c =
       lacks =
           subst (LacksAll creator c.args.starts.now later) (sym c.in_ok-set-2.ensures.set)
           (later_lack creator c.args.starts.now test c.loop-op.rest.now later op c.in-Some.ensures.cases.0 c.loop-op.set none c.loop-op.invariant.lacks);
+      distinct =
+          subst AreDistinct (sym c.in_ok-set-2.ensures.set)
+          (reset_distinct creator c.args.starts.now test c.loop-op.rest.now later op c.in-Some.ensures.cases.0 c.loop-op.set none c.loop-op.invariant.lacks c.loop-op.invariant.distinct);
     }
 
 pub loop-op-preserved : goal.loop-op-preserved
@@ -59,4 +63,5 @@ loop-op-preserved c =
     record {
       same = sym (ap (fold f c.loop-op.set) step) ∙ c.loop-op.invariant.same;
       lacks = later_lacked creator c.args.starts.now test c.loop-op.rest.now later op c.in-Some.ensures.cases.0 c.loop-op.set some c.loop-op.invariant.lacks;
+      distinct = c.loop-op.invariant.distinct;
     }

@@ -12,7 +12,7 @@ returns c =
     record {
       copy =
           c.in_ok-push_added-2.ensures.ok
-          ∙ ap (λ list. list ++ map values (filter (is_missing_in c.besides.result.0.now) c.besides.result.1.now)) (c.in_ok-push_added.ensures.ok ∙ ap (λ list. list ++ own) c.in_ok-list.ensures.empty)
+          ∙ ap (λ list. list ++ map values (filter (is_missing_in c.besides.result.0.now) c.besides.result.1.now)) (c.in_ok-push_added.ensures.ok ∙ ap (λ list. list ++ own) c.in_ok-list.ensures.items)
           ∙ ap (λ counters. own ++ map values counters) c.besides.ensures.same
           ∙ inherited_parts values parent added;
     }

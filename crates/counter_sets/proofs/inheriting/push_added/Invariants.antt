@@ -3,4 +3,4 @@ use Rattle.counter_sets.specs.Sets.{is_missing_in, valued_in}
 use Rattle.counter_sets.proofs.inheriting.push_added.Given as goal
 
 abbrev pub invariant-loop-place : goal.invariant-loop-place
-invariant-loop-place l = l.list ≡ l.initial.list ++ map (valued_in l.values) (filter (is_missing_in l.others) (take l.place l.counters))
+invariant-loop-place l = l.list.items ≡ l.initial.list.items ++ map (valued_in l.values) (filter (is_missing_in l.others) (take l.place l.counters))

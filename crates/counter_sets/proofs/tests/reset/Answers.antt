@@ -9,6 +9,6 @@ instantiate-requires c =
     let new : Counter = record { name = c.in_ok-from_str.field-0; creator = c.element.result; reversed = false; value = pos 0 } in
     record {
       distinct =
-          instantiated_distinct (is_missing_in c.args.parent.now) c.args.set.now new c.as_slice.ensures.distinct
+          instantiated_distinct (is_missing_in c.args.parent.now) c.args.set new c.as_slice.ensures.distinct
           (ap (λ counters. is_missing_in counters new) (sym c.as_slice.ensures.counters) ∙ sym c.is_missing_in.ensures.test ∙ c.if-is_missing_in.true);
     }
