@@ -9,7 +9,7 @@ use Rattle.plain_types.specs.declared.attr.Attr.{Attr}
 use Rattle.plain_types.specs.declared.node.Node.{Node}
 use Rattle.plain_types.specs.declared.node.Node.TheVariants.{Element, Text}
 use Rattle.xml_definitions.specs.Items.{Item, start_tag, empty_tag, end_tag, reference, plain_character}
-use Rattle.xml_definitions.specs.Normalized.{without_mark}
+use Rattle.reading.specs.Reading.{without_mark}
 
 -- Insertions as pieces.
 

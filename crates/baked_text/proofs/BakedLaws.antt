@@ -26,7 +26,8 @@ use Rattle.xhtml_items.proofs.ItemLaws.{item_filled, same_first}
 use Rattle.xhtml_reader.proofs.Places.{only_items}
 use Rattle.xml_definitions.specs.Documents.{AreMisc, IsDocument, IsProlog, document, is_misc, with_doctype, without_doctype}
 use Rattle.xml_definitions.specs.Items.{ArePieces, Item, doctype, comment, instruction, start_tag, empty_tag, end_tag, reference, section, plain_character}
-use Rattle.xml_definitions.specs.Normalized.{normalized, with_line_feeds, without_mark}
+use Rattle.xml_definitions.specs.Normalized.{normalized, with_line_feeds}
+use Rattle.reading.specs.Reading.{without_mark}
 use Rattle.xml_definitions.specs.Spelling.{IsName, Spells}
 use Rattle.xml_definitions.specs.Texts.{IsDocumentText}
 

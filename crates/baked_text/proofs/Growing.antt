@@ -10,7 +10,8 @@ use Rattle.baked_text.proofs.EndLaws.{ended}
 use Rattle.baked_text.proofs.Puts.{AllFit, AllPlaced, ArePlaced, Placed, both_placed, next_placed, placed_drop, placed_pieces}
 use Rattle.plain_types.specs.declared.attr.Attr.{Attr}
 use Rattle.xml_definitions.specs.Items.{Item, doctype, comment, instruction, start_tag, empty_tag, end_tag, reference, section, plain_character}
-use Rattle.xml_definitions.specs.Normalized.{with_line_feeds, without_mark}
+use Rattle.xml_definitions.specs.Normalized.{with_line_feeds}
+use Rattle.reading.specs.Reading.{without_mark}
 use Rattle.xml_definitions.specs.Spelling.{IsName, IsTag, Spells}
 
 -- An empty-element tag ends in `/>`, as it stands.

@@ -7,7 +7,7 @@ use Rattle.std.proofs.lemmas.Bool.Decides.{same_from_decides}
 use Rattle.std.proofs.lemmas.Slice.Eq.{bytes_eq-Decides}
 use Rattle.std.proofs.lemmas.Str.{chars-IsAscii, encodes-IsAscii, encodes-chars}
 use Rattle.bake_definitions.specs.Insertions.{captioned_names, names_without_span, parent_names, text_names, void_names}
-use Rattle.xhtml_items.specs.Classes.{is_ascii}
+use Rattle.reading.specs.Characters.{is_ascii}
 use Rattle.xhtml_items.proofs.Texts.{IsAscii-from_test}
 
 same_name : (bs name : List ℕ) → IsUtf8 bs → is_ascii name ≡ true → bytes_eq bs name ≡ bytes_eq (chars bs) name

@@ -9,7 +9,8 @@ use Rattle.forest.specs.Forest.{Forest}
 use Rattle.xhtml_reader.specs.Machinery.LineEnds.{begins_with_line_feed}
 use Rattle.xhtml_reader.proofs.Prepares.{first_normalized}
 use Rattle.xml_definitions.specs.Items.{ArePieces, Item}
-use Rattle.xml_definitions.specs.Normalized.{as_line_feed, with_line_feeds, without_mark}
+use Rattle.xml_definitions.specs.Normalized.{as_line_feed, with_line_feeds}
+use Rattle.reading.specs.Reading.{without_mark}
 use Rattle.xml_definitions.specs.Spelling.{Spells}
 use Rattle.xml_definitions.specs.Texts.{IsDocumentText}
 

@@ -18,7 +18,8 @@ use Rattle.ports.proofs.GrownLemmas.{front_same}
 use Rattle.ports.specs.Grown.{grown, GrowsByFront}
 use Rattle.xhtml_reader.proofs.Places.{only_items}
 use Rattle.xml_definitions.specs.Items.{ArePieces}
-use Rattle.xml_definitions.specs.Normalized.{normalized, with_line_feeds, without_mark}
+use Rattle.xml_definitions.specs.Normalized.{normalized, with_line_feeds}
+use Rattle.reading.specs.Reading.{without_mark}
 use Rattle.xml_definitions.specs.Spelling.{Spells}
 use Rattle.xml_definitions.specs.Texts.{IsDocumentText}
 

@@ -1,7 +1,7 @@
 -- The text of a sheet before it is cut into tokens: CSS Syntax 3, 3.3 Preprocessing the input stream.
 use Rattle.std.specs.Prelude.{◌≡◌, ℕ, ◌&&◌, ◌||◌, ◌==◌, if◌then◌else◌, List, [], ◌∷◌, ◌++◌}
-use Rattle.reading.specs.Punctuation.{line_feed, form_feed, carriage_return, byte_order_mark, replacement_character}
-use Rattle.reading.specs.Reading.{begins}
+use Rattle.reading.specs.Punctuation.{line_feed, form_feed, carriage_return, replacement_character}
+use Rattle.reading.specs.Reading.{begins, without_mark}
 
 -- a carriage return and a form feed are line feeds, and U+0000 is U+FFFD
 abbrev pub filtered_character : ℕ → ℕ
@@ -15,13 +15,8 @@ unfoldable pub filtered : List ℕ → List ℕ
 filtered [] = []
 filtered (first ∷ rest) = left_before rest first ++ filtered rest
 
--- CSS Syntax 3, 3.2: a byte order mark at the front is no part of the text
-abbrev pub past_mark : List ℕ → List ℕ
-past_mark [] = []
-past_mark (first ∷ rest) = if first == byte_order_mark then rest else first ∷ rest
-
 abbrev pub prepared : List ℕ → List ℕ
-prepared text = filtered (past_mark text)
+prepared text = filtered (without_mark text)
 
 -- there is nothing left to filter
 abbrev pub IsPrepared : List ℕ → Type 0

@@ -7,7 +7,8 @@ use Rattle.std.proofs.lemmas.Bool.{and_parts}
 use Rattle.std.proofs.lemmas.Bool.Decides.{nat_tests}
 use Rattle.std.proofs.lemmas.Slice.Eq.{bytes_eq-Decides}
 use Rattle.std.proofs.lemmas.Str.{encode_ascii, char_from_byte, length-le-encodes}
-use Rattle.css_definitions.specs.Words.{is_word, is_ascii}
+use Rattle.css_definitions.specs.Words.{is_word}
+use Rattle.reading.specs.Characters.{is_ascii}
 
 abbrev lower_case : List ℕ → List ℕ
 lower_case text = map to_ascii_lowercase text

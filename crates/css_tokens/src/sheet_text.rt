@@ -2,7 +2,8 @@
 
 ghost use Rattle.std.specs.Prelude.{◌≡◌, ◌++◌, IfOk, OnOk};
 ghost use Rattle.std.specs.Str.{chars, IsUtf8};
-ghost use Rattle.css_definitions.specs.SheetText.{filtered_character, left_before, past_mark, prepared, IsPrepared};
+ghost use Rattle.css_definitions.specs.SheetText.{filtered_character, left_before, prepared, IsPrepared};
+ghost use Rattle.reading.specs.Reading.{without_mark};
 
 use crate::characters::begins;
 use plain_types::memory::Memory;
@@ -10,8 +11,8 @@ use plain_types::text::Text;
 use reading::characters::first_char;
 use std::alloc::Global;
 
-fn past_mark(text: &str) -> &str
-    ensures gives { past_mark (chars text.now) ≡ chars result.now }
+fn without_mark(text: &str) -> &str
+    ensures gives { without_mark (chars text.now) ≡ chars result.now }
     ensures text { IsUtf8 result.now }
 {
     match first_char(text) {
@@ -48,7 +49,7 @@ pub fn prepare_text(alloc: Global, text: &str) -> Result<Text, Memory>
     ensures prepared { IfOk result (λ out. IsPrepared out) }
 {
     let mut out = Text::new(alloc);
-    let mut rest = past_mark(text);
+    let mut rest = without_mark(text);
     'characters: while let Some((c, after)) = first_char(rest) {
         push_filtered(&mut out, c, after)?;
         rest = after;

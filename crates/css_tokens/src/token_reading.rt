@@ -3,7 +3,7 @@
 
 ghost use Rattle.std.specs.Prelude.{◌≡◌, IsTrue};
 ghost use Rattle.reading.specs.Reading.{Reads};
-ghost use Rattle.css_definitions.specs.Words.{is_ascii};
+ghost use Rattle.reading.specs.Characters.{is_ascii};
 ghost use Rattle.css_tokens.specs.TokenReading.{is_whitespace, is_sign, is_keyword, is_function, ident_at, function_at, past_delimiter, past_close, skip_whitespace};
 
 use crate::token::{Token, TokenKind};

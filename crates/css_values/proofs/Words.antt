@@ -4,7 +4,8 @@ use Rattle.std.specs.Borrow.{Bor}
 use Rattle.std.specs.List.{list_all}
 use Rattle.std.proofs.Math.Seq.{drop-cons}
 use Rattle.std.proofs.lemmas.Bool.{and_parts}
-use Rattle.css_definitions.specs.Words.{is_word, is_ascii, is_among}
+use Rattle.css_definitions.specs.Words.{is_word, is_among}
+use Rattle.reading.specs.Characters.{is_ascii}
 
 abbrev are_ascii : List (Bor (List ℕ)) → Bool
 are_ascii words = list_all (λ (word : Bor (List ℕ)). is_ascii word.now) words

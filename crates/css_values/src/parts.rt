@@ -6,7 +6,8 @@ ghost use Rattle.std.specs.Borrow.{Bor};
 ghost use Rattle.std.specs.List.{list_all};
 ghost use Rattle.std.specs.Str.{chars};
 ghost use Rattle.reading.specs.Reading.{Reads, optional};
-ghost use Rattle.css_definitions.specs.Words.{is_ascii, is_among};
+ghost use Rattle.css_definitions.specs.Words.{is_among};
+ghost use Rattle.reading.specs.Characters.{is_ascii};
 ghost use Rattle.css_tokens.specs.TokenReading.{is_sign, is_keyword, is_function};
 ghost use Rattle.css_values.specs.Parts.{solid, past_comma, past_keyword, past_function, past_close, word_at, string_at, integer_at, natural_at, wide_words, is_counter_name, name_at, symbol_at, is_nothing_left, is_alone};
 

@@ -3,7 +3,7 @@
 ghost use Rattle.std.specs.Prelude.{◌≡◌, IfOk, IsTrue};
 ghost use Rattle.std.specs.Str.{chars};
 ghost use Rattle.reading.specs.Reading.{Reads};
-ghost use Rattle.css_definitions.specs.Words.{is_ascii};
+ghost use Rattle.reading.specs.Characters.{is_ascii};
 ghost use Rattle.css_values.specs.Parts.{solid};
 ghost use Rattle.css_values.specs.Contents.{attr_name_at, attr_at, attr_url_at, url_token_at, url_function_at, address_at, url_at, name_between_at, target_at, target_counter_at, target_counters_at, part_word, last_part_at, target_text_at};
 

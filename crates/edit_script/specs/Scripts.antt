@@ -6,7 +6,7 @@ use Rattle.forest.specs.Forest.{Forest}
 use Rattle.plain_types.specs.declared.edit.Edit.TheVariants.{Insert, Remove, Move, SetAttr, UnsetAttr}
 use Rattle.plain_types.specs.declared.node.Node.{Node}
 use Rattle.dump_definitions.specs.Dump.{path_text}
-use Rattle.xml_definitions.specs.Normalized.{without_mark}
+use Rattle.reading.specs.Reading.{without_mark}
 use Rattle.xml_definitions.specs.Spelling.{IsName}
 use Rattle.xml_definitions.specs.Texts.{IsFragmentText}
 use Rattle.edit_script.specs.declared.action.Action.{Action}

@@ -4,7 +4,7 @@ ghost use Rattle.std.specs.Prelude.{◌≡◌, ◌<◌, ◌∷◌, [], IfOk, IsT
 ghost use Rattle.forest.specs.Forest.{Empty};
 ghost use Rattle.plain_types.specs.Building.{is_inside};
 ghost use Rattle.plain_types.specs.Tree.{HasDistinctNames};
-ghost use Rattle.xhtml_items.specs.Classes.{is_ascii};
+ghost use Rattle.reading.specs.Characters.{is_ascii};
 ghost use Rattle.edit_script.specs.Draws.{state_after};
 ghost use Rattle.edit_script.specs.Generator.{attr, element_node, heading, item_list, link, section, sections};
 ghost use Rattle.edit_script.specs.Machinery.Putting.{with_trees};

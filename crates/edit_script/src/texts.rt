@@ -2,7 +2,7 @@
 
 ghost use Rattle.std.specs.Prelude.{◌≡◌, ◌++◌, IfOk, IsTrue};
 ghost use Rattle.std.specs.Fmt.{decimal};
-ghost use Rattle.xhtml_items.specs.Classes.{is_ascii};
+ghost use Rattle.reading.specs.Characters.{is_ascii};
 
 use itoa::Buffer;
 use plain_types::memory::Memory;

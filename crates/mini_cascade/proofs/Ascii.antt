@@ -5,7 +5,7 @@ use Rattle.std.specs.Str.{chars}
 use Rattle.std.proofs.lemmas.Bool.{and_parts}
 use Rattle.std.proofs.lemmas.Bool.Decides.{nat_tests}
 use Rattle.std.proofs.lemmas.Str.{chars-IsAscii}
-use Rattle.css_definitions.specs.Words.{is_ascii}
+use Rattle.reading.specs.Characters.{is_ascii}
 
 first_below : (first : ℕ) (rest : List ℕ) → ltb first 128 ≡ true → ((place : ℕ) → get_or rest place 0 < 128) → (place : ℕ) → get_or (first ∷ rest) place 0 < 128
 first_below first rest small others zero = grind (arith, nat_tests)

@@ -3,7 +3,7 @@
 ghost use Rattle.std.specs.Prelude.{◌≡◌, ◌++◌, IsTrue, IfOk, OnOk, OnErr, Some};
 ghost use Rattle.std.specs.Option.{option_to_list};
 ghost use Rattle.std.specs.Str.{chars};
-ghost use Rattle.css_definitions.specs.Words.{is_ascii};
+ghost use Rattle.reading.specs.Characters.{is_ascii};
 ghost use Rattle.forest.specs.Spots.{IsLive};
 ghost use Rattle.plain_types.specs.declared.style_ref.StyleRef.TheVariants as style_ref;
 ghost use Rattle.node_arena.specs.Nodes.{attrs_of};

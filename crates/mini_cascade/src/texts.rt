@@ -2,7 +2,7 @@
 
 ghost use Rattle.std.specs.Prelude.{◌≡◌, IsTrue, option_map, option_copied};
 ghost use Rattle.std.specs.Str.{chars, bytes_eq, IsUtf8};
-ghost use Rattle.css_definitions.specs.Words.{is_ascii};
+ghost use Rattle.reading.specs.Characters.{is_ascii};
 ghost use Rattle.forest.specs.Spots.{IsLive};
 ghost use Rattle.plain_types.specs.Attributes.{value_of};
 ghost use Rattle.node_arena.specs.Nodes.{attrs_of};

@@ -1,5 +1,6 @@
 -- Classes of characters that documents and sheets share, by their code points.
-use Rattle.std.specs.Prelude.{ℕ, Bool, ◌&&◌, ◌||◌, ◌==◌, nat_le}
+use Rattle.std.specs.Prelude.{ℕ, Bool, ◌&&◌, ◌||◌, ◌==◌, nat_le, nat_lt, List}
+use Rattle.std.specs.List.{list_all}
 
 -- the code point lies between these two, both included
 abbrev pub is_between : ℕ → ℕ → ℕ → Bool
@@ -28,3 +29,7 @@ is_lower_letter c = is_between 97 122 c
 -- an ASCII letter
 abbrev pub is_letter : ℕ → Bool
 is_letter c = is_lower_letter c || is_between 65 90 c
+
+-- the bytes are ASCII, so each is a character
+abbrev pub is_ascii : List ℕ → Bool
+is_ascii bytes = list_all (λ byte. nat_lt byte 128) bytes

@@ -1,5 +1,6 @@
 -- Reading from the front of a list. A reading function gives what it reads and what is left, or nothing.
 use Rattle.std.specs.Prelude.{◌≡◌, ℕ, zero, suc, Bool, false, if◌then◌else◌, ◌==◌, List, [], ◌∷◌, length, Option, Some, None}
+use Rattle.reading.specs.Punctuation.{byte_order_mark}
 
 -- what a function returned, as `view` sees it, is what a reading function gives
 abbrev pub Reads : {X Y : Type 0} → (X → Y) → Option X → Option Y → Type 0
@@ -32,6 +33,11 @@ optional (Some read) whole = (Some read.0, read.1)
 abbrev pub begins : ℕ → List ℕ → Bool
 begins wanted [] = false
 begins wanted (first ∷ rest) = first == wanted
+
+-- a byte order mark at the front is no part of the text: XML 1.0, 4.3.3; CSS Syntax 3, 3.2
+abbrev pub without_mark : List ℕ → List ℕ
+without_mark [] = []
+without_mark (first ∷ rest) = if first == byte_order_mark then rest else first ∷ rest
 
 -- what is left after this character, where it stands at the front
 abbrev pub past_character : ℕ → List ℕ → Option (List ℕ)

@@ -3,7 +3,7 @@ use Rattle.std.proofs.Common.{◌≡◌, ℕ, zero, suc, Bool, true, false, ◌&
 use Rattle.std.specs.Str.{chars, IsAscii, IsNotAscii}
 use Rattle.std.proofs.lemmas.Str.{chars-IsAscii}
 use Rattle.std.proofs.lemmas.Bool.Decides.{nat_tests}
-use Rattle.css_definitions.specs.Words.{is_ascii}
+use Rattle.reading.specs.Characters.{is_ascii}
 
 pub all_ascii : (bytes : List ℕ) → IsAscii bytes → is_ascii bytes ≡ true
 all_ascii [] all = refl

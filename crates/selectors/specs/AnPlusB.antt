@@ -9,7 +9,7 @@ use Rattle.reading.specs.Reading.{◌then◌, ◌otherwise◌, only, past_charac
 use Rattle.css_tokens.specs.Numbers.{sign_at, digits_at, signed}
 use Rattle.css_tokens.specs.Urls.{past_blanks}
 use Rattle.css_tokens.specs.declared.token.Token.{Token}
-use Rattle.css_definitions.specs.Words.{is_ascii}
+use Rattle.reading.specs.Characters.{is_ascii}
 use Rattle.css_tokens.specs.TokenReading.{is_sign, past_close}
 use Rattle.selectors.specs.declared.an_plus_b.AnPlusB.{AnPlusB}
 

@@ -3,7 +3,7 @@
 ghost use Rattle.std.specs.Prelude.{◌≡◌, ◌∷◌, true, false, MatchOption, IfOk, IfSome, codes, flat_map};
 ghost use Rattle.std.specs.Str.{chars, IsUtf8};
 ghost use Rattle.reading.specs.Reading.{Reads, past_text, run_at};
-ghost use Rattle.css_definitions.specs.Words.{is_ascii};
+ghost use Rattle.reading.specs.Characters.{is_ascii};
 ghost use Rattle.selectors.specs.AnPlusB.{only_blanks_after, written_sign_at, nearest_i32, signed_at, or_one, n_at, offset_at, odd_or_even, b_alone, a_and_b, an_plus_b_value, source_value, slice, argument_token_at, an_plus_b_at};
 
 use css_tokens::characters::past_blanks;

@@ -15,7 +15,7 @@ use Rattle.reading.specs.Reading.{past_text, Reads}
 use Rattle.xml_definitions.specs.Spelling.{entities, entity}
 use Rattle.std.proofs.lemmas.Str.Ascii.{IsAscii-nil, IsAscii-cons}
 use Rattle.std.proofs.lemmas.Str.Pattern.{split_text_parts}
-use Rattle.xhtml_items.specs.Classes.{is_ascii}
+use Rattle.reading.specs.Characters.{is_ascii}
 use Rattle.xhtml_items.specs.Reading.{split_once}
 use Rattle.xhtml_items.specs.Machinery.Items.{past_capital, past_capitals}
 use Rattle.xhtml_items.specs.Tokens.{text_view, two_texts, entry}

@@ -16,10 +16,6 @@ is_of_class (Literal quote) = λ c. is_character c && not (c == quote)
 is_of_class Plain = λ c. is_plain c
 is_of_class Character = λ c. is_character c
 
--- the bytes are ASCII, each a character
-abbrev pub is_ascii : List ℕ → Bool
-is_ascii bytes = list_all (λ byte. nat_lt byte 128) bytes
-
 -- the characters are digits of this base
 abbrev pub are_digits : ℕ → List ℕ → Bool
 are_digits base characters = list_all (λ c. nat_lt (digit_value c) base) characters

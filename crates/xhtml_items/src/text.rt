@@ -3,7 +3,8 @@
 ghost use Rattle.std.specs.Prelude.{◌≡◌, ◌≢◌, [], IsTrue, IfSome};
 ghost use Rattle.std.specs.Str.{chars, IsUtf8};
 ghost use Rattle.reading.specs.Reading.{Reads, past_text, span};
-ghost use Rattle.xhtml_items.specs.Classes.{is_of_class, is_ascii};
+ghost use Rattle.xhtml_items.specs.Classes.{is_of_class};
+ghost use Rattle.reading.specs.Characters.{is_ascii};
 ghost use Rattle.xhtml_items.specs.Reading.{name_at, split_once};
 ghost use Rattle.xhtml_items.specs.Machinery.Items.{past_capital, past_capitals, skip_blanks, past_some_blanks, up_to};
 ghost use Rattle.xhtml_items.specs.Tokens.{text_view, two_texts};

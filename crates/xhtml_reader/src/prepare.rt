@@ -2,7 +2,8 @@
 
 ghost use Rattle.std.specs.Prelude.{◌≡◌, ◌≢◌, IfOk, true, false};
 ghost use Rattle.std.specs.Str.{chars, IsUtf8};
-ghost use Rattle.xml_definitions.specs.Normalized.{with_line_feeds, without_mark};
+ghost use Rattle.xml_definitions.specs.Normalized.{with_line_feeds};
+ghost use Rattle.reading.specs.Reading.{without_mark};
 ghost use Rattle.xhtml_reader.specs.Machinery.LineEnds.{begins_with_line_feed, line_end_left};
 ghost use Rattle.std.specs.Option.{option_to_list};
 

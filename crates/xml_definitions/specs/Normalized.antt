@@ -1,10 +1,6 @@
 -- A text as its items are read from it.
 use Rattle.std.specs.Prelude.{ℕ, ◌&&◌, ◌==◌, if◌then◌else◌, List, [], ◌∷◌}
-
--- XML 1.0, 4.3.3: a byte order mark at the front is no part of the text
-abbrev pub without_mark : List ℕ → List ℕ
-without_mark [] = []
-without_mark (first ∷ rest) = if first == 0xfeff then rest else first ∷ rest
+use Rattle.reading.specs.Reading.{without_mark}
 
 -- a carriage return as a line feed
 abbrev pub as_line_feed : ℕ → ℕ

@@ -2,7 +2,8 @@ use Rattle.std.proofs.Common.{◌≡◌, List, ℕ, map, drop, IsTrue}
 use Rattle.std.specs.Borrow.{Bor}
 use Rattle.std.specs.List.{list_all}
 use Rattle.std.specs.Str.{chars}
-use Rattle.css_definitions.specs.Words.{is_ascii, is_among}
+use Rattle.css_definitions.specs.Words.{is_among}
+use Rattle.reading.specs.Characters.{is_ascii}
 use Rattle.css_values.proofs.parts.is_among.Given as goal
 
 abbrev pub invariant-loop-word : goal.invariant-loop-word

@@ -1,6 +1,6 @@
 use Rattle.std.specs.Str.{chars}
 use Rattle.std.proofs.Common.{arith}
-use Rattle.xml_definitions.specs.Normalized.{without_mark}
+use Rattle.reading.specs.Reading.{without_mark}
 use Rattle.edit_script.proofs.ReadLaws.{lines-end, lines-more, number_fits, stopped_line}
 use Rattle.edit_script.proofs.script.read_commands.Goals as goal
 

@@ -2,7 +2,7 @@ use Rattle.std.proofs.Common.{length}
 use denote.Text.{Utf8}
 use denote.Shadow.{shadow}
 use Rattle.std.specs.Str.{chars}
-use Rattle.xml_definitions.specs.Normalized.{without_mark}
+use Rattle.reading.specs.Reading.{without_mark}
 use Rattle.edit_script.specs.Machinery.Reading.{HasLines}
 use Rattle.edit_script.proofs.script.read_commands.Given as goal
 
