@@ -71,16 +71,6 @@ module _ (f : Forest (Keyed Node)) (d : HasDistinctKeys f) where
   pub out_of_element : (inside : List ℕ) (key : ℕ) → IsLive f key → tags_from f (key ∷ inside) None ≡ ends key ∷ tags_from f inside (next_sibling_of f key)
   out_of_element inside key live = ap (λ t. ends key ∷ (tree_tags t ++ tags_behind f inside)) (sym (on_next f key d live).0)
 
-  pub child_link : (key : ℕ) → IsLive f key → IsLink f (first_child_of f key)
-  child_link key live = (on_first f key d live).1
-
-  pub sibling_link : (key : ℕ) → IsLive f key → IsLink f (next_sibling_of f key)
-  sibling_link key live = (on_next f key d live).1
-
--- at the start no tag is passed
-pub from_root : (f : Forest (Keyed Node)) (root : ℕ) → Some root ≡ first_key f → tags_from f [] (Some root) ≡ tree_tags f
-from_root f root is = append-nil (tree_tags (on_link f (Some root))) ∙ ap (λ link. tree_tags (on_link f link)) is ∙ ap tree_tags (on_root f)
-
 pub at_root : (f : Forest (Keyed Node)) (root : ℕ) → Some root ≡ first_key f → IsLink f (Some root)
 at_root f root is = subst (IsLink f) (sym is) (root_link f)
 

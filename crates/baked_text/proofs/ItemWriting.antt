@@ -91,11 +91,6 @@ text_goes tag count insertion name within is named before middle now so_far grew
     went_then before middle now (text_up_to tag count) (insertion_text tag.name insertion) so_far (grew ∙ ap (λ n. grown middle (encode_utf8_all (insertion_text n insertion))) named)
     ∙ ap (λ t. grown before (encode_utf8_all t)) (sym (text_one_more tag count insertion within is))
 
-pub text_all : (tag : Tag) (count : ℕ) → takes_span tag.name ≡ true → count ≡ length tag.insertions → text_up_to tag count ≡ text_at tag
-text_all tag count takes is =
-    ap (λ t. characters_of (flat_map (insertion_pieces tag.name) t)) (ap (λ n. take n tag.insertions) is ∙ take_all (length tag.insertions) tag.insertions (omega arith))
-    ∙ ap (λ b. characters_of (cond b (flat_map (insertion_pieces tag.name) tag.insertions) [])) (sym takes)
-
 pub text_none : (tag : Tag) → takes_span tag.name ≡ false → text_at tag ≡ []
 text_none tag takes = ap (λ b. characters_of (cond b (flat_map (insertion_pieces tag.name) tag.insertions) [])) takes
 
@@ -151,10 +146,6 @@ opened_some name attrs p front pieces is some =
 some_left : (pieces more : List Piece) → Somewhat pieces → Somewhat (pieces ++ more)
 some_left pieces more some = record { first = some.first; others = some.others ++ more; pieces_are = ap (λ t. t ++ more) some.pieces_are }
 
-some_right : (pieces more : List Piece) → Somewhat more → Somewhat (pieces ++ more)
-some_right [] more some = some
-some_right (p ∷ pieces) more some = record { first = p; others = pieces ++ more; pieces_are = refl }
-
 -- the same by the two tags, whose tests are told
 abbrev by_tests : List ℕ → List ℕ → List Piece → List Piece → Bool → Bool → List ℕ
 by_tests name front first last some_first some_last =
@@ -197,12 +188,6 @@ opened_text name attrs p front first last is = opened_tests name attrs p front (
 -- what is written for this piece
 abbrev pub item_text : Piece → List Tag → List ℕ
 item_text p tags = characters_of (at_piece p.item p (map pieces_at tags))
-
-pub start_text : (name : List ℕ) (attrs : List Attr) (characters : List ℕ) (p : Piece) (tags : List Tag) → IsPiece (start_tag name attrs) characters p → characters ++ text_at (next_tag tags) ≡ item_text p tags
-start_text name attrs characters p tags is =
-    ap (λ t. t ++ text_at (next_tag tags)) (sym is.characters_are)
-    ∙ ap (λ t. p.characters ++ characters_of t) (sym (put_at_next tags))
-    ∙ ap (λ i. characters_of (at_piece i p (map pieces_at tags))) is.item_is
 
 pub end_text : (name : List ℕ) (characters : List ℕ) (p : Piece) (tags : List Tag) → IsPiece (end_tag name) characters p → text_at (next_tag tags) ++ characters ≡ item_text p tags
 end_text name characters p tags is =
@@ -301,26 +286,6 @@ other_goes item characters tags before now other grew p is = grew ∙ ap (λ t. 
 pub other_stops : (item : Item) (characters : List ℕ) (tags : List Tag) (before now : Option (List ℕ)) → is_no_tag item ≡ true → GrowsByFront before now (encode_utf8_all characters)
     → (p : Piece) → IsPiece item characters p → GrowsByFront before now (encode_utf8_all (item_text p tags))
 other_stops item characters tags before now other grows p is = front_same (ap encode_utf8_all (other_text item characters p tags other is)) grows
-
-pub start_goes : (name : List ℕ) (attrs : List Attr) (characters : List ℕ) (item : Item) (tags : List Tag) (before now : Option (List ℕ)) → item ≡ start_tag name attrs
-    → now ≡ grown before (encode_utf8_all (characters ++ text_at (next_tag tags))) → (p : Piece) → IsPiece item characters p → now ≡ grown before (encode_utf8_all (item_text p tags))
-start_goes name attrs characters item tags before now item_is grew p is =
-    grew ∙ ap (λ t. grown before (encode_utf8_all t)) (start_text name attrs characters p tags (subst (λ i. IsPiece i characters p) item_is is))
-
-pub start_stops : (name : List ℕ) (attrs : List Attr) (characters : List ℕ) (item : Item) (tags : List Tag) (before now : Option (List ℕ)) → item ≡ start_tag name attrs
-    → GrowsByFront before now (encode_utf8_all (characters ++ text_at (next_tag tags))) → (p : Piece) → IsPiece item characters p → GrowsByFront before now (encode_utf8_all (item_text p tags))
-start_stops name attrs characters item tags before now item_is grows p is =
-    front_same (ap encode_utf8_all (start_text name attrs characters p tags (subst (λ i. IsPiece i characters p) item_is is))) grows
-
-pub end_goes : (name : List ℕ) (characters : List ℕ) (item : Item) (tags : List Tag) (before now : Option (List ℕ)) → item ≡ end_tag name
-    → now ≡ grown before (encode_utf8_all (text_at (next_tag tags) ++ characters)) → (p : Piece) → IsPiece item characters p → now ≡ grown before (encode_utf8_all (item_text p tags))
-end_goes name characters item tags before now item_is grew p is =
-    grew ∙ ap (λ t. grown before (encode_utf8_all t)) (end_text name characters p tags (subst (λ i. IsPiece i characters p) item_is is))
-
-pub end_stops : (name : List ℕ) (characters : List ℕ) (item : Item) (tags : List Tag) (before now : Option (List ℕ)) → item ≡ end_tag name
-    → GrowsByFront before now (encode_utf8_all (text_at (next_tag tags) ++ characters)) → (p : Piece) → IsPiece item characters p → GrowsByFront before now (encode_utf8_all (item_text p tags))
-end_stops name characters item tags before now item_is grows p is =
-    front_same (ap encode_utf8_all (end_text name characters p tags (subst (λ i. IsPiece i characters p) item_is is))) grows
 
 -- a token that is none of a tag
 pub other_token : (token : Token) → ((name : Bor (List ℕ)) (attrs : List Attr) → token ≡ StartTag name attrs → ⊥) → ((name : Bor (List ℕ)) (attrs : List Attr) → token ≡ EmptyTag name attrs → ⊥)

@@ -76,15 +76,3 @@ module _ (Fits : List ℕ → Type 0) where
   -- the insertions into an element
   pub insertions_placed : (name : List ℕ) (insertions : List Insertion) → Fits name → ArePlaced (flat_map (insertion_pieces name) insertions)
   insertions_placed name insertions fits = record { placed = into name insertions; pieces_are = into_pieces name insertions; fit = into_fit name insertions fits }
-
-  node_placed : (node : Node) (first last : List Insertion) (inside : List (List Piece)) → ((name : List ℕ) → Fits name) → AllPlaced inside → AllPlaced (at_node node first last inside)
-  node_placed (Text characters) first last inside fits a = a
-  node_placed (Element name attrs) first last inside fits a =
-      (insertions_placed name first (fits name), placed_append inside (flat_map (insertion_pieces name) last ∷ []) a (insertions_placed name last (fits name), tt))
-
-  -- where each name fits, what is put in at the tags of any document is placed
-  pub tags_placed : (document : Forest Annotated) → ((name : List ℕ) → Fits name) → AllPlaced (at_tags document)
-  tags_placed Empty fits = tt
-  tags_placed (Tree annotated children after) fits =
-      placed_append (at_node annotated.node annotated.first annotated.last (at_tags children)) (at_tags after)
-      (node_placed annotated.node annotated.first annotated.last (at_tags children) fits (tags_placed children fits)) (tags_placed after fits)

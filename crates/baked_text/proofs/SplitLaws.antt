@@ -19,10 +19,6 @@ use Rattle.xml_definitions.specs.Normalized.{as_line_feed, with_line_feeds}
 
 -- The first character, or line end.
 
--- a line end of two characters stands at the front
-pub past_found : (cs rest : List ℕ) → past_text (13 ∷ 10 ∷ []) cs ≡ Some rest → rest ≡ past_first cs
-past_found cs rest e = sym (ap past_first (past_text_takes (13 ∷ 10 ∷ []) cs rest e))
-
 no_line_end : (c : ℕ) (rest : List ℕ) → eqb c 13 ≡ true → begins_with_line_feed rest ≡ true → past_text (13 ∷ 10 ∷ []) (c ∷ rest) ≡ None → ⊥
 no_line_end c [] h k none = absurd cc
 no_line_end c (d ∷ rest) h k none = let some : past_text (13 ∷ 10 ∷ []) (c ∷ d ∷ rest) ≡ Some rest = rw (h, k) refl in cc

@@ -67,19 +67,6 @@ left_out_past zero tags = omega arith
 left_out_past (suc n) [] = omega arith
 left_out_past (suc n) (t ∷ tags) = omega (arith, left_out_past n tags)
 
--- at the next of some tags, and at the next two
-pub left_out_next : (tags : List Tag) → left_out_on (take 1 tags) ≡ left_out_at (next_tag tags)
-left_out_next [] = go (takes_span [])
-  where
-    go : (b : Bool) → ◌≡◌ {A = ℕ} 0 (cond b 0 0)
-    go true = refl
-    go false = refl
-left_out_next (t ∷ tags) = omega arith
-
-pub left_out_next_two : (tags : List Tag) → left_out_on (take 2 tags) ≡ left_out_at (next_tag tags) + left_out_at (next_tag (drop 1 tags))
-left_out_next_two [] = let one = left_out_next [] in omega (arith, one)
-left_out_next_two (t ∷ tags) = let one = left_out_next tags in omega (arith, one)
-
 left_out_round : (node : Node) (first last : List Insertion) (inside : List Tag) → left_out_on (tags_round node first last inside) ≡ (without_place node first + without_place node last) + left_out_on inside
 left_out_round (Text characters) first last inside = omega arith
 left_out_round (Element name attrs) first last inside = let both = left_out-append inside (tag name last ∷ []) in omega (arith, both)

@@ -25,7 +25,8 @@ use Rattle.start_reach.specs.Deeds.{AreAlike, IsIdle, events_after, events_befor
 use Rattle.counter_index.specs.declared.deeds.CounterDeeds.{CounterDeeds}
 use Rattle.counter_index.specs.declared.index.CounterIndex.{CounterIndex}
 use Rattle.counter_index.specs.Indexes.{asked_at, asked_by, deeds_at, is_asked}
-use Rattle.counter_index.specs.Touched.{AreTouched, IsUntouched, are_same_starts, asking, asking_other, by_exchanged, by_moved, changes_after, changes_before, deeds_by, did, do_same, does, is_alike, is_same_start, touched_by, touched_in, touched_keys}
+use Rattle.counter_index.specs.Touched.{AreTouched, IsUntouched, asking, asking_other, by_exchanged, by_moved, changes_after, changes_before, deeds_by, did, do_same, does, is_alike, touched_by, touched_in, touched_keys}
+use Rattle.edit_work.specs.Inputs.{are_same_starts, is_same_start}
 use Rattle.counter_index.proofs.ListLemmas.{first-has}
 
 -- Membership.

@@ -4,7 +4,7 @@ use Rattle.plain_types.specs.declared.box_id.BoxId.{BoxId}
 use Rattle.box_eval.specs.declared.inputs.Start.{Start}
 use Rattle.counter_index.specs.declared.index.CounterIndex.{CounterIndex}
 use Rattle.counter_index.specs.Indexes.{asked_at, starts_at, starts_by, with_values}
-use Rattle.counter_index.specs.Touched.{are_same_starts}
+use Rattle.edit_work.specs.Inputs.{are_same_starts}
 
 -- the starts for which elements ask, each with the value that is told so
 abbrev pub told_entries : (BoxId → List ℕ → ℤ) → CounterIndex → List ℕ → List (ℕ × Option (List Start))

@@ -2,14 +2,11 @@
 use Rattle.std.specs.Prelude.{◌≡◌, ◌&&◌, ℕ, ◌⊎◌, Bool, true, All, List, [], ◌∷◌, ◌++◌, Option, if◌then◌else◌, flat_map, option_map}
 use Rattle.std.specs.Cmp.Lexicographic.{pointwise}
 use Rattle.std.specs.Option.{option_map_or}
-use Rattle.std.specs.Ordering.{int_eq}
-use Rattle.std.specs.Str.{bytes_eq}
 use Rattle.plain_types.specs.declared.box_id.BoxId.{BoxId}
-use Rattle.counter_sets.specs.Sets.{is_same_box}
 use Rattle.box_eval.specs.declared.change.Change.{Change}
-use Rattle.box_eval.specs.declared.inputs.Start.{Start}
 use Rattle.box_eval.specs.Starts.{events_of}
 use Rattle.edit_work.specs.Counters.{Identity, is_same_event}
+use Rattle.edit_work.specs.Inputs.{are_same_starts}
 use Rattle.edit_work.specs.KeyedSources.{is_among}
 use Rattle.start_reach.specs.Deeds.{AreAlike, Deeds, IsIdle}
 use Rattle.counter_index.specs.declared.deeds.CounterDeeds.{CounterDeeds}
@@ -55,13 +52,6 @@ module _ (former : List (ℕ × Option CounterDeeds)) (moved : List ℕ) (index 
     pub own : (key : ℕ) → (is_among keys key ≡ true) ⊎ (asked_at index key ≡ asked_by (was_kept key))
 
 -- The elements that are found, by what is looked at.
-
--- starts are compared as they are written
-abbrev pub is_same_start : Start → Start → Bool
-is_same_start one other = is_same_box one.creator other.creator && (bytes_eq one.name other.name && int_eq one.value other.value)
-
-abbrev pub are_same_starts : List Start → List Start → Bool
-are_same_starts starts others = pointwise is_same_start starts others
 
 -- changes do the same to the counter of this name that this box creates
 abbrev pub do_same : BoxId → List ℕ → List Change → List Change → Bool

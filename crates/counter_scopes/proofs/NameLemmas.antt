@@ -18,10 +18,6 @@ name_self name = (bytes_eq-Decides name name).1 refl
 pub name_eq : (first second : List ℕ) → bytes_eq first second ≡ true → first ≡ second
 name_eq first second h = (bytes_eq-Decides first second).0 h
 
-pub last_push : {A : Type 0} (otherwise : Option A) (xs : List A) (x : A) → last_or otherwise (xs ++ x ∷ []) ≡ Some x
-last_push otherwise [] x = refl
-last_push otherwise (y ∷ xs) x = last_push (Some y) xs x
-
 -- The innermost of the counters of one name.
 
 -- the last one changed

@@ -19,7 +19,8 @@ use Rattle.dirty_walk.specs.DocumentStyles.{document_styles, read_styles}
 use Rattle.kept_elements.specs.declared.kept.Kept.{Kept}
 use Rattle.kept_elements.proofs.ToldLemmas.{entry_in}
 use Rattle.dirty_walk.specs.Books.{Keeps, KeepsAll, StyledDocument}
-use Rattle.kept_elements.specs.Evaluations.{all_kept_of, document_kept, document_told, said_of}
+use Rattle.kept_elements.specs.Evaluations.{all_kept_of, document_kept, document_told}
+use Rattle.referring_elements.specs.References.{said_of}
 
 -- what a walk with these starts tells
 pub walk_told : (tree : Forest (Keyed Node)) (agent : Sheet) (styles : DocumentStyles) (text : List ℕ) (start : BoxId → List ℕ → ℤ) → agent ≡ agent_sheet → styles ≡ document_styles text tree

@@ -26,7 +26,8 @@ use Rattle.surroundings.specs.declared.told.Told.{Told}
 use Rattle.reference_reach.specs.ChangedTargets.{references_at}
 use Rattle.kept_elements.specs.declared.kept.Kept.{Kept}
 use Rattle.kept_elements.specs.Renewals.{is_told}
-use Rattle.kept_elements.specs.Evaluations.{document_kept, document_told, evaluated_document, kept_of, said_of}
+use Rattle.kept_elements.specs.Evaluations.{document_kept, document_told, evaluated_document, kept_of}
+use Rattle.referring_elements.specs.References.{said_of}
 use Rattle.dirty_walk.specs.Machinery.ReferenceExchanges.{ChangesReferences, references_in, references_kept, references_of_boxes}
 use Rattle.kept_elements.proofs.KnownLemmas.{kept_mapped}
 use Rattle.kept_elements.proofs.NoReferences.{without_urls}

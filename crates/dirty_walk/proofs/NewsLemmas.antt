@@ -25,7 +25,8 @@ use Rattle.referring_elements.specs.Indexes.{TellsReferences}
 use Rattle.kept_elements.specs.declared.kept.Kept.{Kept}
 use Rattle.kept_elements.specs.declared.kept_change.KeptChange.{KeptChange}
 use Rattle.kept_elements.specs.Changes.{Renews}
-use Rattle.kept_elements.specs.Evaluations.{all_kept_of, document_kept, document_told, evaluated_document, said_of}
+use Rattle.kept_elements.specs.Evaluations.{all_kept_of, document_kept, document_told, evaluated_document}
+use Rattle.referring_elements.specs.References.{said_of}
 use Rattle.kept_elements.specs.RenewalSteps.{renewal_weight, weight_in}
 use Rattle.kept_elements.specs.Renewals.{IsSomeWalk, TellsOfWalk, evaluated_as, is_told}
 use Rattle.kept_elements.proofs.ChangeLemmas.{some-kept, some_of}

@@ -18,7 +18,8 @@ use Rattle.generated_texts.specs.Documents.{counter_styles, document_evaluation}
 use Rattle.generated_texts.specs.References.{kept_at, known_targets}
 use Rattle.surroundings.specs.declared.told.Told.{Told}
 use Rattle.kept_elements.specs.declared.kept.Kept.{Kept}
-use Rattle.kept_elements.specs.Evaluations.{document_kept, document_told, kept_of, said_of}
+use Rattle.kept_elements.specs.Evaluations.{document_kept, document_told, kept_of}
+use Rattle.referring_elements.specs.References.{said_of}
 use Rattle.kept_elements.proofs.KnownLemmas.{kept_mapped}
 use Rattle.kept_elements.proofs.ToldLemmas.{said_is}
 use Rattle.dirty_walk.specs.FreshPieces.{box_with_pieces, pieces_to_refer}

@@ -1,5 +1,6 @@
 -- Whether an element has the same inputs before an edit and after it (our own).
-use Rattle.std.specs.Prelude.{◌==◌, ℕ, Bool, true, false, not, ◌&&◌, ◌||◌, List, [], ◌∷◌, Option, Some, filter, find, flat_map}
+use Rattle.std.specs.Prelude.{◌==◌, ℕ, Bool, false, not, ◌&&◌, ◌||◌, List, [], ◌∷◌, Option, Some, filter, find, flat_map}
+use Rattle.std.specs.Cmp.Lexicographic.{pointwise}
 use Rattle.std.specs.Ordering.{int_eq}
 use Rattle.std.specs.Str.{bytes_eq}
 use Rattle.counter_sets.specs.Sets.{is_same_box}
@@ -9,14 +10,12 @@ use Rattle.box_eval.specs.Starts.{no_starts}
 use Rattle.surroundings.specs.Surroundings.{is_same, surroundings_in}
 use Rattle.edit_work.specs.KeyedSources.{KeyedSource, child_elements, either, elements_in, inputs_with, own_starts}
 
+-- starts are compared as they are written
 abbrev pub is_same_start : Start → Start → Bool
 is_same_start one other = is_same_box one.creator other.creator && (bytes_eq one.name other.name && int_eq one.value other.value)
 
 abbrev pub are_same_starts : List Start → List Start → Bool
-are_same_starts [] [] = true
-are_same_starts [] (other ∷ others) = false
-are_same_starts (start ∷ starts) [] = false
-are_same_starts (start ∷ starts) (other ∷ others) = is_same_start start other && are_same_starts starts others
+are_same_starts starts others = pointwise is_same_start starts others
 
 -- the element, what it is handed and its starts are the same
 abbrev pub is_same_inputs : Inputs → Inputs → Bool

@@ -148,17 +148,6 @@ module _ {V : Type 0} where
 
   -- What holds of all keys of a list.
 
-  pub each_key : (P : ℕ → Type 0) (kept : List (ℕ × V)) → ((key : ℕ) → has_key key kept ≡ true → P key) → AllByRecursion (λ (entry : ℕ × V). P entry.0) kept
-  each_key P [] all = tt
-  each_key P (entry ∷ entries) all = (
-    all entry.0 (rw (eq-eqb entry.0 entry.0 refl) refl),
-    each_key P entries (λ key there. all key (or_true (entry.0 == key) (has_key key entries) there)),
-  )
-    where
-      or_true : (a b : Bool) → b ≡ true → (a || b) ≡ true
-      or_true true b e = refl
-      or_true false b e = e
-
   pub key_of : (P : ℕ → Type 0) (kept : List (ℕ × V)) → AllByRecursion (λ (entry : ℕ × V). P entry.0) kept → (key : ℕ) → has_key key kept ≡ true → P key
   key_of P [] all key there = absurd (cc)
   key_of P (entry ∷ entries) all key there = elim (cases_Bool (entry.0 == key)) [

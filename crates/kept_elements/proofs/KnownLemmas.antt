@@ -17,7 +17,7 @@ use Rattle.box_eval.specs.declared.made.Made.{Made}
 use Rattle.generated_texts.specs.References.{asked_box, first_holder, kept_at, known_characters, known_counters, known_flat, known_targets, known_to_flat_texts}
 use Rattle.surroundings.specs.declared.told.Told.{Told}
 use Rattle.kept_elements.specs.declared.flat_texts.FlatTexts.{FlatTexts}
-use Rattle.kept_elements.specs.Evaluations.{said_of}
+use Rattle.referring_elements.specs.References.{said_of}
 use Rattle.kept_elements.specs.Known.{all_flat_texts_of, counters_kept, flat_in, flat_text_of, flat_texts_of, known_by}
 
 -- What is kept of what is kept, under the same keys.

@@ -113,11 +113,6 @@ all_pass : (ks : List ℕ) → filter (λ (k : ℕ). true) ks ≡ ks
 all_pass [] = refl
 all_pass (k ∷ ks) = ap (λ rest. k ∷ rest) (all_pass ks)
 
-pub elements_once : (trees : Forest (Keyed Node)) → HasDistinctKeys trees → IsDistinct nat_eq (elements_in trees)
-elements_once trees distinct =
-    subst (λ (ks : List ℕ). IsDistinct nat_eq ks) (all_pass (flat_map element_key (labels trees)) ∙ sym (elements_labels trees))
-    (once (λ (k : ℕ). true) (labels trees) (λ k. omega (arith, times-often k trees, distinct k)))
-
 work_is : (edit : Edit) (before after : KeyedSource) → let w = weight before after in work edit before after ≡ sum_by w (other_points edit before after) + sum_by w (referring edit before after)
 unfolding work walk_work
 work_is edit before after =

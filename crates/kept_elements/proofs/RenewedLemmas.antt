@@ -38,12 +38,12 @@ use Rattle.reference_reach.specs.Laws.{LeadsBy}
 use Rattle.reference_reach.specs.MergedNodes.{entered_elements}
 use Rattle.reference_reach.proofs.LawLemmas.{entries_stay, flat_texts_stay}
 use Rattle.referring_elements.specs.Found.{is_named}
-use Rattle.referring_elements.specs.References.{AreOnce}
+use Rattle.referring_elements.specs.References.{AreOnce, said_of}
 use Rattle.kept_elements.specs.declared.flat_texts.FlatTexts.{FlatTexts}
 use Rattle.kept_elements.specs.declared.kept.Kept.{Kept}
 use Rattle.kept_elements.specs.declared.kept_change.KeptChange.{KeptChange}
 use Rattle.kept_elements.specs.Changes.{AreChanges, Renews, puts_of}
-use Rattle.kept_elements.specs.Evaluations.{all_kept_of, kept_of, said_of}
+use Rattle.kept_elements.specs.Evaluations.{all_kept_of, kept_of}
 use Rattle.kept_elements.specs.Known.{all_flat_texts_of, flat_in, flat_text_of, flat_texts_of}
 use Rattle.kept_elements.specs.Renewals.{TellsOfEdit, is_told}
 use Rattle.kept_elements.specs.Machinery.Renewals.{again, its_counters, its_flat, kept_flat, known_again, known_below, names, renewed_kept, some_names, told_again, with_again}

@@ -23,7 +23,8 @@ use Rattle.document_walk.specs.Elements.{element_count}
 use Rattle.surroundings.specs.declared.told.Told.{Told}
 use Rattle.surroundings.proofs.Said.{said-document}
 use Rattle.kept_elements.specs.declared.kept.Kept.{Kept}
-use Rattle.kept_elements.specs.Evaluations.{document_kept, document_told, kept_of, said_of}
+use Rattle.kept_elements.specs.Evaluations.{document_kept, document_told, kept_of}
+use Rattle.referring_elements.specs.References.{said_of}
 use Rattle.kept_elements.proofs.ChangeLemmas.{HasKeysOnce}
 use Rattle.kept_elements.proofs.KnownLemmas.{kept_mapped}
 use Rattle.kept_elements.proofs.RecordLemmas.{has_key-mapped, length-document_records, records_once}

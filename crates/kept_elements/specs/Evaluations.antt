@@ -8,7 +8,6 @@ use Rattle.plain_types.specs.declared.sheet.Sheet.{Sheet}
 use Rattle.plain_types.specs.declared.style.ElementStyle.{ElementStyle}
 use Rattle.plain_types.specs.declared.style.Style.{Style}
 use Rattle.content_eval.specs.Targets.{Known}
-use Rattle.box_eval.specs.declared.element_record.ElementRecord.{ElementRecord}
 use Rattle.box_eval.specs.Starts.{started}
 use Rattle.box_pieces.specs.BoxPieces.{pieces_with_urls}
 use Rattle.generated_texts.specs.Documents.{counter_styles, document_style}
@@ -18,6 +17,7 @@ use Rattle.merged_walk.specs.Evaluators.{told_all}
 use Rattle.surroundings.specs.declared.told.Told.{Told}
 use Rattle.surroundings.specs.StyledEvaluators.{root_surroundings, styled_evaluator}
 use Rattle.reference_reach.specs.ChangedTargets.{Evaluated}
+use Rattle.referring_elements.specs.References.{said_of}
 use Rattle.kept_elements.specs.declared.kept.Kept.{Kept}
 
 -- what the evaluation tells of a document's elements, under their keys
@@ -26,10 +26,6 @@ told_of table style document = told_all (styled_evaluator table) root_surroundin
 
 abbrev pub document_told : Sheet → Forest (Keyed Node) → List (ℕ × Told)
 document_told author document = told_of (counter_styles author) (document_style author document) document
-
--- what is said of them
-abbrev pub said_of : List (ℕ × Told) → List (ℕ × ElementRecord)
-said_of told = map (λ (element : ℕ × Told). (element.0, element.1.said)) told
 
 -- a document, with what a fresh evaluation under the author's sheet says of its elements
 abbrev pub evaluated_document : Sheet → Forest (Keyed Node) → Evaluated

@@ -23,9 +23,9 @@ use Rattle.referring_elements.specs.Indexes.{TellsReferences}
 use Rattle.edit_work.specs.KeyedSources.{is_among}
 use Rattle.reference_reach.specs.ChangedTargets.{Evaluated, refers, refers_through}
 use Rattle.reference_reach.specs.MergedNodes.{entered_elements}
-use Rattle.referring_elements.specs.References.{AreOnce}
+use Rattle.referring_elements.specs.References.{AreOnce, said_of}
 use Rattle.kept_elements.specs.declared.kept.Kept.{Kept}
-use Rattle.kept_elements.specs.Evaluations.{kept_of, said_of}
+use Rattle.kept_elements.specs.Evaluations.{kept_of}
 
 -- something is told of the element
 abbrev pub is_told : List (ℕ × Told) → ℕ → Bool

@@ -159,16 +159,3 @@ module _ (f : Forest (Keyed Node)) (d : HasDistinctKeys f) where
       by (Some n) e =
           let it = found (λ (n : Keyed Node). has_id id n.label) f None [] n d e in
           rw it.at refl
-
--- one element more, which is the first of its id
-pub still_first : (f : Forest (Keyed Node)) (old new : List (List ℕ × ℕ)) (name : List ℕ) (key : ℕ) → NameFirst old f → first_holder f name ≡ Some key
-    → ((other : List ℕ) → element_of new other ≡ option_or (element_of old other) (cond (bytes_eq other name) (Some key) None)) → NameFirst new f
-still_first f old new name key was is wrote other k there = by (element_of old other) refl (sym (wrote other) ∙ there)
-  where
-    put_there : (b : Bool) → bytes_eq other name ≡ b → cond b (Some key) None ≡ Some k → first_holder f other ≡ Some k
-    put_there true h same = ap (first_holder f) ((bytes_eq-Decides other name).0 h) ∙ is ∙ same
-    put_there false h same = absurd (none-some k same)
-
-    by : (o : Option ℕ) → element_of old other ≡ o → option_or o (cond (bytes_eq other name) (Some key) None) ≡ Some k → first_holder f other ≡ Some k
-    by (Some x) at same = was other k (at ∙ same)
-    by None at same = put_there (bytes_eq other name) refl same

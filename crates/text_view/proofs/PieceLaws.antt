@@ -39,9 +39,6 @@ line_end_encodes Start = refl
 line_end_encodes Word = ap (λ bytes. bytes ++ []) (sym (encode_ascii 10 (lit< tt)))
 line_end_encodes Blank = ap (λ bytes. bytes ++ []) (sym (encode_ascii 10 (lit< tt)))
 
-pub break_shown : (state : LineState) → line_end state ≡ bytes_shown state (Break ∷ [])
-break_shown state = line_end_encodes state ∙ ap encode_utf8_all (sym (append-nil (line_end state)))
-
 -- all of a document, and the end of its last line
 pub all_lines : (pieces : List Piece) → bytes_shown Start pieces ++ line_end (behind_pieces Start pieces) ≡ encode_utf8_all (lines pieces)
 all_lines pieces =

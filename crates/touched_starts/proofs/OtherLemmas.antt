@@ -12,7 +12,7 @@ use Rattle.edit_work.specs.KeyedSources.{is_among}
 use Rattle.counter_index.specs.declared.index.CounterIndex.{CounterIndex}
 use Rattle.counter_index.specs.Indexes.{starts_at, starts_by}
 use Rattle.counter_index.specs.Retold.{other_key, other_keys}
-use Rattle.counter_index.specs.Touched.{are_same_starts}
+use Rattle.edit_work.specs.Inputs.{are_same_starts}
 use Rattle.counter_index.proofs.ListLemmas.{first-has}
 use Rattle.counter_index.proofs.TouchedLemmas.{starts-decide}
 use Rattle.touched_starts.specs.Laws.{WereExchanged}

@@ -64,9 +64,6 @@ named_from document (Some key) found e =
     let both = where_named (is_some (name_of document key)) key found e in
     subst (λ key. IsSome (name_of document key)) (sym both.1) (some_name (name_of document key) both.0)
 
-pub found_named : (document : Forest (Keyed Node)) (path : List ℕ) (found : ℕ) → Some found ≡ element_at document path → IsSome (name_of document found)
-found_named document path found e = named_from document (key_at document path) found e
-
 -- what has a name is a node
 live_in : (place : Option (Spot Node)) → IsSome (option_and_then node_name (option_map (λ (s : Spot Node). s.label) place)) → IsSome place
 live_in None h = absurd (cc h)

@@ -51,10 +51,6 @@ pub item_fits : (old new : Kept) (text : List ℕ) (item : Item) (after : List �
     → (s : State) → Keeps old s → (next : State) × Leads old.kind text s after next × Keeps new next
 item_fits old new text item after begins adds s keeps = let added = adds s keeps in (added.0, Leads-one old.kind text s item after added.0 begins added.1, added.2)
 
-pub item_stops : (old new : Kept) (text : List ℕ) (item : Item) (after : List ℕ) → BeginsWith text item after → Adds old item false new
-    → (s : State) → Keeps old s → Stops old.kind text s
-item_stops old new text item after begins refuses s keeps = inr (item, after, begins, refuses s keeps)
-
 -- a tag that is read has distinct names
 pub sound_names : (text : List ℕ) (token : Token) (after : List ℕ) → BeginsWith text (item_of token) after → HasSoundNames token
 sound_names text Doctype after begins = tt

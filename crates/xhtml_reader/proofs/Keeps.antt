@@ -73,25 +73,6 @@ or_second a b e h = rw e at h
 inside_is : (all : Kept) (f : Frame) (frames : List Frame) (here : Forest Node) → KeepsInside all (f ∷ frames) here → is_inside all.built ≡ true
 inside_is all f frames here keeps = ap is_inside keeps.built_is ∙ above_none (length frames)
 
-pub accepts_inside : (all : Kept) (f : Frame) (frames : List Frame) (here : Forest Node) → KeepsInside all (f ∷ frames) here → accepts_element all ≡ true
-accepts_inside all f frames here keeps = or_first _ _ (inside_is all f frames here keeps)
-
--- what an element needs of the builder
-pub text_may_come : (all : Kept) → accepts_element all ≡ true → (all.waiting ≡ []) ⊎ IsTrue (accepts_node all.built)
-text_may_come all e = elim (cases_Bool (is_inside all.built)) [
-  | inl in_element ↦ inr (or_true _ _ in_element)
-  | inr other ↦ (let p = and_parts (accepts_node all.built) (eqb (length all.waiting) 0) (or_second _ _ other e) in inr p.0)
-]
-
-pub element_may_come : (all : Kept) → accepts_element all ≡ true → accepts_node (with_text all.built all.waiting) ≡ true
-element_may_come all e = elim (cases_Bool (is_inside all.built)) [
-  | inl in_element ↦ or_true _ _ in_element
-  | inr other ↦ (
-      let p = and_parts (accepts_node all.built) (eqb (length all.waiting) 0) (or_second _ _ other e) in
-      let none : all.waiting ≡ [] = nil_from_length all.waiting (eqb-true (length all.waiting) 0 p.1) in
-      ap accepts_node (sym (with_no_text all.built all.waiting none)) ∙ p.0)
-]
-
 -- no element may come after a text or the root
 none_after_text : (all : Kept) (cs : List ℕ) → Keeps all (in_text cs) → accepts_element all ≡ false
 none_after_text all [] keeps = absurd (keeps.1 refl)
@@ -205,28 +186,6 @@ added_empty all (in_text cs) name attrs keeps e = absurd (let none = none_after_
 added_empty all (inside f frames here) name attrs keeps e = (inside f frames (then_element here name attrs Empty), refl, empty_inside all (f ∷ frames) here name attrs keeps)
 added_empty all (at_end tree) name attrs keeps e = absurd (let none = none_after_root all tree keeps in let bad : true ≡ false = sym e ∙ none in cc)
 
--- an element that may not come
-refused_element : (all : Kept) (s : State) → Keeps all s → accepts_element all ≡ false → (name : List ℕ) (attrs : List Attr) → (step all.kind s (start_tag name attrs) ≡ None) × (step all.kind s (empty_tag name attrs) ≡ None)
-refused_element all at_start keeps e name attrs = absurd (let may : accepts_element all ≡ true = ap accepts_element keeps in let bad : true ≡ false = sym may ∙ e in cc)
-refused_element all after_doctype keeps e name attrs = absurd (let may : accepts_element all ≡ true = ap accepts_element keeps in let bad : true ≡ false = sym may ∙ e in cc)
-refused_element all (in_text cs) keeps e name attrs = (ap (λ (k : Kept). step k.kind (in_text cs) (start_tag name attrs)) keeps.0, ap (λ (k : Kept). step k.kind (in_text cs) (empty_tag name attrs)) keeps.0)
-refused_element all (inside f frames here) keeps e name attrs = absurd (let may = accepts_inside all f frames here keeps in let bad : true ≡ false = sym may ∙ e in cc)
-refused_element all (at_end tree) keeps e name attrs = (ending all.kind, standing all.kind)
-  where
-    ending : (kind : Kind) → step kind (at_end tree) (start_tag name attrs) ≡ None
-    ending Document = refl
-    ending Fragment = refl
-
-    standing : (kind : Kind) → step kind (at_end tree) (empty_tag name attrs) ≡ None
-    standing Document = refl
-    standing Fragment = refl
-
-pub refused_start : (all : Kept) (s : State) (name : List ℕ) (attrs : List Attr) → Keeps all s → accepts_element all ≡ false → step all.kind s (start_tag name attrs) ≡ None
-refused_start all s name attrs keeps e = (refused_element all s keeps e name attrs).0
-
-pub refused_empty : (all : Kept) (s : State) (name : List ℕ) (attrs : List Attr) → Keeps all s → accepts_element all ≡ false → step all.kind s (empty_tag name attrs) ≡ None
-refused_empty all s name attrs keeps e = (refused_element all s keeps e name attrs).1
-
 -- the innermost element ends
 closed_rows : (all : Kept) (f : Frame) (frames : List Frame) (here : Forest Node) → KeepsInside all (f ∷ frames) here
     → with_text all.built all.waiting ≡ built_of (rows_before frames ++ rows (length frames) (then_element f.before f.name f.attrs here)) (length (f ∷ frames))
@@ -284,13 +243,6 @@ end_outside : (kind : Kind) (name : List ℕ) → (step kind at_start (end_tag n
 end_outside Document name = (refl, refl, λ cs. refl, λ tree. refl)
 end_outside Fragment name = (refl, refl, λ cs. refl, λ tree. refl)
 
-pub refused_end_outside : (all : Kept) (s : State) (name : List ℕ) → Keeps all s → is_inside all.built ≡ false → step all.kind s (end_tag name) ≡ None
-refused_end_outside all at_start name keeps e = (end_outside all.kind name).0
-refused_end_outside all after_doctype name keeps e = (end_outside all.kind name).1
-refused_end_outside all (in_text cs) name keeps e = (end_outside all.kind name).2 cs
-refused_end_outside all (inside f frames here) name keeps e = absurd (let may = inside_is all f frames here keeps in let bad : true ≡ false = sym may ∙ e in cc)
-refused_end_outside all (at_end tree) name keeps e = (end_outside all.kind name).3 tree
-
 -- an end tag of another name
 pub refused_end : (all : Kept) (s : State) (name : List ℕ) (front : List (List ℕ)) (last : List ℕ) → Keeps all s → all.names ≡ front ++ last ∷ [] → last ≢ encode_utf8_all name → step all.kind s (end_tag name) ≡ None
 refused_end all at_start name front last keeps names other = (end_outside all.kind name).0
@@ -301,14 +253,6 @@ refused_end all (inside f frames here) name front last keeps names other = elim 
   | inl same ↦ absurd (other ((last_of front (names_of frames) last (encode_utf8_all f.name) (sym names ∙ keeps.names_are)).1 ∙ ap encode_utf8_all ((bytes_eq-Decides f.name name).0 same)))
   | inr differs ↦ rw differs refl
 ]
-
--- an end tag where the names are gone
-pub refused_end_nameless : (all : Kept) (s : State) (name : List ℕ) → Keeps all s → all.names ≡ [] → step all.kind s (end_tag name) ≡ None
-refused_end_nameless all at_start name keeps e = (end_outside all.kind name).0
-refused_end_nameless all after_doctype name keeps e = (end_outside all.kind name).1
-refused_end_nameless all (in_text cs) name keeps e = (end_outside all.kind name).2 cs
-refused_end_nameless all (at_end tree) name keeps e = (end_outside all.kind name).3 tree
-refused_end_nameless all (inside f frames here) name keeps e = absurd (push_some (names_of frames) (encode_utf8_all f.name) (sym keeps.names_are ∙ e))
 
 -- ---- characters
 
@@ -444,29 +388,6 @@ refused_left all (at_end tree) item cs some left full other keeps e = at_last al
         nothing [] some = absurd (some refl)
         nothing (c ∷ cs) some = refl
 
--- an item that leaves nothing at all, round the root of a document
-pub added_misc : (all : Kept) (s : State) (item : Item) → is_misc item ≡ true → Keeps all s → is_fragment all.kind ≡ false → is_inside all.built ≡ false → Added all.kind s item all
-added_misc all at_start item misc keeps kind none = (at_start, ap (λ (k : Kind). step k at_start item) (as_document all.kind kind) ∙ at_start_patient item misc, keeps)
-added_misc all after_doctype item misc keeps kind none = (after_doctype, ap (λ (k : Kind). step k after_doctype item) (as_document all.kind kind) ∙ after_doctype_patient item misc, keeps)
-added_misc all (in_text cs) item misc keeps kind none = absurd (let bad : true ≡ false = sym (ap (λ (k : Kept). is_fragment k.kind) keeps.0) ∙ kind in cc)
-added_misc all (inside f frames here) item misc keeps kind none = absurd (let bad : true ≡ false = sym (inside_is all f frames here keeps) ∙ none in cc)
-added_misc all (at_end tree) item misc keeps kind none = (at_end tree, ap (λ (k : Kind). step k (at_end tree) item) (as_document all.kind kind) ∙ at_end_patient tree item misc, keeps)
-
--- a comment or an instruction
-pub added_nothing : (all : Kept) (s : State) (item : Item) → left_by item ≡ Some [] → is_misc item ≡ true → Keeps all s → Added all.kind s item all
-added_nothing all s item left misc keeps = elim (cases_Bool (accepts_characters all false)) [
-  | inl may ↦ (let added = added_left all s item [] false left (λ e. refl) keeps may in (added.0, added.1, subst (λ (k : Kept). Keeps k added.0) (waits_none all) added.2))
-  | inr fails ↦ (let apart = both_false _ _ fails in added_misc all s item misc keeps (and_true _ apart.1) apart.0)
-]
-  where
-    both_false : (a b : Bool) → (a || b) ≡ false → (a ≡ false) × (b ≡ false)
-    both_false true b e = absurd cc
-    both_false false b e = (refl, e)
-
-    and_true : (a : Bool) → (a && true) ≡ false → a ≡ false
-    and_true true e = e
-    and_true false e = refl
-
 -- a run of characters
 pub added_run : (cs : List ℕ) (all : Kept) (s : State) → Keeps all s → accepts_characters all true ≡ true
     → (next : State) × (run all.kind (Some s) (map plain_character cs) ≡ some_state next) × Keeps (waits_more all cs) next
@@ -498,23 +419,6 @@ added_doctype all (inside f frames here) keeps e = absurd (let bad : true ≡ fa
 added_doctype all (at_end tree) keeps e = absurd (
     let no_node : accepts_node all.built ≡ false = ap (λ (k : Kept). accepts_node k.built) keeps.0 ∙ whole_rows (rows 0 tree) (rows_some tree keeps.1) in
     let bad : true ≡ false = sym (doctype_parts all e).2 ∙ no_node in cc)
-
-pub refused_doctype : (all : Kept) (s : State) → Keeps all s → accepts_doctype all ≡ false → step all.kind s doctype ≡ None
-refused_doctype all at_start keeps e = first all.kind refl
-  where
-    first : (kind : Kind) → all.kind ≡ kind → step kind at_start doctype ≡ None
-    first Document is = absurd (
-        let may : accepts_doctype all ≡ true = ap accepts_doctype (keeps ∙ ap (λ (k : Kind). kept_outside k false [] []) is) in
-        let bad : true ≡ false = sym may ∙ e in cc)
-    first Fragment is = refl
-refused_doctype all after_doctype keeps e = ap (λ (k : Kept). step k.kind after_doctype doctype) keeps
-refused_doctype all (in_text cs) keeps e = ap (λ (k : Kept). step k.kind (in_text cs) doctype) keeps.0
-refused_doctype all (inside f frames here) keeps e = refl
-refused_doctype all (at_end tree) keeps e = last all.kind
-  where
-    last : (kind : Kind) → step kind (at_end tree) doctype ≡ None
-    last Document = refl
-    last Fragment = refl
 
 -- ---- the end
 

@@ -7,7 +7,8 @@ use Rattle.content_eval.specs.Targets.{Known}
 use Rattle.generated_texts.specs.References.{known_targets}
 use Rattle.snapshot_board.specs.Records.{put_all}
 use Rattle.kept_elements.specs.declared.flat_texts.FlatTexts.{FlatTexts}
-use Rattle.kept_elements.specs.Evaluations.{all_kept_of, said_of}
+use Rattle.kept_elements.specs.Evaluations.{all_kept_of}
+use Rattle.referring_elements.specs.References.{said_of}
 use Rattle.kept_elements.specs.Known.{known_by}
 use Rattle.kept_elements.proofs.KnownLemmas.{same_known}
 use Rattle.dirty_walk.proofs.evaluation.put_document_entries.Goals as goal

@@ -7,9 +7,9 @@ use Rattle.generated_texts.specs.StyleElements.{author_sheet}
 use Rattle.snapshot_board.specs.Records.{put_all}
 use Rattle.kept_elements.specs.declared.kept.Kept.{Kept}
 use Rattle.referring_elements.specs.Indexes.{TellsReferences}
-use Rattle.referring_elements.specs.References.{AreOnce}
+use Rattle.referring_elements.specs.References.{AreOnce, said_of}
 use Rattle.surroundings.specs.declared.told.Told.{Told}
-use Rattle.kept_elements.specs.Evaluations.{document_kept, document_told, kept_of, said_of}
+use Rattle.kept_elements.specs.Evaluations.{document_kept, document_told, kept_of}
 use Rattle.dirty_walk.proofs.BookLemmas.{kept_are}
 use Rattle.kept_elements.proofs.ChangeLemmas.{has_key, key_of, put_whole, some-kept}
 use Rattle.kept_elements.proofs.RecordLemmas.{has_key-mapped}

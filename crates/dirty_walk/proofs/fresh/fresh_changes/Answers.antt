@@ -4,9 +4,9 @@ use Rattle.generated_texts.specs.StyleElements.{author_sheet}
 use Rattle.kept_elements.specs.declared.kept_change.KeptChange.{KeptChange}
 use Rattle.kept_elements.specs.Changes.{AreBelow, AreChanges}
 use Rattle.referring_elements.specs.Indexes.{TellsReferences}
-use Rattle.referring_elements.specs.References.{AreOnce}
+use Rattle.referring_elements.specs.References.{AreOnce, said_of}
 use Rattle.surroundings.specs.declared.told.Told.{Told}
-use Rattle.kept_elements.specs.Evaluations.{document_kept, document_told, said_of}
+use Rattle.kept_elements.specs.Evaluations.{document_kept, document_told}
 use Rattle.dirty_walk.proofs.BookLemmas.{kept_are}
 use Rattle.dirty_walk.proofs.ReferenceLemmas.{are_once}
 use Rattle.kept_elements.proofs.ChangeLemmas.{below-more}
