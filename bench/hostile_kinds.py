@@ -39,6 +39,11 @@ def of_script(script, document="<body><p/><p/></body>", sheet=""):
     return lambda size: {"d.xhtml": [document], "s.css": [sheet], "n.css": [sheet], "t.txt": script(size)}
 
 
+def of_edit(document, script, sheet=""):
+    """Files with a document that is made, under one sheet, and one script."""
+    return lambda size: {"d.xhtml": document(size), "s.css": [sheet], "t.txt": [script]}
+
+
 def many(part, count):
     """A part so many times, some of it at a time; a function of the place gives each part."""
     if callable(part):
@@ -77,6 +82,10 @@ def styles(body):
     """Counter styles n0, n1, .., each with the next one's number in its body, the last with the first's."""
     return lambda size: [f"@counter-style n{k}{{{body.replace('NEXT', f'n{(k + 1) % size}')}}}" for k in range(size)]
 
+
+# An element whose children have one id, to which each of them refers, and one behind it; and a sheet that follows references.
+OF_ONE_ID = wrapped("<body><div>", '<a id="t" href="#t"/>', "</div><p/></body>")
+COUNTED_TARGETS = "a::after{content:target-counter(attr(href),c)}"
 
 KINDS = [
     # texts of sheets
@@ -282,10 +291,14 @@ KINDS = [
          check=is_empty),
     Kind("elements that come at the beginning, one after the other", 5_000, of_script(wrapped("", "insert / 0 <p/>\n", "")), EDIT,
          grows="the square of the edits, each of which changes the places of all siblings behind", check=is_empty),
-    Kind("elements of one id that go at once", 1_000, lambda size: {
-        "d.xhtml": wrapped("<body><div>", '<a id="t" href="#t"/>', "</div></body>")(size),
-        "s.css": ["a::after{content:target-counter(attr(href),c)}"], "t.txt": ["remove /0\n"],
-    }, EDIT, grows="the square of the elements", check=is_empty),
+    # Each id is looked up once before the edit and twice at most after it, however many have it and refer to it.
+    Kind("elements of one id that go at once", 50_000, of_edit(OF_ONE_ID, "remove /0\n", COUNTED_TARGETS), EDIT, check=is_empty),
+    Kind("elements of one id that come at once", 50_000, of_script(
+        wrapped("insert / 0 <div>", '<a id="t" href="#t"/>', "</div>\n"), '<body><a href="#t"/></body>', COUNTED_TARGETS), EDIT, check=is_empty),
+    Kind("elements of one id that move at once", 50_000, of_edit(OF_ONE_ID, "move /0 / 1\n", COUNTED_TARGETS), EDIT, check=is_empty),
+    # How deep an element stands is counted for each that has the id.
+    Kind("elements of one id in each other, of which one is edited", 2_000, of_edit(nested('<b id="t">', "", "</b>"), "set /0 title x\n"),
+         EDIT, grows="the square of the depth", check=is_empty),
 ]
 
 # Linear too, and yet not for a run at the most that a file may have: some take tens of GiB, and others many minutes.
@@ -299,6 +312,7 @@ TOO_LARGE = {
     "references to one text of 1,000 characters", "items whose numbers are baked", "nested quotes, as a line of text",
     "why, of what stands behind counted siblings", "edits that are undone", "a script of sheets", "a script of shows",
     "elements that come at the end, one after the other", "counters of the root and of its first child, at every element",
+    "elements of one id that go at once", "elements of one id that come at once", "elements of one id that move at once",
 }
 LARGEST = [kind for kind in KINDS if kind.grows == "linear" and kind.name not in TOO_LARGE]
 

@@ -23,37 +23,36 @@ use plain_types::text::Text;
 use plain_types::tree::Tree;
 use reference_reach::laws::targets_stay;
 use referring_elements::former::FormerTarget;
+use referring_elements::holder_lookup::HolderLookup;
 use std::alloc::Global;
 use target_index::index::Index;
 
 /// Appends what an id names.
 fn put_id(
     alloc: Global,
-    arena: &Arena,
-    index: &Index,
+    lookup: &mut HolderLookup<'_>,
     id: &Text,
     former: &mut List<FormerTarget>,
 ) -> Result<(), Memory>
-    requires indexed { IsIndexOf index.now arena.now.tree }
-    ensures ok { OnOk result (former.new ≡ former.old ++ former_of arena.now.tree (Some id.now)) }
+    ensures ok { OnOk result (former.new ≡ former.old ++ former_of lookup.old.arena.now.tree (Some id.now)) }
+    ensures tree { lookup.new.arena.now.tree ≡ lookup.old.arena.now.tree }
 {
-    former.push(FormerTarget::of(arena, index, id.duplicate(alloc)?))
+    former.push(FormerTarget::of(alloc, lookup, id.duplicate(alloc)?)?)
 }
 
 /// Appends what the ids of elements name.
 fn put_elements(
     alloc: Global,
-    arena: &Arena,
-    index: &Index,
+    lookup: &mut HolderLookup<'_>,
     elements: &[ElementId],
     former: &mut List<FormerTarget>,
 ) -> Result<(), Memory>
-    requires indexed { IsIndexOf index.now arena.now.tree }
-    ensures ok { OnOk result (former.new ≡ former.old ++ formers_of arena.now.tree elements.now) }
+    ensures ok { OnOk result (former.new ≡ former.old ++ formers_of lookup.old.arena.now.tree elements.now) }
+    ensures tree { lookup.new.arena.now.tree ≡ lookup.old.arena.now.tree }
 {
     for element in elements {
         if let Some(id) = &element.id {
-            put_id(alloc, arena, index, id, former)?;
+            put_id(alloc, lookup, id, former)?;
         }
     }
     Ok(())
@@ -84,16 +83,15 @@ fn id_of(node: NodeView<'_>) -> Option<&Text>
 /// Appends what the id of a node of a fragment names, where it has one.
 fn put_node(
     alloc: Global,
-    arena: &Arena,
-    index: &Index,
+    lookup: &mut HolderLookup<'_>,
     node: NodeView<'_>,
     former: &mut List<FormerTarget>,
 ) -> Result<(), Memory>
-    requires indexed { IsIndexOf index.now arena.now.tree }
-    ensures ok { OnOk result ((shown : Node) → Shows shown node.entry → former.new ≡ former.old ++ former_of arena.now.tree (id_of shown)) }
+    ensures ok { OnOk result ((shown : Node) → Shows shown node.entry → former.new ≡ former.old ++ former_of lookup.old.arena.now.tree (id_of shown)) }
+    ensures tree { lookup.new.arena.now.tree ≡ lookup.old.arena.now.tree }
 {
     if let Some(id) = id_of(node) {
-        put_id(alloc, arena, index, id, former)?;
+        put_id(alloc, lookup, id, former)?;
     }
     Ok(())
 }
@@ -101,16 +99,15 @@ fn put_node(
 /// Appends what the ids of a fragment name.
 fn put_fragment(
     alloc: Global,
-    arena: &Arena,
-    index: &Index,
+    lookup: &mut HolderLookup<'_>,
     fragment: &Tree,
     former: &mut List<FormerTarget>,
 ) -> Result<(), Memory>
-    requires indexed { IsIndexOf index.now arena.now.tree }
-    ensures ok { OnOk result (former.new ≡ former.old ++ formers_in arena.now.tree (rows 0 fragment.now)) }
+    ensures ok { OnOk result (former.new ≡ former.old ++ formers_in lookup.old.arena.now.tree (rows 0 fragment.now)) }
+    ensures tree { lookup.new.arena.now.tree ≡ lookup.old.arena.now.tree }
 {
     for place in 0..fragment.len() {
-        put_node(alloc, arena, index, fragment.node(place), former)?;
+        put_node(alloc, lookup, fragment.node(place), former)?;
     }
     Ok(())
 }
@@ -118,17 +115,15 @@ fn put_fragment(
 /// Appends what the value of an attribute names, where that is the id.
 fn put_value(
     alloc: Global,
-    arena: &Arena,
-    index: &Index,
+    lookup: &mut HolderLookup<'_>,
     name: &Text,
     value: &Text,
     former: &mut List<FormerTarget>,
 ) -> Result<(), Memory>
-    requires indexed { IsIndexOf index.now arena.now.tree }
-    ensures ok { OnOk result (former.new ≡ former.old ++ value_formers arena.now.tree name.now value.now) }
+    ensures ok { OnOk result (former.new ≡ former.old ++ value_formers lookup.old.arena.now.tree name.now value.now) }
 {
     if name.as_str() == "id" {
-        put_id(alloc, arena, index, value, former)?;
+        put_id(alloc, lookup, value, former)?;
     }
     Ok(())
 }
@@ -136,22 +131,21 @@ fn put_value(
 /// Appends what the ids name that an edit brings into a document or moves in it.
 fn put_coming(
     alloc: Global,
-    arena: &Arena,
-    index: &Index,
+    lookup: &mut HolderLookup<'_>,
     edit: &Edit,
     former: &mut List<FormerTarget>,
 ) -> Result<(), Memory>
-    requires indexed { IsIndexOf index.now arena.now.tree }
-    ensures ok { OnOk result (former.new ≡ former.old ++ coming_formers arena.now.tree edit.now) }
+    ensures ok { OnOk result (former.new ≡ former.old ++ coming_formers lookup.old.arena.now.tree edit.now) }
 {
+    let arena = lookup.arena;
     arena_holds_document(arena);
     match edit {
-        Edit::Insert { fragment, .. } => put_fragment(alloc, arena, index, fragment, former),
+        Edit::Insert { fragment, .. } => put_fragment(alloc, lookup, fragment, former),
         Edit::Move { from, .. } => {
             let moved = tree_elements(alloc, arena, arena.at(from))?;
-            put_elements(alloc, arena, index, moved.as_slice(), former)
+            put_elements(alloc, lookup, moved.as_slice(), former)
         }
-        Edit::SetAttr { name, value, .. } => put_value(alloc, arena, index, name, value, former),
+        Edit::SetAttr { name, value, .. } => put_value(alloc, lookup, name, value, former),
         _ => Ok(()),
     }
 }
@@ -159,7 +153,8 @@ fn put_coming(
 /// What the ids name, in a document which is not edited yet, that an edit can give another target: those of the nodes that it
 /// takes out, moves or puts in, and of the element whose attributes it changes. These are the elements that it takes out.
 ///
-/// It takes memory of these ids, and time linear in the nodes that come or move, and for each id in the elements that have it.
+/// It takes memory of these ids, and time linear in the nodes that go, come or move and in their ids; of each id that several
+/// elements have, once time in their number, for each of them linear in how deep they are.
 pub(crate) fn former_targets(
     alloc: Global,
     arena: &Arena,
@@ -172,8 +167,9 @@ pub(crate) fn former_targets(
     ensures former { IfOk result (λ former. AreFormerTargetsOf edit.now arena.now.tree former) }
 {
     targets_stay();
+    let mut lookup = HolderLookup::new(alloc, arena, index);
     let mut former = List::new(alloc);
-    put_elements(alloc, arena, index, gone, &mut former)?;
-    put_coming(alloc, arena, index, edit, &mut former)?;
+    put_elements(alloc, &mut lookup, gone, &mut former)?;
+    put_coming(alloc, &mut lookup, edit, &mut former)?;
     Ok(former)
 }

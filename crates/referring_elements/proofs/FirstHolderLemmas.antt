@@ -19,7 +19,7 @@ use Rattle.plain_types.specs.declared.node.Node.{Node}
 use Rattle.node_arena.specs.Nodes.{attr_of, node_attrs}
 use Rattle.generated_texts.specs.References.{first_holder, has_id}
 use Rattle.target_index.proofs.ViewLemmas.{inserted, is_asked, seen}
-use Rattle.referring_elements.specs.ElementsById.{NameFirst, element_of, elements_of, if_holder}
+use Rattle.referring_elements.specs.ElementsById.{element_of, elements_of, if_holder}
 use Rattle.referring_elements.proofs.HolderLemmas.{at_label, found, finds, same_key}
 use Rattle.referring_elements.proofs.WalkLemmas.{place_is}
 

@@ -1,7 +1,6 @@
 -- The changes that add references. Throughout, own is the key of an element, and id and key are those of a pair.
-use Rattle.std.proofs.Common.{◌≡◌, ◌==◌, ◌||◌, ◌&&◌, ℕ, nat_eq, Bool, true, false, cond, List, [], ◌∷◌, ◌++◌, flat_map, map, Option, Some, None, refl, sym, ap, ap₂, ◌∙◌, eqb-true}
+use Rattle.std.proofs.Common.{◌≡◌, ◌==◌, ◌||◌, ◌&&◌, ℕ, nat_eq, Bool, true, false, cond, List, [], ◌∷◌, ◌++◌, flat_map, Option, Some, None, refl, sym, ap, ap₂, ◌∙◌, eqb-true}
 use Rattle.std.proofs.Math.Bool.{or-false}
-use Rattle.std.specs.Prelude.{fold, option_map}
 use Rattle.std.specs.List.{cons_option, filter_map, list_any}
 use Rattle.std.specs.Option.{option_map_or}
 use Rattle.std.specs.Str.{bytes_eq}
@@ -20,7 +19,6 @@ use Rattle.surroundings.specs.declared.told.Told.{Told}
 use Rattle.target_index.specs.declared.change.IndexChange.{IndexChange}
 use Rattle.target_index.specs.declared.change.IndexChange.TheVariants.{Refer}
 use Rattle.target_index.specs.Changes.{holds_after_all, refers_after_all}
-use Rattle.reference_reach.specs.ChangedTargets.{references_at}
 use Rattle.referring_elements.specs.Indexes.{refers_to}
 use Rattle.referring_elements.specs.References.{AreOnce, all_changes, box_changes, element_changes, piece_changes, said_of}
 

@@ -13,7 +13,6 @@ use Rattle.surroundings.specs.declared.told.Told.{Told}
 use Rattle.target_index.specs.declared.change.IndexChange.{IndexChange}
 use Rattle.target_index.specs.declared.change.IndexChange.TheVariants.{Refer}
 use Rattle.target_index.specs.declared.index.Index.{Index}
-use Rattle.reference_reach.specs.ChangedTargets.{Evaluated}
 use Rattle.referring_elements.specs.Indexes.{TellsReferences}
 
 module _ (key : ℕ) where

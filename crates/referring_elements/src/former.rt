@@ -1,13 +1,12 @@
 //! What ids named before an edit.
 
-ghost use Rattle.std.specs.Prelude.{◌≡◌};
+ghost use Rattle.std.specs.Prelude.{◌≡◌, IfOk};
 ghost use Rattle.generated_texts.specs.References.{first_holder};
-ghost use Rattle.referring_elements.specs.Indexes.{IsIndexOf};
 
-use crate::holders::first_holder;
-use node_arena::arena::Arena;
+use crate::holder_lookup::HolderLookup;
+use plain_types::memory::Memory;
 use plain_types::text::Text;
-use target_index::index::Index;
+use std::alloc::Global;
 
 /// An id, and the element that it named before an edit: the first in tree order that held it.
 #[derive(Drop)]
@@ -17,13 +16,17 @@ pub struct FormerTarget {
 }
 
 impl FormerTarget {
-    /// What an id names in a document, which is not edited yet.
-    pub fn of(arena: &Arena, index: &Index, id: Text) -> FormerTarget
-        requires indexed { IsIndexOf index.now arena.now.tree }
-        ensures id { result.id ≡ id }
-        ensures element { result.element ≡ first_holder arena.now.tree id }
+    /// What an id names in a document, which is not edited yet. It costs what `find` of the lookup costs.
+    pub fn of(
+        alloc: Global,
+        lookup: &mut HolderLookup<'_>,
+        id: Text,
+    ) -> Result<FormerTarget, Memory>
+        ensures id { IfOk result (λ target. target.id ≡ id) }
+        ensures element { IfOk result (λ target. target.element ≡ first_holder lookup.old.arena.now.tree id) }
+        ensures tree { lookup.new.arena.now.tree ≡ lookup.old.arena.now.tree }
     {
-        let element = first_holder(index, arena, id.as_str());
-        FormerTarget { id, element }
+        let element = lookup.find(alloc, id.as_str())?;
+        Ok(FormerTarget { id, element })
     }
 }

@@ -14,11 +14,12 @@
 //! Which elements refer to which ids is put into an index by [`references::add_references`], once the document is evaluated.
 //! Where the references of a whole document are followed, the elements that its ids name are found at once, by one walk
 //! ([`first_holders::FirstHolders`]): the index looks at all elements that have an id, for each reference to it. Where the
-//! references of some elements are followed, each id that several elements have is looked up once
-//! ([`holder_lookup::HolderLookup`]).
+//! references of some elements are followed, and where former targets are read, each id that several elements have is looked up
+//! once ([`holder_lookup::HolderLookup`]).
 //!
 //! ```text
-//! let former = FormerTarget::of(&arena, &index, id);      // before the edit, for each id that it can give another target
+//! let mut lookup = HolderLookup::new(alloc, &arena, &index);      // before the edit
+//! let former = FormerTarget::of(alloc, &mut lookup, id)?;         // for each id that it can give another target
 //! let changed = changed_elements(alloc, &arena, &stops, &visited)?;
 //! let found = referring_elements(alloc, &arena, &index, &former, changed.as_slice())?;
 //! for key in found.first.as_slice() { .. }         // flat and full texts again

@@ -9,10 +9,11 @@ ghost use Rattle.edit_work.specs.KeyedSources.{is_among};
 ghost use Rattle.target_index.specs.Holders.{is_reference};
 ghost use Rattle.reference_reach.specs.ChangedTargets.{Evaluated, refers, refers_through};
 ghost use Rattle.referring_elements.specs.Former.{AreFormerTargets, is_former};
-ghost use Rattle.referring_elements.specs.Found.{is_found, is_named, refers_anew, refers_by_id};
+ghost use Rattle.referring_elements.specs.Found.{AreAdded, is_found, is_named, refers_anew, refers_by_id};
 ghost use Rattle.referring_elements.specs.Indexes.{AreLive, AreReferencesLive, IsIndexOf, TellsReferences};
 
 use crate::elements::Elements;
+use crate::elements_by_id::ElementsById;
 use crate::former::FormerTarget;
 use crate::holder_lookup::HolderLookup;
 use node_arena::arena::Arena;
@@ -28,6 +29,30 @@ fn add_references(index: &Index, id: &str, found: &mut Elements) -> Result<(), M
     found.add_all(index.references(id))
 }
 
+/// Adds the elements that refer to an id, where these are not added yet. For each id that several refer to and whose elements
+/// are added, one of them is kept.
+fn add_once(
+    alloc: Global,
+    index: &Index,
+    id: &str,
+    added: &mut ElementsById,
+    found: &mut Elements,
+) -> Result<(), Memory>
+    requires added { AreAdded index.now added.old found.old }
+    ensures ok { OnOk result ((key : ℕ) → is_among found.new key ≡ (is_among found.old key || is_reference index.now (chars id.now) key)) }
+    ensures added { OnOk result (AreAdded index.now added.new found.new) }
+{
+    if added.get(id).is_some() {
+        return Ok(());
+    }
+    let referring = index.references(id);
+    found.add_all(referring)?;
+    if referring.len() > 1 {
+        added.put_first(alloc, id, referring[0])?;
+    }
+    Ok(())
+}
+
 /// Whether an id names another element than before, or none any longer.
 fn is_former(
     alloc: Global,
@@ -41,19 +66,22 @@ fn is_former(
     Ok(target.element != named)
 }
 
-/// Adds the elements that refer to an id, where it names another element than before.
+/// Adds the elements that refer to an id, where it names another element than before and these are not added yet.
 fn add_anew(
     alloc: Global,
     lookup: &mut HolderLookup<'_>,
     index: &Index,
     target: &FormerTarget,
+    added: &mut ElementsById,
     found: &mut Elements,
 ) -> Result<(), Memory>
+    requires added { AreAdded index.now added.old found.old }
     ensures ok { OnOk result ((key : ℕ) → is_among found.new key ≡ (is_among found.old key || refers_anew lookup.old.arena.now.tree index.now key target.now)) }
+    ensures added { OnOk result (AreAdded index.now added.new found.new) }
     ensures tree { lookup.new.arena.now.tree ≡ lookup.old.arena.now.tree }
 {
     if is_former(alloc, lookup, target)? {
-        add_references(index, target.id.as_str(), found)?;
+        add_once(alloc, index, target.id.as_str(), added, found)?;
     }
     Ok(())
 }
@@ -121,9 +149,10 @@ fn elements_anew(
     ensures found { IfOk result (λ found. (key : ℕ) → is_among found key ≡ list_any (refers_anew lookup.old.arena.now.tree index.now key) former.now) }
     ensures tree { lookup.new.arena.now.tree ≡ lookup.old.arena.now.tree }
 {
+    let mut added = ElementsById::new(alloc);
     let mut found = Elements::new(alloc);
     for target in former {
-        add_anew(alloc, lookup, index, target, &mut found)?;
+        add_anew(alloc, lookup, index, target, &mut added, &mut found)?;
     }
     Ok(found)
 }
@@ -158,9 +187,9 @@ pub struct Referring {
 /// is this. Each element is there once, in the order in which it was found. An id counts where it names another element than
 /// before, or one that is changed: the elements that refer to it may be many where it does not.
 ///
-/// It takes memory of these elements, and time in them and in the ids of the former targets, of the changed elements and of
-/// the first elements: it looks up each id once, in time in the number of elements that hold it, for each of them linear in
-/// how deep they are; and it walks nowhere.
+/// It takes memory of these elements and of ids, and time in these elements and in the ids of the former targets, of the changed
+/// elements and of the first elements: it looks up each id once, in time in the number of elements that hold it, for each of them
+/// linear in how deep they are; where several refer to an id, it goes through them three times at most; and it walks nowhere.
 pub fn referring_elements(
     alloc: Global,
     arena: &Arena,

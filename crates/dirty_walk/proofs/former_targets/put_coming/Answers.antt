@@ -9,7 +9,7 @@ use Rattle.dirty_walk.proofs.former_targets.put_coming.Goals as goal
 
 pub returns-in_ok-moved-in-Move : goal.returns-in_ok-moved-in-Move
 returns-in_ok-moved-in-Move c =
-    let tree = c.args.arena.now.tree in
+    let tree = c.args.lookup.now.arena.now.tree in
     let there : formers_of tree c.as_slice.result.now ≡ coming_formers tree c.args.edit.now = ap (formers_of tree) (c.as_slice.ensures.items ∙ c.in_ok-moved-in-Move.ensures.elements)
     ∙ ap (λ link. formers_of tree (elements_in (alone (on_link tree link)))) c.at.ensures.link
     ∙ ap (λ trees. formers_of tree (elements_in (alone trees))) (on-link-path tree c.in-Move.from c.arena_holds_document.ensures.document.distinct)

@@ -1,4 +1,4 @@
-use Rattle.std.proofs.Common.{◌<◌, ◌++◌, ◌∙◌, [], ap, arith, get_or, length, sym, take}
+use Rattle.std.proofs.Common.{◌<◌, ◌++◌, ◌∙◌, [], ap₂, ap, arith, get_or, length, sym, take}
 use Rattle.std.proofs.lemmas.List.{flat_map_more, take_more}
 use Rattle.plain_types.specs.Rows.{row, rows}
 use Rattle.plain_types.specs.declared.node.Node.TheVariants.{Text}
@@ -13,12 +13,16 @@ one = row 0 (Text [])
 
 pub loop-place-preserved : goal.loop-place-preserved
 loop-place-preserved c =
-    let tree = c.args.arena.now.tree in
+    let tree = c.args.lookup.now.arena.now.tree in
     let all = rows 0 c.args.fragment.now in
     let place = c.loop-place.place in
     let within : place < length all = omega (arith, c.loop-place-test.true, c.len-place-end.ensures.nodes) in
     let next = get_or all place one in
-    c.in_ok-put_node.ensures.ok next.node (c.node.ensures.shown one)
-    ∙ ap (λ former. former ++ former_of tree (id_of next.node)) c.loop-place.invariant
-    ∙ flat_map_more (λ (row : Row). former_of tree (id_of row.node)) c.args.former.now (take place all) next
-    ∙ ap (λ some. c.args.former.now ++ formers_in tree some) (sym (take_more all place one within))
+    record {
+      former =
+          c.in_ok-put_node.ensures.ok next.node (c.node.ensures.shown one)
+          ∙ ap₂ (λ tree former. former ++ former_of tree (id_of next.node)) c.loop-place.invariant.tree c.loop-place.invariant.former
+          ∙ flat_map_more (λ (row : Row). former_of tree (id_of row.node)) c.args.former.now (take place all) next
+          ∙ ap (λ some. c.args.former.now ++ formers_in tree some) (sym (take_more all place one within));
+      tree = c.put_node.ensures.tree ∙ c.loop-place.invariant.tree;
+    }

@@ -4,4 +4,7 @@ use Rattle.dirty_walk.specs.Machinery.FormerLists.{formers_in}
 use Rattle.dirty_walk.proofs.former_targets.put_fragment.Given as goal
 
 abbrev pub invariant-loop-place : goal.invariant-loop-place
-invariant-loop-place l = l.former ≡ l.fn.former ++ formers_in l.arena.tree (take l.place (rows 0 l.fragment))
+invariant-loop-place l = record {
+  former : l.former ≡ l.initial.former ++ formers_in l.initial.lookup.arena.now.tree (take l.place (rows 0 l.fragment));
+  tree : l.lookup.arena.now.tree ≡ l.initial.lookup.arena.now.tree;
+}
