@@ -25,12 +25,13 @@ use Rattle.marker_cli.proofs.SameLemmas.{same_version, same_versions}
 abbrev after : Edit → StyledDocument → Source
 after edit book = record { tree = edits.edited edit (source_of book).tree; sheet = edits.edited_sheet edit (source_of book).sheet }
 
-placed_by : (place : Option PlaceFault) (source new : Source) → ◌≡◌ {A = Result Source PlaceFault} (elim place [ None ↦ Ok source | Some fault ↦ Err fault ]) (Ok new) → place ≡ None
-placed_by None source new is = refl
-placed_by (Some fault) source new is = absurd (cc is)
+pub placed_none : (place : Option PlaceFault) (source new : Source) → ◌≡◌ {A = Result Source PlaceFault} (elim place [ None ↦ Ok source | Some fault ↦ Err fault ]) (Ok new)
+    → (place ≡ None) × (source ≡ new)
+placed_none None source new is = (refl, cc)
+placed_none (Some fault) source new is = absurd (cc is)
 
 placed : (edit : Edit) (old new : StyledDocument) → edited_source (source_of old) edit ≡ Ok (source_of new) → place_fault edit (version_of old).document ≡ None
-placed edit old new is = placed_by (place_fault edit (version_of old).document) (after edit old) (source_of new) is
+placed edit old new is = (placed_none (place_fault edit (version_of old).document) (after edit old) (source_of new) is).0
 
 refused_by : (P : PlaceFault → Type 0) (place : Option PlaceFault) (source : Source) → IfErr (elim place [ None ↦ Ok source | Some fault ↦ Err fault ]) P → IfSome place P
 refused_by P None source refused = tt
@@ -47,6 +48,10 @@ module _ (edit : Edit) (old new : StyledDocument) where
       subst (λ version. IsSameVersion version (version_after edit (version_of old))) (sym (done_is edit old new (placed edit old new is) is))
       (same_version (version_after edit (version_of old)))
 
+pub engine_memory : (result : Result (Unit {0}) EditFault) (edit : Edit) (old : StyledDocument) → IfOk (edited_source (source_of old) edit) (λ _. IfErr result (λ fault. fault ≡ edit_faults.Memory))
+    → place_fault edit (version_of old).document ≡ None → IfErr result (λ fault. fault ≡ edit_faults.Memory)
+engine_memory result edit old memory = memory_by (IfErr result (λ fault. fault ≡ edit_faults.Memory)) (place_fault edit (version_of old).document) (after edit old) memory
+
 module _ (result : Result (Unit {0}) EditFault) (edit : Edit) where
   pub engine_answers : (old new : StyledDocument) → OnOk result (edited_source (source_of old) edit ≡ Ok (source_of new))
       → IfErr (edited_source (source_of old) edit) (λ fault. result ≡ Err (edit_fault fault))
@@ -56,7 +61,7 @@ module _ (result : Result (Unit {0}) EditFault) (edit : Edit) where
     place = on_ok_weaker result (λ is. placed edit old new is) ok;
     done = on_ok_weaker result (λ is. record { present = after_is edit old new is; past = tt; future = tt }) ok;
     refused = refused_by (λ fault. result ≡ Err (edit_fault fault)) (place_fault edit (version_of old).document) (after edit old) refused;
-    memory = memory_by (IfErr result (λ fault. fault ≡ edit_faults.Memory)) (place_fault edit (version_of old).document) (after edit old) memory;
+    memory = engine_memory result edit old memory;
     stays = on_err_weaker result (λ same. ap (λ book. begun (version_of book)) same) failed;
   }
 
@@ -83,7 +88,7 @@ history_answers result edit old new ok behind none refused memory failed = recor
   place = on_ok_weaker result (λ is. placed edit old.book new.book is) ok;
   done = done_by result edit old new ok behind none;
   refused = refused_by (λ fault. result ≡ Err (edit_fault fault)) (place_fault edit (version_of old.book).document) (after edit old.book) refused;
-  memory = memory_by (IfErr result (λ fault. fault ≡ edit_faults.Memory)) (place_fault edit (version_of old.book).document) (after edit old.book) memory;
+  memory = engine_memory result edit old.book memory;
   stays = on_err_weaker result (λ same. ap of_history same) failed;
 }
 

@@ -12,6 +12,9 @@ mod PlayLemmas
 mod SameLemmas
 mod StepLemmas
 mod EditorLemmas
+mod TakenLemmas
+mod PlayedLemmas
+mod PlayedBookLemmas
 mod OpenBookLemmas
 mod PlayBookLemmas
 mod FaultLemmas

@@ -1,10 +1,10 @@
 -- A volume that is open at one of its chapters, and what its calls make of it.
-use Rattle.std.proofs.Common.{◌≡◌, ℕ, zero, suc, ◌<◌, ◌≤◌, ◌+◌, ◌*◌, Bool, true, false, if◌then◌else◌, List, [], ◌∷◌, ◌++◌, length, map, take, drop, get_or, set, Option, Result, option_map, slice_get, refl, sym, ap, subst, ◌∙◌, arith}
-use Rattle.std.specs.Prelude.{Some, None, Ok, Err, IfErr, IfOk, IfSome}
+use Rattle.std.proofs.Common.{◌≡◌, ℕ, zero, suc, ◌<◌, ◌≤◌, ◌+◌, ◌*◌, Bool, true, false, if◌then◌else◌, List, [], ◌∷◌, ◌++◌, length, map, take, drop, get_or, set, Option, Result, option_map, slice_get, unwrap_or, refl, sym, ap, subst, ◌∙◌, arith}
+use Rattle.std.specs.Prelude.{Some, None, Ok, Err, IfErr, IfOk, IfSome, OnErr, OnOk}
 use Rattle.std.specs.List.{AllByRecursion, position, position_or_len}
 use Rattle.std.specs.Str.{bytes_eq}
 use Rattle.std.proofs.lemmas.Grind.{common_steps}
-use Rattle.std.proofs.lemmas.List.{drop-set-lt, get_or-map, get_or-set_same, length-map, map-set, take-set}
+use Rattle.std.proofs.lemmas.List.{drop-set-lt, get_or-map, get_or-set_same, length-map, length-set, map-set, take-set}
 use Rattle.std.proofs.lemmas.List.Quantifiers.{position-Some}
 use Rattle.std.proofs.lemmas.List.Sums.{fails_before_first}
 use Rattle.std.proofs.lemmas.Option.{get_or_from_slice_get, slice_get-get_or}
@@ -16,9 +16,10 @@ use Rattle.book_refs.specs.Edited.{IsEditedAt, IsEditedChapter}
 use Rattle.book_refs.specs.Given.{given_source}
 use Rattle.book_refs.specs.Laws.{WorkIsThatOfTheTrees}
 use Rattle.book_refs.specs.ShowWork.{chapter_work, fresh_chapter_work}
-use Rattle.book_refs.specs.Volumes.{place_named, source_of}
+use Rattle.book_refs.specs.Volumes.{keyed_source, place_named, source_of}
+use Rattle.dirty_walk.specs.WorkBounds.{IsWithinWork, StopsWithinWork}
 use Rattle.document_walk.specs.Elements.{element_count}
-use Rattle.forest.specs.Forest.{Empty}
+use Rattle.edit_merge.specs.Laws.{InsertsOneTree}
 use Rattle.forest.specs.Keys.{HasDistinctKeys, without_keys}
 use Rattle.marker_engine.specs.Edited.{edit_fault, edited as edited_source}
 use Rattle.marker_engine.specs.Engines.{Source}
@@ -26,15 +27,18 @@ use Rattle.marker_engine.specs.declared.edit_fault.EditFault.{EditFault}
 use Rattle.marker_engine.specs.declared.edit_fault.EditFault.TheVariants as edit_faults
 use Rattle.node_arena.specs.Document.{IsKeyedDocument}
 use Rattle.node_arena.specs.Edits as edits
-use Rattle.node_arena.specs.Edits.{place_fault}
+use Rattle.node_arena.specs.Edits.{IsEdited, place_fault}
 use Rattle.node_arena.specs.declared.place_fault.PlaceFault.{PlaceFault}
 use Rattle.plain_types.specs.declared.edit.Edit.{Edit}
 use Rattle.marker_cli.specs.declared.status.Status.{Status}
 use Rattle.marker_cli.specs.BookSteps.{show_chapter_steps}
 use Rattle.marker_cli.specs.EditSteps.{edit_steps}
+use Rattle.marker_cli.specs.Machinery.Takings.{TakesEdit}
 use Rattle.marker_cli.specs.OpenBooks.{OpenBook, edited_book, edited_chapter, entered, opened, opened_at, version_in, volume_of}
-use Rattle.marker_cli.specs.OpenVolumes.{no_chapter, open_at}
+use Rattle.marker_cli.specs.OpenVolumes.{OpenVolume, no_chapter, no_keyed_chapter, open_at, present_chapter, present_document, turned_to, with_document}
+use Rattle.marker_cli.proofs.EditorLemmas.{placed_none}
 use Rattle.marker_cli.proofs.StepLemmas.{placed_by}
+use Rattle.marker_cli.proofs.TakenLemmas.{engine_took}
 
 -- At the start.
 
@@ -76,11 +80,6 @@ whole_by (first ∷ rest) (suc place) within = ap (λ (chapters : List ChapterSo
 abbrev after : Edit → Source → Source
 after edit source = record { tree = edits.edited edit source.tree; sheet = edits.edited_sheet edit source.sheet }
 
-placed_none : (place : Option PlaceFault) (source new : Source) → ◌≡◌ {A = Result Source PlaceFault} (elim place [ None ↦ Ok source | Some fault ↦ Err fault ]) (Ok new)
-    → (place ≡ None) × (source ≡ new)
-placed_none None source new is = (refl, cc)
-placed_none (Some fault) source new is = absurd (cc is)
-
 refused_by : (P : PlaceFault → Type 0) (place : Option PlaceFault) (source : Source) → IfErr (elim place [ None ↦ Ok source | Some fault ↦ Err fault ]) P → IfSome place P
 refused_by P None source refused = tt
 refused_by P (Some fault) source refused = refused
@@ -107,11 +106,8 @@ keys_apart (chapter ∷ chapters) all = (all.0.distinct, keys_apart chapters all
 
 -- The present chapter, with its keys.
 
-abbrev keyed_none : Chapter
-keyed_none = record { name = []; document = Empty; sheet = [] }
-
 abbrev present_in : List Chapter → ℕ → Chapter
-present_in volume place = get_or volume place keyed_none
+present_in volume place = present_chapter (record { chapters = volume; place = place })
 
 keyed_at : (volume : List Chapter) (place : ℕ) → place < length volume → AllByRecursion (λ (chapter : Chapter). IsKeyedDocument chapter.document) volume
     → IsKeyedDocument (present_in volume place).document
@@ -121,20 +117,20 @@ keyed_at (chapter ∷ chapters) (suc place) within all = keyed_at chapters place
 
 module _ (volume : List Chapter) (place : ℕ) (within : place < length volume) where
   present_is : (open_at (map chapter_source volume) place).present ≡ chapter_source (present_in volume place)
-  present_is = get_or-map chapter_source volume place keyed_none no_chapter within
+  present_is = get_or-map chapter_source volume place no_keyed_chapter no_chapter within
 
   whole : volume_of (open_at (map chapter_source volume) place) ≡ map chapter_source volume
   whole = let many = volume_many volume in whole_by (map chapter_source volume) place (omega (arith, many, within))
 
   at_present : (holds : Chapter → Type 0) → IfSome (slice_get volume place) holds → holds (present_in volume place)
-  at_present holds is = subst (λ (chapter : Option Chapter). IfSome chapter holds) (slice_get-get_or volume place keyed_none within) is
+  at_present holds is = subst (λ (chapter : Option Chapter). IfSome chapter holds) (slice_get-get_or volume place no_keyed_chapter within) is
 
   -- Edits.
   module _ (edit : Edit) where
     pub edit_placed : (new : List Chapter) → IsEditedAt place edit volume new → place_fault edit (open_at (map chapter_source volume) place).present.tree ≡ None
     edit_placed new is =
         subst (λ (chapter : ChapterSource). place_fault edit chapter.tree ≡ None)
-        (sym (present_is ∙ ap chapter_source (get_or_from_slice_get volume place is.before keyed_none is.was)))
+        (sym (present_is ∙ ap chapter_source (get_or_from_slice_get volume place is.before no_keyed_chapter is.was)))
         (placed edit is.before is.after is.chapter.source)
 
     pub edit_done : (new : List Chapter) → IsEditedAt place edit volume new → open_at (map chapter_source new) place ≡ edited_book edit (open_at (map chapter_source volume) place)
@@ -144,7 +140,7 @@ module _ (volume : List Chapter) (place : ℕ) (within : place < length volume) 
         let chapter : ChapterSource = chapter_source is.after in
         let here : place < length chapters = omega (arith, many, within) in
         let was : chapter_source is.before ≡ get_or chapters place no_chapter =
-        sym (present_is ∙ ap chapter_source (get_or_from_slice_get volume place is.before keyed_none is.was)) in
+        sym (present_is ∙ ap chapter_source (get_or_from_slice_get volume place is.before no_keyed_chapter is.was)) in
         let edited_is : get_or (set chapters place chapter) place no_chapter ≡ edited_chapter edit (get_or chapters place no_chapter) =
         get_or-set_same chapters place chapter no_chapter here ∙ chapter_edited edit is.before is.after is.chapter ∙ ap (edited_chapter edit) was in
         ap (λ (chapters : List Chapter). open_at (map chapter_source chapters) place) is.is
@@ -154,6 +150,36 @@ module _ (volume : List Chapter) (place : ℕ) (within : place < length volume) 
           present = edited_is i;
           after = drop-set-lt (suc place) chapters place chapter (omega arith) i;
         })
+
+    -- The chapter that is there then, with its keys. The others stay with theirs.
+    module _ (new : List Chapter) (is : IsEditedAt place edit volume new) where
+      was_there : present_in volume place ≡ is.before
+      was_there = get_or_from_slice_get volume place is.before no_keyed_chapter is.was
+
+      is_there : present_in new place ≡ is.after
+      is_there = ap (λ (chapters : List Chapter). get_or chapters place no_keyed_chapter) is.is ∙ get_or-set_same volume place is.after no_keyed_chapter within
+
+      still_there : place < length new
+      still_there =
+          let many = ap (λ (chapters : List Chapter). length chapters) is.is in
+          let same = length-set volume place is.after in
+          omega (arith, within, many, same)
+
+      pub edit_left : ◌≡◌ {A = OpenVolume} (record { chapters = new; place = place })
+          (with_document (record { chapters = volume; place = place }) (present_document (record { chapters = new; place = place })))
+      edit_left =
+          let chapter : is.after ≡ record { name = (present_in volume place).name; document = (present_in new place).document; sheet = (present_in new place).sheet } =
+          (λ i. record { name = (is.chapter.name ∙ ap (λ (c : Chapter). c.name) (sym was_there)) i; document = (sym is_there i).document; sheet = (sym is_there i).sheet }) in
+          let chapters = is.is ∙ ap (set volume place) chapter in
+          (λ i. record { chapters = chapters i; place = place })
+
+      present_keyed : IsEdited edit (present_in volume place).document (present_in new place).document
+      present_keyed = subst (λ (c : Chapter). IsEdited edit c.document (present_in new place).document) (sym was_there) (subst (λ (c : Chapter). IsEdited edit is.before.document c.document) (sym is_there) is.chapter.keys)
+
+      present_source : edited_source (source_of (present_in volume place)) edit ≡ Ok (source_of (present_in new place))
+      present_source =
+          subst (λ (c : Chapter). edited_source (source_of c) edit ≡ Ok (source_of (present_in new place))) (sym was_there)
+          (subst (λ (c : Chapter). edited_source (source_of is.before) edit ≡ Ok (source_of c)) (sym is_there) is.chapter.source)
 
     module _ (result : Result (Unit {0}) EditFault) where
       pub edit_refused : IfSome (slice_get volume place) (λ chapter. IfErr (edited_source (source_of chapter) edit) (λ fault. result ≡ Err (edit_fault fault)))
@@ -182,6 +208,25 @@ module _ (volume : List Chapter) (place : ℕ) (within : place < length volume) 
         (placed_by (version_in (chapter_source own)) edit (after edit (source_of own)) (place_fault edit (chapter_source own).tree) low high refl
         (at_present (λ chapter. IfOk (edited_source (source_of chapter) edit) (λ source. low ≤ high + (12 * element_count source.tree + 2 * element_count (source_of chapter).tree))) most)
         (at_present (λ chapter. IfErr (edited_source (source_of chapter) edit) (λ _. low ≡ high)) none))
+
+    pub chapter_took : (result : Result (Unit {0}) EditFault) (new : List Chapter) (low high : ℕ) → IsVolume volume → IsVolume new → InsertsOneTree edit → OnOk result (IsEditedAt place edit volume new)
+        → OnOk result (IfSome (slice_get volume place) (λ before. IfSome (slice_get new place) (λ after. IsWithinWork edit (keyed_source before) (keyed_source after) high low)))
+        → OnErr result (IfSome (slice_get volume place) (λ before. StopsWithinWork edit (keyed_source before) high low))
+        → low ≤ high + edit_steps (version_in (open_at (map chapter_source volume) place).present) edit → OnErr result (new ≡ volume)
+        → TakesEdit result edit (keyed_source (present_in volume place)) (keyed_source (present_in new place)) high low
+    chapter_took (Ok value) new low high old_volume new_volume one is paid stops most same =
+        engine_took (Ok value) edit (keyed_source (present_in volume place)) (keyed_source (present_in new place)) high low (keyed_at volume place within old_volume.documents)
+        (keyed_at new place (still_there new is) new_volume.documents) one (present_source new is) (present_keyed new is)
+        (subst (λ (c : Option Chapter). IfSome c (λ after. IsWithinWork edit (keyed_source (present_in volume place)) (keyed_source after) high low))
+        (slice_get-get_or new place no_keyed_chapter (still_there new is))
+        (at_present (λ before. IfSome (slice_get new place) (λ after. IsWithinWork edit (keyed_source before) (keyed_source after) high low)) paid))
+        tt (subst (λ (chapter : ChapterSource). low ≤ high + edit_steps (version_in chapter) edit) present_is most) tt
+    chapter_took (Err fault) new low high old_volume new_volume one is paid stops most same =
+        engine_took (Err fault) edit (keyed_source (present_in volume place)) (keyed_source (present_in new place)) high low (keyed_at volume place within old_volume.documents)
+        (subst (λ (chapters : List Chapter). IsKeyedDocument (present_in chapters place).document) (sym same) (keyed_at volume place within old_volume.documents)) one tt tt tt
+        (at_present (λ before. StopsWithinWork edit (keyed_source before) high low) stops)
+        (subst (λ (chapter : ChapterSource). low ≤ high + edit_steps (version_in chapter) edit) present_is most)
+        (ap (λ (chapters : List Chapter). keyed_source (present_in chapters place)) same)
 
   -- What is shown.
 
@@ -241,11 +286,19 @@ module _ (name : List ℕ) (volume : List Chapter) (present : ℕ) (within : pre
   pub enter_led : (place : ℕ) → Some place ≡ place_named volume name
       → (place < length volume) × (entered name (open_at (map chapter_source volume) present) ≡ found (open_at (map chapter_source volume) place))
   enter_led place is =
-      let facts = position-Some (is_named name) volume place keyed_none (sym is) in
+      let facts = position-Some (is_named name) volume place no_keyed_chapter (sym is) in
       (facts.0, ap (opened_at name) (whole volume present within) ∙ led_by name volume place facts.0 facts.1 facts.2)
 
   pub enter_missed : None ≡ place_named volume name → entered name (open_at (map chapter_source volume) present) ≡ missed
   enter_missed is =
       let past = position_past (is_named name) volume (sym is) in
       ap (opened_at name) (whole volume present within)
-      ∙ missed_by name volume (λ other lower. fails_before_first (is_named name) volume other keyed_none (omega (arith, past, lower)))
+      ∙ missed_by name volume (λ other lower. fails_before_first (is_named name) volume other no_keyed_chapter (omega (arith, past, lower)))
+
+  pub enter_turned : (place : ℕ) → Some place ≡ place_named volume name
+      → ◌≡◌ {A = OpenVolume} (record { chapters = volume; place = place }) (turned_to name (record { chapters = volume; place = present }))
+  enter_turned place is = ap (λ (led : Option ℕ). record { chapters = volume; place = unwrap_or led present }) is
+
+  pub enter_stayed : None ≡ place_named volume name
+      → ◌≡◌ {A = OpenVolume} (record { chapters = volume; place = present }) (turned_to name (record { chapters = volume; place = present }))
+  enter_stayed is = ap (λ (led : Option ℕ). record { chapters = volume; place = unwrap_or led present }) is

@@ -1,5 +1,5 @@
 -- From the words of a run to its command.
-use Rattle.std.proofs.Common.{◌≡◌, ◌∙◌, ◌+◌, ℕ, List, [], ◌∷◌, Option, Result, sym, ap, subst, refl}
+use Rattle.std.proofs.Common.{◌≡◌, ◌≤◌, ◌∙◌, ◌+◌, ℕ, List, [], ◌∷◌, Option, Result, arith, inl, sym, ap, subst, refl}
 use Rattle.std.specs.Prelude.{Some, None, Ok, Err}
 use Rattle.std.specs.List.{AllZip}
 use Rattle.bake_book.specs.Dressing.{dressed_document}
@@ -26,11 +26,13 @@ use Rattle.marker_cli.specs.Lines.{message}
 use Rattle.marker_cli.specs.Names.{TellsOfLine}
 use Rattle.marker_cli.specs.Output.{ends}
 use Rattle.marker_cli.specs.Parts.{HaveTexts, PartsReadAs}
-use Rattle.marker_cli.specs.Run.{AreReadings, Readings, TextsReadAs, form_output, form_size, form_steps, most_run_steps, output, read_size}
+use Rattle.marker_cli.specs.Run.{AreReadings, IsFormWithinWork, IsRunWithinWork, Readings, TextsReadAs, form_output, form_size, form_steps, most_run_steps, output, read_size}
 use Rattle.marker_cli.specs.Turns.{text_in}
 use Rattle.marker_cli.specs.Words.{Form, IsForm, ReadsAsForm, aspect, bake, book, edit, gen, table}
 use Rattle.marker_cli.proofs.BakeLemmas.{SomeOutput, baked_as, placed_document}
 use Rattle.marker_cli.proofs.FormLemmas.{one_form}
+use Rattle.marker_cli.proofs.PlayedLemmas.{script_still}
+use Rattle.marker_cli.proofs.PlayedBookLemmas.{book_still}
 
 -- the output, by the form of the words
 read_as : (words : List (List ℕ)) (form : Form) (read : Option Form) → IsForm words form → ReadsAsForm words read → read ≡ Some form
@@ -50,6 +52,19 @@ module _ (words : List (List ℕ)) (files : Files) (readings : Readings) (form :
 
   pub steps_same : ReadsAsForm words readings.form → form_steps files readings (Some form) ≡ most_run_steps files readings
   steps_same reads = sym (ap (λ read. form_steps files readings read) (read_as words form readings.form is reads))
+
+  pub within_same : (old new : ℕ) → ReadsAsForm words readings.form → IsFormWithinWork files readings (Some form) old new → IsRunWithinWork files readings old new
+  within_same old new reads within = subst (λ read. IsFormWithinWork files readings read old new) (sym (read_as words form readings.form is reads)) within
+
+-- a run that took no step
+pub run_still : (files : Files) (readings : Readings) (read : Option Form) (old new : ℕ) → new ≤ old → IsFormWithinWork files readings read old new
+run_still files readings None old new still = tt
+run_still files readings (Some (aspect what doc sheet)) old new still = tt
+run_still files readings (Some (bake doc sheet)) old new still = tt
+run_still files readings (Some (edit doc sheet commands depth)) old new still = script_still files doc sheet commands depth readings.document readings.script old new still
+run_still files readings (Some (book sheet commands documents)) old new still = book_still files sheet commands documents readings.parts readings.script old new still
+run_still files readings (Some (table sheet style from to)) old new still = tt
+run_still files readings (Some (gen seed count)) old new still = inl (omega (arith, still))
 
 -- each text has a reading
 some_tree : (files : Files) (document sheet : List ℕ) → (reading : Reading) × DocumentReadsAs files document sheet reading

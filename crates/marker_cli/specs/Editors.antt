@@ -1,6 +1,8 @@
 -- What an editor stands for, and what its calls answer (our own).
 use Rattle.std.specs.Prelude.{◌≡◌, ◌↔◌, ℕ, Option, None, Result, Err, OnOk, OnErr, IfErr, IfSome, IsSomeAnd}
+use Rattle.dirty_walk.specs.Books.{keyed_source}
 use Rattle.edit_inverses.specs.Versions.{AreSameVersions, IsSameVersion}
+use Rattle.edit_work.specs.KeyedSources.{KeyedSource}
 use Rattle.marker_engine.specs.Edited.{edit_fault}
 use Rattle.marker_engine.specs.declared.edit_fault.EditFault.{EditFault}
 use Rattle.marker_engine.specs.declared.edit_fault.EditFault.TheVariants as edit_faults
@@ -17,6 +19,11 @@ use Rattle.marker_cli.specs.Versions.{Versions, begun, edited}
 abbrev pub versions_of : Editor → Versions
 versions_of (Plain engine) = begun (version_of engine)
 versions_of (Versioned history) = record { present = present history; past = past history; future = future history }
+
+-- its document, whose nodes have keys, and the sheet
+abbrev pub document_of : Editor → KeyedSource
+document_of (Plain engine) = keyed_source engine
+document_of (Versioned history) = keyed_source history.book
 
 -- how many of its edits can be undone at most
 abbrev pub depth_of : Editor → ℕ

@@ -13,6 +13,7 @@ use Rattle.plain_types.specs.declared.edit.Edit.{Edit}
 use Rattle.marker_cli.specs.declared.status.Status.TheVariants as status
 use Rattle.marker_cli.specs.EditSteps.{edit_steps, show_steps, start_steps}
 use Rattle.marker_cli.specs.Output.{Output, ends, writes}
+use Rattle.marker_cli.specs.WorkSteps.{EditsTake, IsWithinCalls}
 
 -- a document under its sheet after some edits, and how many of these were accepted and refused
 pub record Outcome : Type 0 where
@@ -75,3 +76,7 @@ outcome_steps edits source = edits_steps edits (unedited source) + show_steps (v
 
 abbrev pub most_generated_steps : ℕ → ℕ → ℕ
 most_generated_steps seed count = start_steps (document seed count) + outcome_steps (edits_of seed count) (record { tree = document seed count; sheet = sheet })
+
+-- and by the work of its edits
+abbrev pub IsGeneratedWithinWork : ℕ → ℕ → (old new : ℕ) → Type 0
+IsGeneratedWithinWork seed count old new = IsWithinCalls (record { document = document seed count; sheet = sheet }) (EditsTake (edits_of seed count)) old new

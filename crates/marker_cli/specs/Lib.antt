@@ -2,6 +2,7 @@ pub mod Aspects
 pub mod Bake
 pub mod Book
 pub mod BookSteps
+pub mod BookWork
 pub mod Documents
 pub mod Edit
 pub mod EditSteps
@@ -19,4 +20,5 @@ pub mod Table
 pub mod Turns
 pub mod Versions
 pub mod Words
+pub mod WorkSteps
 pub mod Machinery

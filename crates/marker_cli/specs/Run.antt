@@ -11,14 +11,16 @@ use Rattle.marker_cli.specs.Aspects.{aspect_output, most_steps}
 use Rattle.marker_cli.specs.Bake.{BakesTo, bake_output, most_bake_steps}
 use Rattle.marker_cli.specs.Book.{BookScriptReadsAs, book_output}
 use Rattle.marker_cli.specs.BookSteps.{most_book_steps}
+use Rattle.marker_cli.specs.BookWork.{IsBookWithinWork}
 use Rattle.marker_cli.specs.Documents.{DocumentReadsAs, Reading}
 use Rattle.marker_cli.specs.Edit.{ScriptReadsAs, edit_output, kind_of}
 use Rattle.marker_cli.specs.EditSteps.{most_edit_steps}
-use Rattle.marker_cli.specs.Generated.{generated_output, most_generated_steps}
+use Rattle.marker_cli.specs.Generated.{IsGeneratedWithinWork, generated_output, most_generated_steps}
 use Rattle.marker_cli.specs.Names.{name_at}
 use Rattle.marker_cli.specs.Output.{ComesAfter, Output, ends}
 use Rattle.marker_cli.specs.Parts.{PartsReadAs}
 use Rattle.marker_cli.specs.Table.{table_output}
+use Rattle.marker_cli.specs.WorkSteps.{IsScriptWithinWork}
 use Rattle.marker_cli.specs.Words.{Form, IsForm, ReadsAsForm, aspect, bake, book, edit, gen, table}
 
 -- what the words and the texts of a run read as, the documents of a book one by one, and the text that DOC bakes to
@@ -129,3 +131,14 @@ form_steps files readings (Some (gen seed count)) = most_generated_steps seed co
 
 abbrev pub most_run_steps : Files → Readings → ℕ
 most_run_steps files readings = form_steps files readings readings.form
+
+-- The same by the work of edits, where the words are of a form that makes some. Of the others this says nothing more.
+abbrev pub IsFormWithinWork : Files → Readings → Option Form → (old new : ℕ) → Type 0
+IsFormWithinWork files readings (Some (edit doc sheet commands depth)) old new =
+    IsScriptWithinWork files doc sheet commands depth readings.document readings.script old new
+IsFormWithinWork files readings (Some (book sheet commands documents)) old new = IsBookWithinWork files sheet commands documents readings.parts readings.script old new
+IsFormWithinWork files readings (Some (gen seed count)) old new = IsGeneratedWithinWork seed count old new
+IsFormWithinWork files readings _ old new = Unit {0}
+
+abbrev pub IsRunWithinWork : Files → Readings → (old new : ℕ) → Type 0
+IsRunWithinWork files readings old new = IsFormWithinWork files readings readings.form old new

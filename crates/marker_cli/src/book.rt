@@ -12,6 +12,7 @@ ghost use Rattle.ports.specs.Files.{Files};
 ghost use Rattle.xhtml_reader.specs.Readings.{ReadsAsDocument};
 ghost use Rattle.marker_cli.specs.Book.{BookScriptReadsAs, book_output};
 ghost use Rattle.marker_cli.specs.BookSteps.{most_book_steps};
+ghost use Rattle.marker_cli.specs.BookWork.{IsBookWithinWork};
 ghost use Rattle.marker_cli.specs.Documents.{Reading};
 ghost use Rattle.marker_cli.specs.Ends.{EndsAs, Gives, IsCaused, IsStop, ReadsFailed, part_status};
 ghost use Rattle.marker_cli.specs.Names.{TellsOfLine};
@@ -23,7 +24,7 @@ ghost use Rattle.marker_cli.specs.Machinery.Stands.{Goes};
 ghost use Rattle.marker_cli.specs.Words.{AreDocumentNames};
 
 use crate::fetch_text::fetch_text;
-use crate::open_book::OpenBook;
+use crate::open_book::{OpenBook, book_holds_documents};
 use crate::play_book::play_book;
 use crate::read_texts::{read_commands, read_part};
 use crate::status::{FileAt, Status};
@@ -141,6 +142,9 @@ pub fn book<S: Shelf, O: Sink, L: Ledger>(
     ensures steps { (files : Files) (readings : List Reading) (read : Result (List command.Command) ℕ) → S.held shelf.old ≡ Some files
         → PartsReadAs files (chars sheet.now) (chars script.now) documents.now readings → BookScriptReadsAs files (chars sheet.now) (chars script.now) documents.now read
         → steps.new ≤ steps.old + most_book_steps files (chars sheet.now) (chars script.now) documents.now readings read }
+    ensures within_work { (files : Files) (readings : List Reading) (read : Result (List command.Command) ℕ) → S.held shelf.old ≡ Some files
+        → PartsReadAs files (chars sheet.now) (chars script.now) documents.now readings → BookScriptReadsAs files (chars sheet.now) (chars script.now) documents.now read
+        → IsBookWithinWork files (chars sheet.now) (chars script.now) documents.now readings read steps.old steps.new }
 {
     let style = fetch_text(alloc, shelf, FileAt::Word(1), sheet)?;
     let lines = fetch_text(alloc, shelf, FileAt::Word(2), script)?;
@@ -148,5 +152,6 @@ pub fn book<S: Shelf, O: Sink, L: Ledger>(
     let chapters = read_chapters(alloc, documents, texts.as_slice(), style.as_str())?;
     *commands = read_commands(alloc, ScriptKind::Book, lines.as_str())?;
     let mut book = OpenBook::start(alloc, chapters, steps)?;
+    book_holds_documents(&book);
     play_book(alloc, commands.as_slice(), &mut book, shelf, out, steps)
 }

@@ -11,8 +11,9 @@ ghost use Rattle.marker_cli.specs.EditSteps.{most_edit_steps};
 ghost use Rattle.marker_cli.specs.Ends.{EndsAs, IsCaused, IsStop, ReadsFailed, part_status};
 ghost use Rattle.marker_cli.specs.Names.{TellsOfLine};
 ghost use Rattle.marker_cli.specs.Run.{commands_in, commands_size, size_of};
+ghost use Rattle.marker_cli.specs.WorkSteps.{IsScriptWithinWork};
 
-use crate::editor::Editor;
+use crate::editor::{Editor, engine_holds_document};
 use crate::fetch_text::fetch_text;
 use crate::play::play;
 use crate::read_texts::{read_commands, read_tree};
@@ -66,6 +67,9 @@ pub fn edit<S: Shelf, O: Sink, L: Ledger>(
     ensures steps { (files : Files) (reading : Reading) (read : Result (List command.Command) ℕ) → S.held shelf.old ≡ Some files
         → DocumentReadsAs files (chars document.now) (chars sheet.now) reading → ScriptReadsAs files (chars document.now) (chars sheet.now) (chars script.now) (kind_of depth) read
         → steps.new ≤ steps.old + most_edit_steps files (chars document.now) (chars sheet.now) (chars script.now) depth reading read }
+    ensures within_work { (files : Files) (reading : Reading) (read : Result (List command.Command) ℕ) → S.held shelf.old ≡ Some files
+        → DocumentReadsAs files (chars document.now) (chars sheet.now) reading → ScriptReadsAs files (chars document.now) (chars sheet.now) (chars script.now) (kind_of depth) read
+        → IsScriptWithinWork files (chars document.now) (chars sheet.now) (chars script.now) depth reading read steps.old steps.new }
 {
     let text = fetch_text(alloc, shelf, FileAt::Word(1), document)?;
     let style = fetch_text(alloc, shelf, FileAt::Word(2), sheet)?;
@@ -73,5 +77,6 @@ pub fn edit<S: Shelf, O: Sink, L: Ledger>(
     let tree = read_tree(alloc, text.as_str())?;
     *commands = read_commands(alloc, script_kind(depth), lines.as_str())?;
     let mut editor = Editor::start(alloc, tree, style.as_str(), depth, steps)?;
+    engine_holds_document(editor.engine());
     play(alloc, commands.as_slice(), &mut editor, shelf, out, steps)
 }

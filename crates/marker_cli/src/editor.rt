@@ -2,15 +2,19 @@
 
 ghost use Rattle.std.specs.Prelude.{◌≡◌, ◌≤◌, ◌+◌, IfOk, OnErr};
 ghost use Rattle.std.specs.Str.{chars};
-ghost use Rattle.node_arena.specs.Document.{HasElementRoot};
+ghost use Rattle.dirty_walk.specs.Books.{keyed_source};
+ghost use Rattle.node_arena.specs.Document.{HasElementRoot, IsKeyedDocument};
 ghost use Rattle.undo_ring.specs.Histories.{version_of};
 ghost use Rattle.marker_cli.specs.Edit.{kept_edits};
 ghost use Rattle.marker_cli.specs.EditSteps.{edit_steps, led_steps, start_steps};
-ghost use Rattle.marker_cli.specs.Editors.{AnswersEdit, AnswersStep, depth_of, versions_of};
+ghost use Rattle.marker_cli.specs.Editors.{AnswersEdit, AnswersStep, depth_of, document_of, versions_of};
+ghost use Rattle.marker_cli.specs.Machinery.Takings.{TakesEdit, TakesStep};
 ghost use Rattle.marker_cli.specs.Versions.{begun, redone, undone};
 
+use edit_merge::laws::inserts_one_tree;
 use marker_engine::edit_fault::EditFault;
 use marker_engine::engine::Engine;
+use node_arena::laws::arena_holds_document;
 use plain_types::edit::Edit;
 use plain_types::memory::Memory;
 use plain_types::tree::Tree;
@@ -25,6 +29,13 @@ use undo_ring::undo_fault::UndoFault;
 pub(crate) enum Editor {
     Plain(Engine),
     Versioned(History),
+}
+
+/// What an engine stands for is a document. The function does nothing: its contract is a law.
+pub(crate) fn engine_holds_document(engine: &Engine)
+    ensures { IsKeyedDocument engine.now.tree }
+{
+    arena_holds_document(engine.book().arena());
 }
 
 impl Editor {
@@ -57,6 +68,7 @@ impl Editor {
     /// The document under its sheet, as the commands leave it.
     pub(crate) fn engine(&self) -> &Engine
         ensures version { version_of result.now ≡ (versions_of self.now).present }
+        ensures document { keyed_source result.now ≡ document_of self.now }
     {
         match self {
             Editor::Plain(engine) => engine,
@@ -74,10 +86,22 @@ impl Editor {
         ensures answer { AnswersEdit result (depth_of self.old) edit.now (versions_of self.old) (versions_of self.new) }
         ensures depth { depth_of self.new ≡ depth_of self.old }
         ensures steps { steps.new ≤ steps.old + edit_steps (versions_of self.old).present edit.now }
+        ensures takes { TakesEdit result edit.now (document_of self.old) (document_of self.new) steps.old steps.new }
     {
+        inserts_one_tree(edit);
         match self {
-            Editor::Plain(engine) => engine.apply(alloc, edit, steps),
-            Editor::Versioned(history) => history.apply(alloc, edit, steps),
+            Editor::Plain(engine) => {
+                engine_holds_document(engine);
+                let outcome = engine.apply(alloc, edit, steps);
+                engine_holds_document(engine);
+                outcome
+            }
+            Editor::Versioned(history) => {
+                engine_holds_document(history.engine());
+                let outcome = history.apply(alloc, edit, steps);
+                engine_holds_document(history.engine());
+                outcome
+            }
         }
     }
 
@@ -90,10 +114,15 @@ impl Editor {
         ensures answer { AnswersStep result (versions_of self.old) (versions_of self.new) (undone (versions_of self.old)) }
         ensures depth { depth_of self.new ≡ depth_of self.old }
         ensures steps { steps.new ≤ steps.old + led_steps (versions_of self.old).present (undone (versions_of self.old)) }
+        ensures takes { TakesStep result (undone (versions_of self.old)) (document_of self.old) (document_of self.new) steps.old steps.new }
     {
         match self {
             Editor::Plain(_) => Err(UndoFault::Nothing),
-            Editor::Versioned(history) => history.undo(alloc, steps),
+            Editor::Versioned(history) => {
+                let outcome = history.undo(alloc, steps);
+                engine_holds_document(history.engine());
+                outcome
+            }
         }
     }
 
@@ -106,10 +135,15 @@ impl Editor {
         ensures answer { AnswersStep result (versions_of self.old) (versions_of self.new) (redone (versions_of self.old)) }
         ensures depth { depth_of self.new ≡ depth_of self.old }
         ensures steps { steps.new ≤ steps.old + led_steps (versions_of self.old).present (redone (versions_of self.old)) }
+        ensures takes { TakesStep result (redone (versions_of self.old)) (document_of self.old) (document_of self.new) steps.old steps.new }
     {
         match self {
             Editor::Plain(_) => Err(UndoFault::Nothing),
-            Editor::Versioned(history) => history.redo(alloc, steps),
+            Editor::Versioned(history) => {
+                let outcome = history.redo(alloc, steps);
+                engine_holds_document(history.engine());
+                outcome
+            }
         }
     }
 }

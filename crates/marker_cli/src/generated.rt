@@ -1,19 +1,27 @@
 //! The command `gen SEED COUNT`.
 
-ghost use Rattle.std.specs.Prelude.{◌≡◌, ◌≤◌, ◌<◌, ◌+◌, ◌^◌, IfErr, IfOk, OnOk, OnErr};
+ghost use Rattle.std.specs.Prelude.{◌≡◌, ◌≤◌, ◌<◌, ◌+◌, ◌^◌, ℕ, IfErr, IfOk, List, OnOk, OnErr, [], sum};
+ghost use Rattle.dirty_walk.specs.Books.{keyed_source};
+ghost use Rattle.forest.specs.Keys.{without_keys};
 ghost use Rattle.marker_engine.specs.Edited.{edited};
 ghost use Rattle.marker_engine.specs.Engines.{source_of};
+ghost use Rattle.node_arena.specs.Edits.{place_fault};
+ghost use Rattle.plain_types.specs.declared.edit.Edit as declared;
 ghost use Rattle.ports.specs.Causes.{HasCause, Rose};
 ghost use Rattle.ports.specs.Grown.{grown, GrowsByFront};
 ghost use Rattle.marker_cli.specs.EditSteps.{edit_steps};
 ghost use Rattle.marker_cli.specs.Ends.{EndsAs, IsCaused, IsStop, part_status};
-ghost use Rattle.marker_cli.specs.Generated.{after_edits, edits_steps, generated_output, most_generated_steps, number_lines, numbers, outcome_steps, unedited, version_in, with_answer};
+ghost use Rattle.marker_cli.specs.Generated.{IsGeneratedWithinWork, after_edits, edits_steps, generated_output, most_generated_steps, number_lines, numbers, outcome_steps, unedited, version_in, with_answer};
 ghost use Rattle.marker_cli.specs.Output.{ends, writes};
+ghost use Rattle.marker_cli.specs.Machinery.Takings.{Takes};
 ghost use Rattle.marker_cli.specs.Machinery.Tallies.{tallied};
+ghost use Rattle.marker_cli.specs.WorkSteps.{EditTakes, EditsTake};
 ghost use Rattle.marker_cli.specs.declared.status.Status.TheVariants as status;
 
+use crate::editor::engine_holds_document;
 use crate::put_number::put_numbered;
 use crate::status::Status;
+use edit_merge::laws::inserts_one_tree;
 use edit_script::generate;
 use edit_script::generator::GeneratedRun;
 use marker_engine::census::Census;
@@ -46,8 +54,14 @@ fn apply_counted<L: Ledger>(
     ensures counted { IfOk result (λ new. tallied (source_of engine.new) new ≡ with_answer (tallied (source_of engine.old) tally) (edited (source_of engine.old) edit.now)) }
     ensures sum { IfOk result (λ new. new.accepted + new.refused ≡ tally.accepted + tally.refused + 1) }
     ensures steps { steps.new ≤ steps.old + edit_steps (version_in (source_of engine.old)) edit.now }
+    ensures takes { (edits : List declared.Edit) → Takes (EditTakes (place_fault edit.now (without_keys engine.old.tree)) edit.now (keyed_source engine.old) (EditsTake edits (keyed_source engine.old)) (EditsTake edits))
+        (EditsTake edits (keyed_source engine.new)) steps.old steps.new result }
 {
-    match engine.apply(alloc, edit, steps) {
+    inserts_one_tree(edit);
+    engine_holds_document(engine);
+    let outcome = engine.apply(alloc, edit, steps);
+    engine_holds_document(engine);
+    match outcome {
         Ok(()) => Ok(Tally {
             accepted: tally.accepted + 1,
             refused: tally.refused,
@@ -69,6 +83,7 @@ fn apply_all<L: Ledger>(
 ) -> Result<Tally, Memory>
     ensures tally { IfOk result (λ tally. tallied (source_of engine.new) tally ≡ after_edits edits.now (unedited (source_of engine.old))) }
     ensures steps { steps.new ≤ steps.old + edits_steps edits.now (unedited (source_of engine.old)) }
+    ensures takes { Takes (EditsTake edits.now (keyed_source engine.old)) (EditsTake [] (keyed_source engine.new)) steps.old steps.new result }
 {
     let mut tally = Tally {
         accepted: 0,
@@ -107,6 +122,7 @@ fn put_outcome<O: Sink, L: Ledger>(
     ensures stops { IfErr result IsStop }
     ensures faults { O.faults out.old ≤ O.faults out.new }
     ensures steps { steps.new ≤ steps.old + outcome_steps edits.now (source_of engine.old) }
+    ensures takes { (taken : List ℕ) × EditsTake edits.now (keyed_source engine.old) taken × (steps.new ≤ steps.old + sum taken) }
 {
     let tally = apply_all(alloc, edits, engine, steps)?;
     Ok(put_numbers(engine.census(steps), tally, out)?)
@@ -126,6 +142,7 @@ pub fn generated<O: Sink, L: Ledger>(
     ensures stops { IfErr result IsStop }
     ensures faults { O.faults out.old ≤ O.faults out.new }
     ensures steps { steps.new ≤ steps.old + most_generated_steps seed count }
+    ensures within_work { IsGeneratedWithinWork seed count steps.old steps.new }
 {
     let GeneratedRun {
         document,
@@ -133,5 +150,6 @@ pub fn generated<O: Sink, L: Ledger>(
         edits,
     } = generate(alloc, seed, count)?;
     let mut engine = Engine::start(alloc, document, sheet.as_str(), steps)?;
+    engine_holds_document(&engine);
     put_outcome(alloc, edits.as_slice(), &mut engine, out, steps)
 }

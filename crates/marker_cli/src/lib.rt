@@ -28,8 +28,10 @@
 //! - `Table`, `Generated` and `Tallies`: those of the other two;
 //! - `EditSteps` and `BookSteps`: how many steps the commands of a script take at most, over the versions or the books that they
 //!   go through;
-//! - `Run`: `output`, the events of any words, `read_size`, how many bytes are read for them, and `most_run_steps`, how many
-//!   steps they take at most;
+//! - `WorkSteps` and `BookWork`: the same by the work of their edits: a number for each call that the commands make, within the
+//!   bounds of that call;
+//! - `Run`: `output`, the events of any words, `read_size`, how many bytes are read for them, and `most_run_steps` and
+//!   `IsRunWithinWork`, how many steps they take at most, by the sizes of the documents and by the work of the edits;
 //! - `Ends`: `EndsAs`, how a run may end against its output, and `IsSettled`, with which statuses nothing of it is kept back;
 //! - `Names`, `Lines` and `Statuses`: the line and the code of a status, and the status of a fault.
 //!
@@ -38,9 +40,9 @@
 //! the words and texts read as, the `Readings`. `run` gives some that are right where it comes to read them (`AreReadings`), and what its other
 //! clauses say of a shelf that tells its files (`OverTold`) holds of all such.
 //!
-//! `Stands` says where a run stands between two of its parts, `Editors` what a script's document stands for, and `OpenVolumes`
+//! `Stands` says where a run stands between two of its parts, `Takings` what these take, `Editors` what a script's document stands for, and `OpenVolumes`
 //! what a book's volume does. Another aspect of a document has a line in `aspect_bytes` and `words_of`. A command that joins
-//! has an `.._output` of its own in `specs/`, and a line in `words_of`, `TextsReadAs`, `form_output`, `form_size` and `form_steps`; a status that joins has a line in
+//! has an `.._output` of its own in `specs/`, and a line in `words_of`, `TextsReadAs`, `form_output`, `form_size`, `form_steps` and `IsFormWithinWork`; a status that joins has a line in
 //! `code_of`, `message`, `IsCaused`, `IsStop`, `IsSettled`, `IsWhole` and `TellsOfLine`.
 //!
 //! The words, the order of refusals and the lines are our own.

@@ -1,7 +1,10 @@
 //! The commands of a script, one after another.
 
-ghost use Rattle.std.specs.Prelude.{◌≡◌, ◌≤◌, ◌+◌, ◌⊎◌, ℕ, List, Option, Some, IfErr, OnOk, OnErr, unwrap_or};
+ghost use Rattle.std.specs.Prelude.{◌≡◌, ◌≤◌, ◌+◌, ◌⊎◌, ℕ, List, None, Option, Some, IfErr, OnOk, OnErr, sum, unwrap_or};
 ghost use Rattle.std.specs.Str.{chars};
+ghost use Rattle.edit_script.specs.declared.command.Command as declared;
+ghost use Rattle.edit_work.specs.KeyedSources.{KeyedSource};
+ghost use Rattle.forest.specs.Keys.{without_keys};
 ghost use Rattle.plain_types.specs.declared.edit.Edit.TheVariants as edits;
 ghost use Rattle.node_arena.specs.Edits.{place_fault};
 ghost use Rattle.ports.specs.Causes.{Raises, Rose, RoseAbove};
@@ -12,13 +15,15 @@ ghost use Rattle.marker_cli.specs.declared.status.FileAt.TheVariants.{Line};
 ghost use Rattle.marker_cli.specs.declared.status.Status.TheVariants as status;
 ghost use Rattle.marker_cli.specs.Edit.{action_output, after_edit, after_step, no_document, nothing, play, shown};
 ghost use Rattle.marker_cli.specs.EditSteps.{action_steps, edit_steps, left_by_edit, script_steps, show_steps, steps_with};
-ghost use Rattle.marker_cli.specs.Editors.{AnswersStep, AreSameHistories, TellsNoneApart, depth_of, versions_of};
+ghost use Rattle.marker_cli.specs.Editors.{AnswersStep, AreSameHistories, TellsNoneApart, depth_of, document_of, versions_of};
 ghost use Rattle.marker_cli.specs.Ends.{EndsAs, IsCaused, IsPutCaused, IsStop, ReadsFailed, part_status};
 ghost use Rattle.marker_cli.specs.Output.{Output};
 ghost use Rattle.marker_cli.specs.Run.{action_size, commands_size, size_of};
 ghost use Rattle.marker_cli.specs.Machinery.Stands.{Goes, Spends};
+ghost use Rattle.marker_cli.specs.Machinery.Takings.{Takes, TakesStep};
 ghost use Rattle.marker_cli.specs.Turns.{text_in, with_text};
 ghost use Rattle.marker_cli.specs.Versions.{Versions, edited};
+ghost use Rattle.marker_cli.specs.WorkSteps.{ActionTakes, EditTakes, ScriptTakes, StepTakes, TakenWith};
 
 use crate::editor::Editor;
 use crate::fetch_text::fetch_text;
@@ -56,6 +61,10 @@ fn play_edit<O: Sink, L: Ledger>(
     ensures faults { O.faults out.old ≤ O.faults out.new }
     ensures left { OnOk result (AreSameHistories (versions_of editor.new) (left_by_edit (depth_of editor.old) edit.now (versions_of editor.old) (place_fault edit.now (versions_of editor.old).present.document))) }
     ensures steps { steps.new ≤ steps.old + edit_steps (versions_of editor.old).present edit.now }
+    ensures takes { (files : Files) (commands : List declared.Command) → let depth = depth_of editor.old in
+        Takes (EditTakes (place_fault edit.now (without_keys (document_of editor.old).tree)) edit.now (document_of editor.old)
+        (ScriptTakes files depth commands (versions_of editor.old) (document_of editor.old)) (ScriptTakes files depth commands (edited depth edit.now (versions_of editor.old))))
+        (ScriptTakes files depth commands (versions_of editor.new) (document_of editor.new)) steps.old steps.new result }
 {
     match editor.apply(alloc, edit, steps) {
         Ok(()) => Ok(()),
@@ -81,6 +90,10 @@ fn replace_sheet<L: Ledger>(
     ensures depth { depth_of editor.new ≡ depth_of editor.old }
     ensures cause { IfErr result (λ error. error ≡ status.Memory) }
     ensures steps { steps.new ≤ steps.old + edit_steps (versions_of editor.old).present (edits.ReplaceSheet text) }
+    ensures takes { (files : Files) (commands : List declared.Command) → let depth = depth_of editor.old in
+        Takes (EditTakes None (edits.ReplaceSheet text) (document_of editor.old) (ScriptTakes files depth commands (versions_of editor.old) (document_of editor.old))
+        (ScriptTakes files depth commands (edited depth (edits.ReplaceSheet text) (versions_of editor.old))))
+        (ScriptTakes files depth commands (versions_of editor.new) (document_of editor.new)) steps.old steps.new result }
 {
     match editor.apply(alloc, &Edit::ReplaceSheet { text }, steps) {
         Ok(()) => Ok(()),
@@ -112,6 +125,11 @@ fn play_sheet<S: Shelf, L: Ledger>(
     ensures steps { (files : Files) (next : Versions → ℕ) → TellsNoneApart next → S.held shelf.old ≡ Some files
         → Spends (steps_with (text_in (Line number) (files (chars name.now))) (λ text. edit_steps (versions_of editor.old).present (edits.ReplaceSheet text) + next (edited (depth_of editor.old) (edits.ReplaceSheet text) (versions_of editor.old))))
         steps.old steps.new (next (versions_of editor.new)) result }
+    ensures takes { (files : Files) (commands : List declared.Command) → S.held shelf.old ≡ Some files → let depth = depth_of editor.old in
+        Takes (TakenWith (text_in (Line number) (files (chars name.now))) (λ text.
+        EditTakes None (edits.ReplaceSheet text) (document_of editor.old) (ScriptTakes files depth commands (versions_of editor.old) (document_of editor.old))
+        (ScriptTakes files depth commands (edited depth (edits.ReplaceSheet text) (versions_of editor.old)))))
+        (ScriptTakes files depth commands (versions_of editor.new) (document_of editor.new)) steps.old steps.new result }
 {
     let text = fetch_text(alloc, shelf, FileAt::Line(number), name)?;
     replace_sheet(alloc, text, editor, steps)
@@ -148,6 +166,9 @@ fn put_step<O: Sink>(
     ensures stops { IfErr result IsStop }
     ensures faults { O.faults out.old ≤ O.faults out.new }
     ensures left { (versions left : Versions) (step : Option Versions) → AnswersStep outcome versions left step → OnOk result (AreSameHistories left (unwrap_or step versions)) }
+    ensures takes { (files : Files) (depth : ℕ) (commands : List declared.Command) (versions left : Versions) (step : Option Versions) (before after : KeyedSource) (old new : ℕ)
+        → AnswersStep outcome versions left step → TakesStep outcome step before after old new
+        → Takes (StepTakes step versions before (ScriptTakes files depth commands)) (ScriptTakes files depth commands left after) old new result }
 {
     match outcome {
         Ok(()) => Ok(()),
@@ -190,6 +211,9 @@ fn play_command<S: Shelf, O: Sink, L: Ledger>(
     ensures reads { (files : Files) → S.held shelf.old ≡ Some files → OnOk result (Raises (S.taken shelf.old) (S.taken shelf.new) (action_size files command.now.action)) }
     ensures steps { (files : Files) (next : Versions → ℕ) → TellsNoneApart next → S.held shelf.old ≡ Some files
         → Spends (action_steps files (depth_of editor.old) command.now.line command.now.action (versions_of editor.old) next) steps.old steps.new (next (versions_of editor.new)) result }
+    ensures takes { (files : Files) (commands : List declared.Command) → S.held shelf.old ≡ Some files → let depth = depth_of editor.old in
+        Takes (ActionTakes files depth command.now.line command.now.action (versions_of editor.old) (document_of editor.old) (ScriptTakes files depth commands))
+        (ScriptTakes files depth commands (versions_of editor.new) (document_of editor.new)) steps.old steps.new result }
 {
     let number = command.line;
     match &command.action {
@@ -220,6 +244,8 @@ pub fn play<S: Shelf, O: Sink, L: Ledger>(
     ensures put_faults { O.faults out.old ≤ O.faults out.new }
     ensures reads { (files : Files) → S.held shelf.old ≡ Some files → OnOk result (Raises (S.taken shelf.old) (S.taken shelf.new) (commands_size files commands.now)) }
     ensures steps { (files : Files) → S.held shelf.old ≡ Some files → steps.new ≤ steps.old + script_steps files (depth_of editor.old) commands.now (versions_of editor.old) }
+    ensures takes { (files : Files) → S.held shelf.old ≡ Some files
+        → (taken : List ℕ) × ScriptTakes files (depth_of editor.old) commands.now (versions_of editor.old) (document_of editor.old) taken × (steps.new ≤ steps.old + sum taken) }
 {
     for command in commands {
         play_command(alloc, command, editor, shelf, out, steps)?;

@@ -9,7 +9,7 @@ ghost use Rattle.marker_cli.specs.Ends.{EndsAs, IsCaused, IsSettled, IsWhole, Re
 ghost use Rattle.marker_cli.specs.Lines.{GoesOut, message};
 ghost use Rattle.marker_cli.specs.Output.{bytes_of, status_of};
 ghost use Rattle.marker_cli.specs.Names.{TellsOfLine};
-ghost use Rattle.marker_cli.specs.Run.{AreReadings, HasTurn, OverTexts, OverTold, Readings, TakesNoStep, commands_in, form_output, form_size, form_steps, most_run_steps, name_in, output, read_size};
+ghost use Rattle.marker_cli.specs.Run.{AreReadings, HasTurn, IsFormWithinWork, IsRunWithinWork, OverTexts, OverTold, Readings, TakesNoStep, commands_in, form_output, form_size, form_steps, most_run_steps, name_in, output, read_size};
 ghost use Rattle.marker_cli.specs.Words.{IsOfTable, IsWithin, ReadsAsForm, form_of};
 ghost use Rattle.marker_cli.specs.declared.status.FileAt.{FileAt};
 ghost use Rattle.marker_cli.specs.declared.status.Status.TheVariants as status;
@@ -64,6 +64,8 @@ fn perform<S: Shelf, O: Sink, L: Ledger>(
         IsWhole (part_status result) → Raises (S.taken shelf.old) (S.taken shelf.new) (form_size files readings.script (Some (form_of form.entry)))) }
     ensures steps { OverTexts (S.held shelf.old) (form_of form.entry) (λ files readings.
         steps.new ≤ steps.old + form_steps files readings (Some (form_of form.entry))) }
+    ensures within_work { OverTexts (S.held shelf.old) (form_of form.entry) (λ files readings.
+        IsFormWithinWork files readings (Some (form_of form.entry)) steps.old steps.new) }
     ensures no_steps { IsOfTable (form_of form.entry) → steps.new ≡ steps.old }
 {
     match form {
@@ -150,6 +152,7 @@ fn perform_words<S: Shelf, O: Sink, L: Ledger>(
     ensures reads { OverTold (S.held shelf.old) words.now (λ files readings.
         IsWhole result → Raises (S.taken shelf.old) (S.taken shelf.new) (read_size files readings)) }
     ensures steps { OverTold (S.held shelf.old) words.now (λ files readings. steps.new ≤ steps.old + most_run_steps files readings) }
+    ensures within_work { OverTold (S.held shelf.old) words.now (λ files readings. IsRunWithinWork files readings steps.old steps.new) }
     ensures no_steps { TakesNoStep words.now → steps.new ≡ steps.old }
 {
     // Each document bakes to a text: so what is to be baked has a reading too.
@@ -200,7 +203,7 @@ fn flushed<O: Sink>(outcome: Status, out: &mut O) -> Status
 /// that fails the status is `WriteFault`, if it isn't `Usage` or `Memory`. A fault of `err` changes no status.
 ///
 /// It takes time linear in the files and the output, and what one evaluation of the document costs; for each accepted
-/// edit, undo, redo and `sheet` line what `Engine::apply` of such an edit costs, and for each `show` of a book what
+/// edit, undo, redo and `sheet` line what `Engine::apply` of such an edit costs, within the same bound by its work, and for each `show` of a book what
 /// `Volume::show` does. It takes memory for the files, the commands, the documents and what is kept of their elements, and for the edits that can be undone and redone. A run that is made up takes
 /// time and memory for its COUNT edits too.
 pub fn run<S: Shelf, O: Sink, E: Sink, L: Ledger>(
@@ -240,6 +243,7 @@ pub fn run<S: Shelf, O: Sink, E: Sink, L: Ledger>(
     ensures sheet_line { OverTold (S.held shelf.old) words.now (λ files readings.
         TellsOfLine result → GoesOut (Rose (E.faults err.old) (E.faults err.new)) (E.out err.old) (E.out err.new) (message words.now (commands_in readings.script) result)) }
     ensures steps { OverTold (S.held shelf.old) words.now (λ files readings. steps.new ≤ steps.old + most_run_steps files readings) }
+    ensures within_work { OverTold (S.held shelf.old) words.now (λ files readings. IsRunWithinWork files readings steps.old steps.new) }
     ensures no_steps { TakesNoStep words.now → steps.new ≡ steps.old }
 {
     let mut commands = List::new(alloc);

@@ -1,11 +1,11 @@
-use Rattle.std.proofs.Common.{◌≡◌, ◌∙◌, ap, arith, refl, sym}
+use Rattle.std.proofs.Common.{◌≡◌, ◌∙◌, ap, arith, inl, inr, refl, subst, sym}
 use Rattle.std.specs.Prelude.{Ok}
 use Rattle.std.specs.Str.{chars}
 use Rattle.marker_cli.specs.declared.status.FileAt.TheVariants.{Word}
 use Rattle.marker_cli.specs.Edit.{play}
 use Rattle.marker_cli.specs.Ends.{part_status}
 use Rattle.marker_cli.specs.Turns.{text_in}
-use Rattle.marker_cli.specs.Versions.{begun}
+use Rattle.marker_cli.specs.Versions.{Versions, begun}
 use Rattle.marker_cli.proofs.EndsLemmas.{at_same, at_start, at_text, at_value, caused_more, ends_no_memory, ends_no_text, ends_not_given, ends_part, ends_stopped, reads_after}
 use Rattle.marker_cli.proofs.PlayLemmas.{given_commands}
 use Rattle.std.proofs.lemmas.Result.{on_ok_weaker}
@@ -13,6 +13,11 @@ use Rattle.ports.proofs.CauseLemmas.{raises_more, rose_above_after, rose_after}
 use Rattle.marker_cli.specs.Run.{commands_in, commands_size}
 use Rattle.marker_cli.proofs.ReadLemmas.{raised_as}
 use Rattle.marker_cli.proofs.StepLemmas.{most_of_script, script_as}
+use Rattle.edit_inverses.specs.Versions.{Version}
+use Rattle.edit_work.specs.KeyedSources.{KeyedSource}
+use Rattle.node_arena.specs.Document.{IsKeyedDocument}
+use Rattle.marker_cli.specs.Editors.{document_of, versions_of}
+use Rattle.marker_cli.proofs.PlayedLemmas.{script_still, script_taken_as, script_within, version_there}
 use Rattle.marker_cli.proofs.edit.edit.Goals as goal
 
 pub returns-in_err-text-clause-told : goal.returns-in_err-text-clause-told
@@ -133,3 +138,51 @@ returns-clause-steps g c files reading read told reads reads_script =
     (c.in_ok-editor.ensures.versions ∙ ap (λ sheet. begun (record { document = c.in_ok-tree.tree; sheet = sheet })) c.as_str-3.ensures.characters) in
     let played = c.play.ensures.steps files (c.in_ok-lines.ensures.held ∙ held) in
     omega (arith, most, same, c.in_ok-editor.ensures.steps, played)
+
+pub returns-in_err-text-clause-within_work : goal.returns-in_err-text-clause-within_work
+returns-in_err-text-clause-within_work g c files reading read told reads reads_script = script_still files _ _ _ c.args.depth reading read _ _ (omega arith)
+
+pub returns-in_err-style-clause-within_work : goal.returns-in_err-style-clause-within_work
+returns-in_err-style-clause-within_work g c files reading read told reads reads_script = script_still files _ _ _ c.args.depth reading read _ _ (omega arith)
+
+pub returns-in_err-lines-clause-within_work : goal.returns-in_err-lines-clause-within_work
+returns-in_err-lines-clause-within_work g c files reading read told reads reads_script = script_still files _ _ _ c.args.depth reading read _ _ (omega arith)
+
+pub returns-in_err-tree-clause-within_work : goal.returns-in_err-tree-clause-within_work
+returns-in_err-tree-clause-within_work g c files reading read told reads reads_script = script_still files _ _ _ c.args.depth reading read _ _ (omega arith)
+
+pub returns-in_err-commands-clause-within_work : goal.returns-in_err-commands-clause-within_work
+returns-in_err-commands-clause-within_work g c files reading read told reads reads_script = script_still files _ _ _ c.args.depth reading read _ _ (omega arith)
+
+pub returns-in_err-editor-clause-within_work : goal.returns-in_err-editor-clause-within_work
+returns-in_err-editor-clause-within_work g c files reading read told reads reads_script =
+    let text : text_in (Word 1) (files (chars c.args.document.now)) ≡ Ok c.in_ok-text.text = c.in_ok-text.ensures.told files told in
+    let style : text_in (Word 2) (files (chars c.args.sheet.now)) ≡ Ok c.in_ok-style.style = c.in_ok-style.ensures.told files (c.in_ok-text.ensures.held ∙ told) in
+    let held = c.in_ok-style.ensures.held ∙ c.in_ok-text.ensures.held ∙ told in
+    let lines : text_in (Word 3) (files (chars c.args.script.now)) ≡ Ok c.in_ok-lines.lines = c.in_ok-lines.ensures.told files held in
+    script_within files _ _ _ c.args.depth reading read _ _ _ _ _ _ _ text style lines
+    (c.in_ok-tree.ensures.tree reading (rw c.as_str.ensures.characters (reads c.in_ok-text.text c.in_ok-style.style text style)))
+    (c.in_ok-commands.ensures.commands read (rw (c.as_str-2.ensures.characters, c.script_kind.ensures) (reads_script c.in_ok-text.text c.in_ok-style.style c.in_ok-lines.lines text style lines)))
+    (inl c.in_err-editor.ensures.steps)
+
+pub returns-clause-within_work : goal.returns-clause-within_work
+returns-clause-within_work g c files reading read told reads reads_script =
+    let text : text_in (Word 1) (files (chars c.args.document.now)) ≡ Ok c.in_ok-text.text = c.in_ok-text.ensures.told files told in
+    let style : text_in (Word 2) (files (chars c.args.sheet.now)) ≡ Ok c.in_ok-style.style = c.in_ok-style.ensures.told files (c.in_ok-text.ensures.held ∙ told) in
+    let held = c.in_ok-style.ensures.held ∙ c.in_ok-text.ensures.held ∙ told in
+    let lines : text_in (Word 3) (files (chars c.args.script.now)) ≡ Ok c.in_ok-lines.lines = c.in_ok-lines.ensures.told files held in
+    let version : Version = record { document = c.in_ok-tree.tree; sheet = c.in_ok-style.style } in
+    let is : versions_of c.in_ok-editor.editor ≡ begun version =
+    c.in_ok-editor.ensures.versions ∙ ap (λ sheet. begun (record { document = c.in_ok-tree.tree; sheet = sheet })) c.as_str-3.ensures.characters in
+    let played = c.play.ensures.takes files (c.in_ok-lines.ensures.held ∙ held) in
+    script_within files _ _ _ c.args.depth reading read _ _ _ _ _ _ _ text style lines
+    (c.in_ok-tree.ensures.tree reading (rw c.as_str.ensures.characters (reads c.in_ok-text.text c.in_ok-style.style text style)))
+    (c.in_ok-commands.ensures.commands read (rw (c.as_str-2.ensures.characters, c.script_kind.ensures) (reads_script c.in_ok-text.text c.in_ok-style.style c.in_ok-lines.lines text style lines)))
+    (inr (record {
+      source = document_of c.in_ok-editor.editor;
+      keyed = subst (λ (source : KeyedSource). IsKeyedDocument source.tree) c.engine.ensures.document c.engine_holds_document.ensures;
+      version_is = sym (version_there c.in_ok-editor.editor) ∙ ap (λ (versions : Versions). versions.present) is;
+      taken = played.0;
+      takes = script_taken_as files _ _ _ _ _ _ _ played.0 c.in_ok-editor.ensures.depth c.as_slice.ensures.items is played.1;
+      all = omega (arith, c.in_ok-editor.ensures.steps, played.2);
+    }))

@@ -1,13 +1,15 @@
-use Rattle.std.proofs.Common.{◌+◌, ◌∙◌, ap, arith, drop, refl, sym}
+use Rattle.std.proofs.Common.{◌+◌, ◌∙◌, [], ap, arith, drop, refl, sym}
 use Rattle.ports.proofs.CauseLemmas.{raises_none, rose_after}
 use Rattle.marker_cli.specs.Edit.{action_output, play}
 use Rattle.marker_cli.specs.EditSteps.{action_steps, script_steps}
-use Rattle.marker_cli.specs.Editors.{depth_of, versions_of}
+use Rattle.marker_cli.specs.Editors.{depth_of, document_of, versions_of}
 use Rattle.marker_cli.proofs.EndsLemmas.{at_part, at_same, at_start, ends_part, ends_stopped, reads_after}
 use Rattle.marker_cli.proofs.PlayLemmas.{play_next}
 use Rattle.marker_cli.proofs.ReadLemmas.{read_all, read_more}
 use Rattle.marker_cli.proofs.SameLemmas.{play_same}
 use Rattle.marker_cli.proofs.StepLemmas.{script_same, steps_next}
+use Rattle.marker_cli.proofs.PlayedLemmas.{at_depth}
+use Rattle.marker_cli.proofs.TakenLemmas.{none_taken, taken_next}
 use Rattle.marker_cli.proofs.play.play.Goals as goal
 
 pub loop-command-preserved : goal.loop-command-preserved
@@ -38,6 +40,11 @@ loop-command-preserved g c =
           let so_far = now.steps files told in
           let spent = (c.in_ok-play_command.ensures.steps files rest (script_same files depth (drop (c.loop-command.command-index + 1) c.args.commands.now)) (now.held ∙ told)).on in
           omega (arith, next, so_far, spent);
+      takes = λ files told rest follows.
+          let commands = drop (c.loop-command.command-index + 1) c.args.commands.now in
+          let here = (at_depth files _ depth commands c.command-item.result.line c.command-item.result.action (versions_of c.loop-command.editor) _ (document_of c.loop-command.editor) _ _ _ now.depth (c.in_ok-play_command.ensures.takes files commands (now.held ∙ told))).on rest follows in
+          let behind = now.takes files told here.0 (taken_next files depth _ _ c.command-item.result _ _ here.0 c.loop-command-test.true c.command-item.is here.1) in
+          (behind.0, behind.1, omega (arith, here.2, behind.2));
     }
 
 pub returns-in_err-play_command-clause-told : goal.returns-in_err-play_command-clause-told
@@ -65,6 +72,7 @@ loop-command-init g c = record {
   put_faults = omega arith;
   reads = λ files told. record { so_far = 0; raised = raises_none _ _ refl; parts = omega arith };
   steps = λ files told. omega arith;
+  takes = λ files told rest takes. (rest, takes, omega arith);
 }
 
 pub returns-clause-reads : goal.returns-clause-reads
@@ -84,3 +92,20 @@ returns-in_err-play_command-clause-steps g c files told =
 
 pub returns-clause-steps : goal.returns-clause-steps
 returns-clause-steps g c files told = let so_far = c.loop-command.invariant.steps files told in omega (arith, so_far)
+
+pub returns-in_err-play_command-clause-takes : goal.returns-in_err-play_command-clause-takes
+returns-in_err-play_command-clause-takes g c files told =
+    let now = c.loop-command.invariant in
+    let depth = depth_of c.args.editor.now in
+    let commands = drop (c.loop-command.command-index + 1) c.args.commands.now in
+    let here = (at_depth files _ depth commands c.command-item.result.line c.command-item.result.action (versions_of c.loop-command.editor) _ (document_of c.loop-command.editor) _ _ _ now.depth (c.in_err-play_command.ensures.takes files commands (now.held ∙ told))).ends in
+    let behind = now.takes files told here.0 (taken_next files depth _ _ c.command-item.result _ _ here.0 c.loop-command-test.true c.command-item.is here.1) in
+    (behind.0, behind.1, omega (arith, here.2, behind.2))
+
+pub returns-clause-takes : goal.returns-clause-takes
+returns-clause-takes g c files told =
+    let commands = c.args.commands.now in
+    let now = c.loop-command.invariant in
+    let last = none_taken files (depth_of c.args.editor.now) (drop c.loop-command.command-index commands) (versions_of c.loop-command.editor) (document_of c.loop-command.editor) in
+    let all = now.takes files told [] last in
+    (all.0, all.1, omega (arith, all.2))

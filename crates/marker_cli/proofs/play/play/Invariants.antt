@@ -1,10 +1,11 @@
-use Rattle.std.proofs.Common.{◌≡◌, ◌≤◌, ◌+◌, drop}
-use Rattle.std.specs.Prelude.{Some}
+use Rattle.std.proofs.Common.{◌≡◌, ◌≤◌, ◌+◌, ℕ, List, drop}
+use Rattle.std.specs.Prelude.{Some, sum}
 use Rattle.ports.specs.Files.{Files}
 use Rattle.marker_cli.specs.Edit.{play}
 use Rattle.marker_cli.specs.EditSteps.{script_steps}
-use Rattle.marker_cli.specs.Editors.{depth_of, versions_of}
+use Rattle.marker_cli.specs.Editors.{depth_of, document_of, versions_of}
 use Rattle.marker_cli.specs.Machinery.Stands.{IsAt}
+use Rattle.marker_cli.specs.WorkSteps.{ScriptTakes}
 use Rattle.marker_cli.proofs.ReadLemmas.{HaveRead}
 use Rattle.marker_cli.proofs.play.play.Given as goal
 
@@ -24,4 +25,7 @@ invariant-loop-command g l = record {
   steps : (files : Files) → g.S.Shelf.held l.initial.shelf ≡ Some files
       → l.steps + script_steps files (depth_of l.initial.editor) (drop l.command-index l.commands) (versions_of l.editor)
       ≤ l.initial.steps + script_steps files (depth_of l.initial.editor) l.commands (versions_of l.initial.editor);
+  takes : (files : Files) → g.S.Shelf.held l.initial.shelf ≡ Some files → (rest : List ℕ)
+      → ScriptTakes files (depth_of l.initial.editor) (drop l.command-index l.commands) (versions_of l.editor) (document_of l.editor) rest
+      → (taken : List ℕ) × ScriptTakes files (depth_of l.initial.editor) l.commands (versions_of l.initial.editor) (document_of l.initial.editor) taken × (l.steps + sum rest ≤ l.initial.steps + sum taken);
 }

@@ -1,14 +1,17 @@
-use Rattle.std.proofs.Common.{ap, arith, refl, sym}
+use Rattle.std.proofs.Common.{◌∙◌, ap, arith, refl, sym}
 use Rattle.ports.proofs.CauseLemmas.{raises_none}
 use Rattle.marker_cli.specs.Edit.{shown}
 use Rattle.marker_cli.specs.EditSteps.{show_steps}
-use Rattle.marker_cli.specs.Editors.{versions_of}
 use Rattle.marker_cli.specs.Output.{writes}
 use Rattle.marker_cli.proofs.EndsLemmas.{at_same, at_start}
 use Rattle.marker_cli.proofs.PlayLemmas.{goes_put, goes_weaker}
 use Rattle.marker_cli.proofs.ReadLemmas.{on_ok}
 use Rattle.marker_cli.proofs.SameLemmas.{same_history}
 use Rattle.marker_cli.proofs.StepLemmas.{spends_by, spends_nothing}
+use Rattle.marker_cli.specs.Editors.{depth_of, document_of, versions_of}
+use Rattle.marker_cli.specs.WorkSteps.{ScriptTakes}
+use Rattle.marker_cli.proofs.PlayedLemmas.{takes_nothing, takes_show, version_there}
+use Rattle.marker_cli.proofs.TakenLemmas.{none_taken}
 use Rattle.marker_cli.proofs.play.play_command.Goals as goal
 
 pub returns-in-Change-clause-told : goal.returns-in-Change-clause-told
@@ -82,3 +85,32 @@ returns-in-Redo-clause-steps g c files next alike told =
 
 pub returns-in-Enter-clause-steps : goal.returns-in-Enter-clause-steps
 returns-in-Enter-clause-steps g c files next alike told = rw c.in-Enter.is (spends_nothing c.put_no_document.result _ _ _ _ refl refl)
+
+pub returns-in-Change-clause-takes : goal.returns-in-Change-clause-takes
+returns-in-Change-clause-takes g c files commands told = rw c.in-Change.is (c.play_edit.ensures.takes files commands)
+
+pub returns-in-SheetFile-clause-takes : goal.returns-in-SheetFile-clause-takes
+returns-in-SheetFile-clause-takes g c files commands told =
+    rw c.in-SheetFile.is (rw c.as_str.ensures.characters at c.play_sheet.ensures.takes files commands told)
+
+pub returns-in-Show-clause-takes : goal.returns-in-Show-clause-takes
+returns-in-Show-clause-takes g c files commands told =
+    let editor = c.args.editor.now in
+    rw c.in-Show.is
+    (takes_show c.put_shown.result (ScriptTakes files (depth_of editor) commands (versions_of editor) (document_of editor)) (document_of editor) _ _ _
+    (c.engine.ensures.version ∙ version_there editor) (none_taken files (depth_of editor) commands (versions_of editor) (document_of editor)) c.put_shown.ensures.steps)
+
+pub returns-in-Undo-clause-takes : goal.returns-in-Undo-clause-takes
+returns-in-Undo-clause-takes g c files commands told =
+    rw c.in-Undo.is (c.put_step.ensures.takes files _ commands _ _ _ _ _ _ _ c.undo.ensures.answer c.undo.ensures.takes)
+
+pub returns-in-Redo-clause-takes : goal.returns-in-Redo-clause-takes
+returns-in-Redo-clause-takes g c files commands told =
+    rw c.in-Redo.is (c.put_step-in-Redo.ensures.takes files _ commands _ _ _ _ _ _ _ c.redo.ensures.answer c.redo.ensures.takes)
+
+pub returns-in-Enter-clause-takes : goal.returns-in-Enter-clause-takes
+returns-in-Enter-clause-takes g c files commands told =
+    let editor = c.args.editor.now in
+    rw c.in-Enter.is
+    (takes_nothing c.put_no_document.result _ (ScriptTakes files (depth_of editor) commands (versions_of editor) (document_of editor)) _ _ (λ rest takes. takes)
+    (none_taken files (depth_of editor) commands (versions_of editor) (document_of editor)) (omega arith))

@@ -4,6 +4,8 @@ use Rattle.marker_cli.proofs.EndsLemmas.{at_start}
 use Rattle.marker_cli.proofs.PlayBookLemmas.{at_nothing, spends_by}
 use Rattle.marker_cli.proofs.PlayLemmas.{goes_put, goes_weaker}
 use Rattle.marker_cli.proofs.ReadLemmas.{on_ok}
+use Rattle.marker_cli.specs.OpenVolumes.{book_of}
+use Rattle.marker_cli.proofs.PlayedBookLemmas.{chapter_entered, chapter_shown, nothing_undone}
 use Rattle.marker_cli.proofs.play_book.play_book_command.Goals as goal
 
 pub returns-in-Change-clause-told : goal.returns-in-Change-clause-told
@@ -42,5 +44,24 @@ returns-in-Show-clause-steps g c files next told =
 
 pub returns-in-Undo-clause-told : goal.returns-in-Undo-clause-told
 returns-in-Undo-clause-told g c files next told =
-    goes_put c.put_nothing.result (at_nothing files c.args.command.now.line c.args.command.now.action c.args.book.now next _ c.in-Undo.is)
+    goes_put c.put_nothing.result (at_nothing files c.args.command.now.line c.args.command.now.action (book_of c.args.book.now) next _ c.in-Undo.is)
     c.put_nothing.ensures.ok c.put_nothing.ensures.failed c.put_nothing.ensures.cause
+
+pub returns-in-Change-clause-takes : goal.returns-in-Change-clause-takes
+returns-in-Change-clause-takes g c files commands told = rw c.in-Change.is (c.play_chapter_edit.ensures.takes files commands)
+
+pub returns-in-SheetFile-clause-takes : goal.returns-in-SheetFile-clause-takes
+returns-in-SheetFile-clause-takes g c files commands told =
+    rw c.in-SheetFile.is (rw c.as_str.ensures.characters at c.play_chapter_sheet.ensures.takes files commands told)
+
+pub returns-in-Show-clause-takes : goal.returns-in-Show-clause-takes
+returns-in-Show-clause-takes g c files commands told = rw c.in-Show.is (chapter_shown c.put_chapter.result files commands c.args.book.now _ _ c.put_chapter.ensures.steps)
+
+pub returns-in-Undo-clause-takes : goal.returns-in-Undo-clause-takes
+returns-in-Undo-clause-takes g c files commands told =
+    nothing_undone c.put_nothing.result files commands c.args.command.now.line c.args.command.now.action c.args.book.now _ c.in-Undo.is
+
+pub returns-in-Enter-clause-takes : goal.returns-in-Enter-clause-takes
+returns-in-Enter-clause-takes g c files commands told =
+    rw c.in-Enter.is
+    (chapter_entered c.enter_chapter.result files commands c.args.book.now _ _ _ (rw c.as_str-in-Enter.ensures.characters at c.enter_chapter.ensures.turned))

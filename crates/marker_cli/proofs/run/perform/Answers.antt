@@ -150,3 +150,32 @@ returns-in-Table-clause-reads g c files readings told reads =
 
 pub returns-in-Gen-clause-steps : goal.returns-in-Gen-clause-steps
 returns-in-Gen-clause-steps g c files readings told reads = rw c.in-Gen.is c.generated.ensures.steps
+
+pub returns-in-Aspect-clause-within_work : goal.returns-in-Aspect-clause-within_work
+returns-in-Aspect-clause-within_work g c files readings told reads = rw c.in-Aspect.is tt
+
+pub returns-in-Bake-clause-within_work : goal.returns-in-Bake-clause-within_work
+returns-in-Bake-clause-within_work g c files readings told reads = rw c.in-Bake.is tt
+
+pub returns-in-Script-clause-within_work : goal.returns-in-Script-clause-within_work
+returns-in-Script-clause-within_work g c files readings told reads =
+    let texts : TextsReadAs files readings (Some (edit c.in-Script.document.now c.in-Script.sheet.now c.in-Script.script.now c.in-Script.depth)) = rw c.in-Script.is at reads in
+    let document = c.as_str-in-Script.ensures.characters in
+    let sheet = c.as_str-in-Script-2.ensures.characters in
+    let script = c.as_str-in-Script-3.ensures.characters in
+    let taken = c.edit.ensures.within_work files readings.document readings.script told (rw (document, sheet) texts.0) (rw (document, sheet, script) texts.1) in
+    rw c.in-Script.is (rw (document, sheet, script) at taken)
+
+pub returns-in-Book-clause-within_work : goal.returns-in-Book-clause-within_work
+returns-in-Book-clause-within_work g c files readings told reads =
+    let texts : TextsReadAs files readings (Some (book c.in-Book.sheet.now c.in-Book.script.now c.in-Book.documents.now)) = rw c.in-Book.is at reads in
+    let sheet = c.as_str-in-Book.ensures.characters in
+    let script = c.as_str-in-Book-2.ensures.characters in
+    let taken = c.book.ensures.within_work files readings.parts readings.script told (rw (sheet, script) texts.0) (rw (sheet, script) texts.1) in
+    rw c.in-Book.is (rw (sheet, script) at taken)
+
+pub returns-in-Table-clause-within_work : goal.returns-in-Table-clause-within_work
+returns-in-Table-clause-within_work g c files readings told reads = rw c.in-Table.is tt
+
+pub returns-in-Gen-clause-within_work : goal.returns-in-Gen-clause-within_work
+returns-in-Gen-clause-within_work g c files readings told reads = rw c.in-Gen.is c.generated.ensures.within_work

@@ -6,7 +6,7 @@ use Rattle.marker_cli.specs.Words.{IsForm, IsOfTable, form_of, read_form_of, tab
 use Rattle.marker_cli.proofs.EndsLemmas.{at_start, ends_same, ends_whole}
 use Rattle.marker_cli.proofs.FormLemmas.{one_form}
 use Rattle.marker_cli.proofs.ReadLemmas.{raised_as}
-use Rattle.marker_cli.proofs.RunLemmas.{output_of, output_usage, size_same, some_readings, steps_same, texts_of}
+use Rattle.marker_cli.proofs.RunLemmas.{output_of, output_usage, run_still, size_same, some_readings, steps_same, texts_of, within_same}
 use Rattle.marker_cli.proofs.run.perform_words.Goals as goal
 
 pub perform-requires : goal.perform-requires
@@ -59,3 +59,14 @@ pub returns-in-Err-clause-readings : goal.returns-in-Err-clause-readings
 returns-in-Err-clause-readings g c files =
     let memory = c.in-Err.ensures.memory in
     some_readings c.documents_stay.ensures.stay c.some_output.ensures c.args.words.now files (Some memory.0) memory.1
+
+pub returns-in-Ok-Some-clause-within_work : goal.returns-in-Ok-Some-clause-within_work
+returns-in-Ok-Some-clause-within_work g c files readings told reads =
+    let is : IsForm c.args.words.now (form_of c.in-Ok-Some.form) = rw c.in-Ok-Some.field-0-is at c.in-Ok-Some.ensures.form in
+    within_same c.args.words.now files readings _ is _ _ reads.form (c.perform.ensures.within_work files readings told (texts_of c.args.words.now files readings _ is reads))
+
+pub returns-in-Ok-None-clause-within_work : goal.returns-in-Ok-None-clause-within_work
+returns-in-Ok-None-clause-within_work g c files readings told reads = run_still files readings readings.form _ _ (omega arith)
+
+pub returns-in-Err-clause-within_work : goal.returns-in-Err-clause-within_work
+returns-in-Err-clause-within_work g c files readings told reads = run_still files readings readings.form _ _ (omega arith)
