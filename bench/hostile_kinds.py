@@ -134,8 +134,9 @@ KINDS = [
         "d.xhtml": wrapped('<p class="', "a ", '"/>')(size), "s.css": wrapped("", ".b{counter-reset:c}", "")(size),
     }, check=is_empty),
     # counters and their styles
-    Kind("counters of one element", 2_000, of_sheet(wrapped("p{counter-reset:", lambda k: f" c{k}", "}")),
-         grows="the square of the counters", check=is_empty),
+    Kind("counters of one element", 50_000, of_sheet(wrapped("p{counter-reset:", lambda k: f" c{k}", "}")), check=is_empty),
+    Kind("increments of one element", 50_000, of_sheet(wrapped("p{counter-increment:", lambda k: f" c{k}", "}")), check=is_empty),
+    Kind("counters that one element sets", 50_000, of_sheet(wrapped("p{counter-set:", lambda k: f" c{k}", "}")), check=is_empty),
     Kind("resets of one counter in one value", 200_000, of_sheet(wrapped("p{counter-reset:", " c", "}")), check=is_empty),
     Kind("increments of one counter in one value", 200_000, of_sheet(wrapped("p{counter-increment:", " c", "}")), check=is_empty),
     Kind("reversed counters of one element", 2_000, of_sheet(wrapped("p{counter-reset:", lambda k: f" reversed(c{k})", "}")),
@@ -247,9 +248,12 @@ KINDS = [
         "d.xhtml": wrapped("<body><i/>", "<p/>", "</body>")(2_000),
         "s.css": ["body{counter-reset:", *many(lambda k: f" c{k}", size), "}i{counter-reset:", *many(lambda k: f" d{k}", size), "}"],
     }, check=is_empty),
-    Kind("counters that every element increments", 50, lambda size: {
+    Kind("counters that every element increments", 200, lambda size: {
         "d.xhtml": wrapped("<body>", "<p/>", "</body>")(1_000), "s.css": wrapped("p{counter-increment:", lambda k: f" c{k}", "}")(size),
-    }, grows="the square of the counters", check=is_empty),
+    }, check=is_empty),
+    Kind("counters that every element resets, which the root resets too", 100, lambda size: {
+        "d.xhtml": wrapped("<body>", "<p/>", "</body>")(1_000), "s.css": wrapped("body,p{counter-reset:", lambda k: f" c{k}", "}")(size),
+    }, check=is_empty),
     Kind("nested quotes", 1_000, of_document(nested("<q>", "", "</q>")), grows="the output is the square of the depth", check=lines(lambda size: 2 * size)),
     Kind("reversed lists in each other", 250, of_document(nested('<ol reversed="">', "<li/>", "</ol>")), grows="the square of the depth", check=lines(lambda _: 1)),
     Kind("reversed lists beside each other", 20_000, of_document(wrapped("<body>", '<ol reversed=""><li/></ol>', "</body>")), check=lines(lambda size: size)),

@@ -5,6 +5,7 @@ pub mod Agreement
 pub mod CountedLemmas
 pub mod ContentLemmas
 pub mod OpLemmas
+pub mod PlaceLemmas
 pub mod ResetLemmas
 pub mod ElementLemmas
 pub mod EntryLemmas

@@ -1,19 +1,21 @@
 -- The counters that a box's resets create are not there before.
-use Rattle.std.proofs.Common.{◌≡◌, ◌∷◌, ◌||◌, ℕ, List, [], Bool, true, false, refl, subst, inl, inr}
+use Rattle.std.proofs.Common.{◌≡◌, ◌∷◌, ◌∙◌, ◌||◌, ℕ, List, [], Bool, true, false, map, refl, subst, inl, inr}
 use Rattle.std.proofs.lemmas.Bool.{cases_Bool}
-use Rattle.std.specs.List.{AllByRecursion, list_any}
+use Rattle.std.specs.List.{AllByRecursion, fold, list_any}
 use Rattle.std.specs.Str.{bytes_eq}
 use Rattle.plain_types.specs.declared.box_id.BoxId.{BoxId}
 use Rattle.plain_types.specs.declared.counter.Counter.{Counter}
 use Rattle.plain_types.specs.declared.style.ResetOp.{ResetOp}
-use Rattle.counter_sets.specs.Sets.{AreDistinct, is_missing_in, is_same, is_same_box}
+use Rattle.counter_sets.specs.Indexes.{HaveOwnNames}
+use Rattle.counter_sets.specs.Sets.{AreDistinct, instantiated, is_missing_in, is_named, is_same, is_same_box}
 use Rattle.counter_sets.proofs.DistinctLemmas.{instantiated_distinct, instantiated_lacks}
 use Rattle.box_eval.specs.declared.inputs.Start.{Start}
 use Rattle.box_eval.specs.Properties.{first_value, last_of_each, last_resets, reset_by}
 use Rattle.box_eval.specs.Scopes.{HasNoneOf}
 use Rattle.box_eval.proofs.BoxLemmas.{box_self, creator_prop}
-use Rattle.box_eval.proofs.ListLemmas.{each_imp, each_both, or_parts}
+use Rattle.box_eval.proofs.ListLemmas.{each_imp, each_both, or_none, or_parts}
 use Rattle.box_eval.proofs.OpLemmas.{last_here, last_later}
+use Rattle.box_eval.proofs.PlaceLemmas.{name_swapped}
 
 -- what holds of each entry holds of the last of each name
 each_last : {Entry : Type 0} (name_of : Entry → List ℕ) (P : Entry → Type 0) (entries : List Entry) → AllByRecursion P entries → AllByRecursion P (last_of_each name_of entries)
@@ -51,6 +53,25 @@ module _ (box : BoxId) (starts : List Start) where
   pub lacks_at_first : (ops : List ResetOp) (set : List Counter) → HasNoneOf (box ∷ []) set → LacksAll ops set
   lacks_at_first ops set none = all_missing (last_resets ops) set none
 
+  -- The new counters, all at once.
+
+  none_named : (name : List ℕ) (ops : List ResetOp) → AllByRecursion (λ (other : ResetOp). bytes_eq other.name name ≡ false) ops → list_any (is_named name) (map new ops) ≡ false
+  none_named name [] h = refl
+  none_named name (op ∷ ops) h = or_none (is_named name (new op)) (list_any (is_named name) (map new ops)) (name_swapped name op.name ∙ h.0) (none_named name ops h.1)
+
+  pub own_names : (ops : List ResetOp) → HaveOwnNames (map new (last_resets ops))
+  own_names [] = tt
+  own_names (op ∷ later) = elim (cases_Bool (list_any (λ (other : ResetOp). bytes_eq other.name op.name) later)) [
+    | inl e ↦ rw e (own_names later)
+    | inr e ↦
+        let others = each_last (λ (op : ResetOp). op.name) (λ (other : ResetOp). bytes_eq other.name op.name ≡ false) later (each_fails (λ (other : ResetOp). bytes_eq other.name op.name) later e) in
+        rw e (none_named op.name (last_resets later) others, own_names later)
+  ]
+
+  pub all_at_once : (is_replaced : Counter → Bool) (ops : List ResetOp) (set : List Counter) → fold (instantiated is_replaced) set (map new ops) ≡ fold (reset_by is_replaced box starts) set ops
+  all_at_once is_replaced [] set = refl
+  all_at_once is_replaced (op ∷ ops) set = all_at_once is_replaced ops (reset_by is_replaced box starts set op)
+
   module _ (is_replaced : Counter → Bool) (rest later : List ResetOp) (op : ResetOp) (begins : rest ≡ op ∷ later) (set : List Counter) where
     pub first_lacks : list_any (λ (other : ResetOp). bytes_eq other.name op.name) later ≡ false → LacksAll rest set → is_missing_in set (new op) ≡ true
     first_lacks last lacks =
@@ -73,3 +94,13 @@ module _ (box : BoxId) (starts : List Start) where
     pub later_lacked : list_any (λ (other : ResetOp). bytes_eq other.name op.name) later ≡ true → LacksAll rest set → LacksAll later set
     later_lacked again lacks =
         subst (λ ops. AllByRecursion (λ op. is_missing_in set (new op) ≡ true) ops) (last_later (λ (op : ResetOp). op.name) rest later op begins again) lacks
+
+  pub all_distinct : (is_replaced : Counter → Bool) (ops : List ResetOp) (set : List Counter) → LacksAll ops set → AreDistinct set → AreDistinct (fold (reset_by is_replaced box starts) set (last_resets ops))
+  all_distinct is_replaced [] set lacks distinct = distinct
+  all_distinct is_replaced (op ∷ later) set lacks distinct = elim (cases_Bool (list_any (λ (other : ResetOp). bytes_eq other.name op.name) later)) [
+    | inl e ↦ rw e (all_distinct is_replaced later set (later_lacked is_replaced (op ∷ later) later op refl set e lacks) distinct)
+    | inr e ↦
+        rw e
+        (all_distinct is_replaced later (reset_by is_replaced box starts set op) (later_lack is_replaced (op ∷ later) later op refl set e lacks)
+        (reset_distinct is_replaced (op ∷ later) later op refl set e lacks distinct))
+  ]

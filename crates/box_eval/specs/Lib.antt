@@ -1,5 +1,6 @@
 pub mod Boxes
 pub mod Properties
+pub mod Lookups
 pub mod Elements
 pub mod Evaluation
 pub mod Starts

@@ -4,12 +4,14 @@ ghost use Rattle.std.specs.Prelude.{◌≡◌, ◌∷◌, [], IfOk, unwrap_or};
 ghost use Rattle.std.specs.Str.{chars};
 ghost use Rattle.counter_sets.specs.Sets.{AreDistinct, is_missing_in};
 ghost use Rattle.box_eval.specs.Scopes.{HasNoneOf};
-ghost use Rattle.box_eval.specs.Properties.{after_resets, change_of, changes_of, counted, creator_of, first_value, has_implicit_step, implicit_op, implicit_step, incremented_all, assigned_all, increments_of, reset_by, start_in};
+ghost use Rattle.box_eval.specs.Properties.{after_resets, change_of, changes_of, counted, counted_from, creator_of, first_value, has_implicit_step, implicit_op, implicit_step, incremented_all, assigned_all, increments_of, reset_by, start_in};
 
 use crate::change::Change;
+use crate::counting_many::{count_many, reset_many};
 use crate::inputs::Start;
 use crate::ops::{is_named_in, is_reset_in, is_same, last_assigns, merged, number_for};
 use content_eval::place::Place;
+use counter_sets::by_name::MANY;
 use counter_sets::counter_set::CounterSet;
 use plain_types::box_id::BoxId;
 use plain_types::count::Count;
@@ -44,15 +46,38 @@ pub fn count_box(
     let reset = reset_all(alloc, starts, style.resets.as_slice(), place)?;
     let increments = increments_of(alloc, is_item, style.increments.as_slice(), &reset)?;
     let assigns = last_assigns(alloc, style.assigns.as_slice())?;
-    let raised = increment_all(alloc, increments.as_slice(), place, reset)?;
-    let set = assign_all(alloc, assigns.as_slice(), place, raised)?;
-    let changes = changes_of(
-        alloc,
-        place.creator,
-        increments.as_slice(),
-        assigns.as_slice(),
-        &set,
-    )?;
+    if increments.len() < MANY && assigns.len() < MANY {
+        count_few(
+            alloc,
+            increments.as_slice(),
+            assigns.as_slice(),
+            place,
+            reset,
+        )
+    } else {
+        count_many(
+            alloc,
+            increments.as_slice(),
+            assigns.as_slice(),
+            place,
+            reset,
+        )
+    }
+}
+
+/// The counters of a box after these few increments and numbers that it sets.
+fn count_few(
+    alloc: Global,
+    increments: &[CounterOp],
+    assigns: &[CounterOp],
+    place: &Place,
+    reset: CounterSet,
+) -> Result<Counted, Memory>
+    ensures counted { IfOk result (λ after. after ≡ counted_from (is_missing_in place.now.parent) place.now.creator [] increments.now assigns.now reset) }
+{
+    let raised = increment_all(alloc, increments, place, reset)?;
+    let set = assign_all(alloc, assigns, place, raised)?;
+    let changes = changes_of(alloc, place.creator, increments, assigns, &set)?;
     Ok(Counted { set, changes })
 }
 
@@ -106,6 +131,23 @@ fn reset(
 
 /// The counters after `counter-reset`, of which the last entry of each name holds.
 fn reset_all(
+    alloc: Global,
+    starts: &[Start],
+    resets: &[ResetOp],
+    place: &Place,
+) -> Result<CounterSet, Memory>
+    requires new { HasNoneOf (place.now.creator ∷ []) place.now.set }
+    ensures set { IfOk result (λ after. after ≡ after_resets (is_missing_in place.now.parent) place.now.creator starts.now resets.now place.now.set) }
+{
+    if resets.len() < MANY {
+        reset_few(alloc, starts, resets, place)
+    } else {
+        reset_many(alloc, starts, resets, place)
+    }
+}
+
+/// The same after a few entries, one after the other.
+fn reset_few(
     alloc: Global,
     starts: &[Start],
     resets: &[ResetOp],

@@ -29,11 +29,13 @@
 //! ```
 #![tactic(auto)]
 
+mod box_starts;
 pub mod boxes;
 pub mod change;
 pub mod changed_starts;
 mod counter_id;
 mod counting;
+mod counting_many;
 pub mod element;
 pub mod element_record;
 pub mod entry;
@@ -41,5 +43,6 @@ mod formed;
 pub mod inputs;
 pub mod laws;
 pub mod made;
+mod numbers;
 mod ops;
 pub mod starts;

@@ -1,12 +1,16 @@
 //! The entries of a box's counter properties (CSS Lists 3, 4.1, 4.2 and 4.6).
 
-ghost use Rattle.std.specs.Prelude.{◌≡◌, IfOk, cond};
+ghost use Rattle.std.specs.Prelude.{◌≡◌, ℕ, List, IfOk, cond, pos, unwrap_or};
 ghost use Rattle.std.specs.List.{list_any};
 ghost use Rattle.std.specs.Str.{bytes_eq, chars};
 ghost use Rattle.plain_types.specs.Counts.{count_sum};
 ghost use Rattle.plain_types.specs.declared.style.ResetOp.{ResetOp};
+ghost use Rattle.counter_sets.specs.ByNames.{value_of};
+ghost use Rattle.counter_sets.specs.Sets.{last_place};
+ghost use Rattle.box_eval.specs.Lookups.{first_place};
 ghost use Rattle.box_eval.specs.Properties.{is_for, last_assigns, merged, number_for, sum_for};
 
+use counter_sets::by_name::{ByName, MANY, is_at};
 use plain_types::count::{Count, add_counts};
 use plain_types::duplicate::Duplicate;
 use plain_types::list::List;
@@ -91,6 +95,17 @@ fn with_sum(alloc: Global, op: &CounterOp, increments: &[CounterOp]) -> Result<C
 pub fn merged(alloc: Global, increments: &[CounterOp]) -> Result<List<CounterOp>, Memory>
     ensures merged { IfOk result (λ all. all ≡ merged increments.now) }
 {
+    if increments.len() < MANY {
+        merged_few(alloc, increments)
+    } else {
+        merged_many(alloc, increments)
+    }
+}
+
+/// The same of a few entries, which are gone through for each of them.
+fn merged_few(alloc: Global, increments: &[CounterOp]) -> Result<List<CounterOp>, Memory>
+    ensures merged { IfOk result (λ all. all ≡ merged increments.now) }
+{
     let mut all = List::new(alloc);
     for (place, op) in increments.iter().enumerate() {
         if !is_named_in(&increments[..place], op.name.as_str()) {
@@ -100,8 +115,60 @@ pub fn merged(alloc: Global, increments: &[CounterOp]) -> Result<List<CounterOp>
     Ok(all)
 }
 
+/// The same of many entries, with look-ups.
+fn merged_many(alloc: Global, increments: &[CounterOp]) -> Result<List<CounterOp>, Memory>
+    ensures merged { IfOk result (λ all. all ≡ merged increments.now) }
+{
+    let first = first_places(alloc, increments)?;
+    let sums = sums_by_name(alloc, increments)?;
+    let mut all = List::new(alloc);
+    for (place, op) in increments.iter().enumerate() {
+        if is_at(first.get(op.name.as_str()), place) {
+            all.push(CounterOp {
+                name: op.name.duplicate(alloc)?,
+                value: sums.get(op.name.as_str()).unwrap_or(0),
+            })?;
+        }
+    }
+    Ok(all)
+}
+
+/// The place of the first entry of each name.
+fn first_places(alloc: Global, ops: &[CounterOp]) -> Result<ByName<usize>, Memory>
+    ensures places { IfOk result (λ places. (name : List ℕ) → value_of places name ≡ first_place (is_for name) ops.now) }
+{
+    let mut places = ByName::new(alloc);
+    for (place, op) in ops.iter().enumerate() {
+        places.put_first(alloc, op.name.as_str(), place)?;
+    }
+    Ok(places)
+}
+
+/// The sum of the entries of each name.
+fn sums_by_name(alloc: Global, ops: &[CounterOp]) -> Result<ByName<Count>, Memory>
+    ensures sums { IfOk result (λ sums. (name : List ℕ) → unwrap_or (value_of sums name) (pos 0) ≡ sum_for name ops.now) }
+{
+    let mut sums = ByName::new(alloc);
+    for op in ops {
+        let sum = sums.get(op.name.as_str()).unwrap_or(0);
+        sums.put(alloc, op.name.as_str(), add_counts(sum, op.value))?;
+    }
+    Ok(sums)
+}
+
 /// The entries of `counter-set`, of each name the last.
 pub fn last_assigns(alloc: Global, assigns: &[CounterOp]) -> Result<List<CounterOp>, Memory>
+    ensures last { IfOk result (λ last. last ≡ last_assigns assigns.now) }
+{
+    if assigns.len() < MANY {
+        last_of_few(alloc, assigns)
+    } else {
+        last_of_many(alloc, assigns)
+    }
+}
+
+/// The same of a few entries, of which those behind are gone through for each.
+fn last_of_few(alloc: Global, assigns: &[CounterOp]) -> Result<List<CounterOp>, Memory>
     ensures last { IfOk result (λ last. last ≡ last_assigns assigns.now) }
 {
     let mut last = List::new(alloc);
@@ -113,4 +180,40 @@ pub fn last_assigns(alloc: Global, assigns: &[CounterOp]) -> Result<List<Counter
         rest = later;
     }
     Ok(last)
+}
+
+/// The same of many entries, with a look-up.
+fn last_of_many(alloc: Global, assigns: &[CounterOp]) -> Result<List<CounterOp>, Memory>
+    ensures last { IfOk result (λ last. last ≡ last_assigns assigns.now) }
+{
+    let places = last_places(alloc, assigns)?;
+    let mut last = List::new(alloc);
+    for (place, op) in assigns.iter().enumerate() {
+        if is_at(places.get(op.name.as_str()), place) {
+            last.push(op.duplicate(alloc)?)?;
+        }
+    }
+    Ok(last)
+}
+
+/// The place of the last entry of each name.
+fn last_places(alloc: Global, ops: &[CounterOp]) -> Result<ByName<usize>, Memory>
+    ensures places { IfOk result (λ places. (name : List ℕ) → value_of places name ≡ last_place (is_for name) ops.now) }
+{
+    let mut places = ByName::new(alloc);
+    for (place, op) in ops.iter().enumerate() {
+        places.put(alloc, op.name.as_str(), place)?;
+    }
+    Ok(places)
+}
+
+/// The place of the last entry of `counter-reset` of each name.
+pub fn last_resets(alloc: Global, ops: &[ResetOp]) -> Result<ByName<usize>, Memory>
+    ensures places { IfOk result (λ places. (name : List ℕ) → value_of places name ≡ last_place (λ (op : ResetOp). bytes_eq op.name name) ops.now) }
+{
+    let mut places = ByName::new(alloc);
+    for (place, op) in ops.iter().enumerate() {
+        places.put(alloc, op.name.as_str(), place)?;
+    }
+    Ok(places)
 }

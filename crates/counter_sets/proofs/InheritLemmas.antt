@@ -1,14 +1,14 @@
 -- What boxes inherit, found in a list.
-use Rattle.std.proofs.Common.{◌≡◌, ◌≢◌, ◌+◌, ◌∷◌, ◌++◌, ◌&&◌, ◌||◌, ◌==◌, ◌<◌, ℕ, zero, suc, ℤ, List, [], Bool, true, false, cond, not, Option, Some, None, length, take, drop, map, get_or, refl, sym, subst, ap, ◌∙◌, arith, inl, inr, true≢false, append_assoc}
-use Rattle.std.specs.Prelude.{IfNone, IsSomeAnd, filter, find, option_copied, slice_get}
+use Rattle.std.proofs.Common.{◌≡◌, ◌≢◌, ◌+◌, ◌≤◌, ◌∷◌, ◌++◌, ◌&&◌, ◌||◌, ◌==◌, ◌<◌, ℕ, zero, suc, ℤ, List, [], Bool, true, false, cond, not, Option, Some, None, length, take, drop, map, get_or, refl, sym, subst, ap, ◌∙◌, arith, inl, inr, true≢false, append_assoc}
+use Rattle.std.specs.Prelude.{◌-◌, IfNone, IsSomeAnd, filter, find, nat_le, option_copied, slice_get}
 use Rattle.std.specs.Slice.{IsItemAt}
 use Rattle.std.proofs.lemmas.Option.{slice_get_past, slice_get_read}
 use denote.Ref.{Bor}
 use Rattle.std.specs.Cmp.Lexicographic.{nat_list_eq_equiv}
 use Rattle.std.specs.List.{list_any}
-use Rattle.std.proofs.lemmas.Bool.{cases_Bool}
+use Rattle.std.proofs.lemmas.Bool.{cases_Bool, cases_lt}
 use Rattle.std.proofs.lemmas.Bool.Decides.{Decides-eqb, nat_tests}
-use Rattle.std.proofs.lemmas.List.{append_cancel_left, append-nil, map-append, take_more, take-append-drop}
+use Rattle.std.proofs.lemmas.List.{append_cancel_left, append-nil, drop-drop, map-append, take_more, take-append-drop}
 use Rattle.std.proofs.lemmas.List.Elements.{filter-append}
 use Rattle.plain_types.specs.declared.box_id.BoxId.{BoxId}
 use Rattle.plain_types.specs.declared.box_kind.BoxKind.{BoxKind}
@@ -113,6 +113,59 @@ past_one parent sibling past rest place counter first below read splits alike h 
           (lacked_push rest (take place parent) counter (lacked_rest first rest (take place parent) lacked)
           (sym (any_alike counter first rest alike) ∙ lacking (list_any (is_same first) rest) distinct.0));
     }
+
+-- these counters of the sibling come behind the place, and those before it are among the parent's
+pub record IsBehind (parent sibling past : List Counter) (place : ℕ) : Type 0 where
+  pub within : place ≤ length parent
+  pub at : drop place sibling ≡ past
+  pub known : (k : ℕ) (counter : Counter) → k < place → slice_get sibling k ≡ Some counter → is_missing_in parent counter ≡ false
+
+pub behind_none : (parent sibling : List Counter) → IsBehind parent sibling sibling 0
+behind_none parent sibling = record { within = omega arith; at = refl; known = λ k counter before there. absurd (omega (arith, before)) }
+
+-- the items of a list from a place on
+from_place : (xs : List Counter) (n k : ℕ) → slice_get xs (n + k) ≡ slice_get (drop n xs) k
+from_place xs zero k = let e : 0 + k ≡ k = omega arith in ap (slice_get xs) e
+from_place [] (suc n) k = refl
+from_place (x ∷ xs) (suc n) k = let e : suc n + k ≡ suc (n + k) = omega arith in ap (slice_get (x ∷ xs)) e ∙ from_place xs n k
+
+pub behind_one : (parent sibling past rest : List Counter) (place : ℕ) (counter first : Counter) → place < length parent → counter ≡ get_or parent place counter → past ≡ first ∷ rest
+    → is_same counter first ≡ true → IsBehind parent sibling past place → IsBehind parent sibling rest (place + 1)
+behind_one parent sibling past rest place counter first below read splits alike h =
+    let there : is_missing_in parent first ≡ false = ap not (any_at (is_same first) parent place counter below read (same_symm first counter ∙ alike)) in
+    record {
+      within = omega (arith, below);
+      at = sym (drop-drop 1 place sibling) ∙ ap (drop 1) (h.at ∙ splits);
+      known = λ k other before found.
+          elim (cases_lt k place) [
+            | inl earlier ↦ h.known k other earlier found
+            | inr late ↦
+                let same : k ≡ place + 0 = omega (arith, before, late) in
+                let here : Some first ≡ Some other = sym (ap (slice_get sibling) same ∙ from_place sibling place 0 ∙ ap (λ xs. slice_get xs 0) (h.at ∙ splits)) ∙ found in
+                let it : first ≡ other = cc in
+                ap (is_missing_in parent) (sym it) ∙ there
+          ];
+    }
+
+lacked_at : (parent past : List Counter) (k : ℕ) (counter : Counter) → AreLackedBy past parent → slice_get past k ≡ Some counter → is_missing_in parent counter ≡ true
+lacked_at parent [] k counter h there = absurd (cc)
+lacked_at parent (c ∷ past) zero counter h there = let it : c ≡ counter = cc in ap (is_missing_in parent) (sym it) ∙ ap not (lacked_first c past parent h)
+lacked_at parent (c ∷ past) (suc k) counter h there = lacked_at parent past k counter (lacked_rest c past parent h) there
+
+pub behind_all : (parent sibling past : List Counter) (place : ℕ) → length parent ≤ place → take place parent ≡ parent → IsPast parent sibling past place → IsBehind parent sibling past place
+    → (k : ℕ) (counter : Counter) → slice_get sibling k ≡ Some counter → is_missing_in parent counter ≡ nat_le (length parent) k
+behind_all parent sibling past place long all h b k counter there = elim (cases_lt k place) [
+  | inl earlier ↦
+      let inside : place ≤ length parent = b.within in
+      let less : nat_le (length parent) k ≡ false = grind (arith, nat_tests) in
+      b.known k counter earlier there ∙ sym less
+  | inr late ↦
+      let inside : place ≤ length parent = b.within in
+      let more : nat_le (length parent) k ≡ true = grind (arith, nat_tests) in
+      let split : k ≡ place + (k - place) = omega (arith, late) in
+      let found : slice_get past (k - place) ≡ Some counter = ap (λ xs. slice_get xs (k - place)) (sym b.at) ∙ sym (from_place sibling place (k - place)) ∙ sym (ap (slice_get sibling) split) ∙ there in
+      lacked_at parent past (k - place) counter (subst (AreLackedBy past) all h.lacked) found ∙ sym more
+]
 
 pub past_all : (parent sibling past : List Counter) (place : ℕ) → take place parent ≡ parent → IsPast parent sibling past place → past ≡ filter (is_missing_in parent) sibling
 past_all parent sibling past place all h = sym (h.same ∙ all_kept parent past (subst (AreLackedBy past) all h.lacked))

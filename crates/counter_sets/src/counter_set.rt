@@ -1,12 +1,15 @@
 //! Sets that share their lists.
 
 ghost use Rattle.std.specs.Prelude.{◌≡◌, ◌≢◌, ◌↔◌, None, Some, ◌++◌, ◌∷◌, [], ◌<◌, IfNone, IfOk, IfSome, IsTrue, length, option_copied, false, remove, unwrap_or};
+ghost use Rattle.std.specs.List.{fold};
 ghost use Rattle.std.specs.Option.{option_map_or};
 ghost use Rattle.std.specs.Str.{chars};
+ghost use Rattle.counter_sets.specs.Indexes.{HaveOwnNames};
 ghost use Rattle.counter_sets.specs.Sets.{AreDistinct, assigned, incremented, inherited, innermost, innermost_place, instantiated, is_missing_in, replaced_place, change_at, with_value};
 
 use crate::counters::{are_equal, copy_with_capacity, is_missing_in, last_place};
 use crate::inheriting::{copy_inherited, is_inherited};
+use crate::instantiating::copy_left;
 use plain_types::box_id::BoxId;
 use plain_types::count::{Count, add_counts};
 use plain_types::counter::Counter;
@@ -90,6 +93,26 @@ impl CounterSet {
         let mut counters = self.without_replaced(alloc, parent, counter.name.as_str())?;
         counters.push(counter)?;
         CounterSet::of(alloc, counters)
+    }
+
+    /// The set with these new counters at its end, one after the other as by `instantiate`. They have names of their
+    /// own, and the caller sees to it that none is the same as another counter of the set. It takes time linear in
+    /// the sets' lengths and in the new counters where the parent's counters come first in the set: so it is in the
+    /// sets of boxes.
+    pub fn instantiate_all(
+        self,
+        alloc: Global,
+        parent: &CounterSet,
+        counters: Vec<Counter>,
+    ) -> Result<CounterSet, Memory>
+        requires names { HaveOwnNames counters.items }
+        requires distinct { AreDistinct (fold (instantiated (is_missing_in parent.now)) self counters.items) }
+        ensures set { IfOk result (λ set. set ≡ fold (instantiated (is_missing_in parent.now)) self counters.items) }
+    {
+        let mut new = counters;
+        let mut all = copy_left(alloc, self.as_slice(), parent.as_slice(), new.as_slice())?;
+        all.append(&mut new)?;
+        CounterSet::of(alloc, all)
     }
 
     /// The set with the innermost counter of the name raised (CSS Lists 3, 4.2), saturated. Where there is
@@ -184,7 +207,7 @@ impl CounterSet {
     }
 
     /// How many counters there are.
-    fn len(&self) -> usize
+    pub(crate) fn len(&self) -> usize
         ensures length { result ≡ length self.now }
     {
         self.as_slice().len()
@@ -203,7 +226,7 @@ impl CounterSet {
     }
 
     /// The place of the innermost counter of a name.
-    fn innermost_place(&self, name: &str) -> Option<usize>
+    pub(crate) fn innermost_place(&self, name: &str) -> Option<usize>
         ensures place { result ≡ innermost_place self.now (chars name.now) }
         ensures within { IfSome result (λ place. place < length self.now) }
     {
@@ -262,7 +285,12 @@ impl CounterSet {
     }
 
     /// The set with this value for the counter at a place.
-    fn with_value(self, alloc: Global, place: usize, value: Count) -> Result<CounterSet, Memory>
+    pub(crate) fn with_value(
+        self,
+        alloc: Global,
+        place: usize,
+        value: Count,
+    ) -> Result<CounterSet, Memory>
         requires within { place < length self }
         ensures set { IfOk result (λ set. set ≡ change_at (with_value (λ _. value)) self place) }
     {
@@ -276,7 +304,7 @@ impl CounterSet {
     }
 
     /// The set with a new counter that is not reversed, of a name that has none.
-    fn with_new(
+    pub(crate) fn with_new(
         self,
         alloc: Global,
         name: &Text,

@@ -1,10 +1,12 @@
 //! Lists of counters.
 
-ghost use Rattle.std.specs.Prelude.{◌≡◌, ◌↔◌, ◌<◌, IfOk, IfSome, IsSomeAnd, IsTrue, find, length, option_copied, slice_get, true};
+ghost use Rattle.std.specs.Prelude.{◌≡◌, ◌↔◌, ◌<◌, ℕ, List, IfOk, IfSome, IsSomeAnd, IsTrue, find, length, option_copied, slice_get, true};
 ghost use Rattle.std.specs.List.{list_any};
 ghost use Rattle.std.specs.Str.{chars};
+ghost use Rattle.counter_sets.specs.ByNames.{value_of};
 ghost use Rattle.counter_sets.specs.Sets.{AreDistinct, is_missing_in, is_named, is_same, last_place, with_value};
 
+use crate::by_name::ByName;
 use plain_types::count::Count;
 use plain_types::counter::Counter;
 use plain_types::duplicate::Duplicate;
@@ -94,6 +96,17 @@ pub(crate) fn last_place(counters: &[Counter], name: &str) -> Option<usize>
         front = before;
     }
     None
+}
+
+/// The place of the last counter of each name.
+pub(crate) fn last_places(alloc: Global, counters: &[Counter]) -> Result<ByName<usize>, Memory>
+    ensures places { IfOk result (λ places. (name : List ℕ) → value_of places name ≡ last_place (is_named name) counters.now) }
+{
+    let mut places = ByName::new(alloc);
+    for (place, counter) in counters.iter().enumerate() {
+        places.put(alloc, counter.name.as_str(), place)?;
+    }
+    Ok(places)
 }
 
 /// Copies of the counters, in a list with room for so many.

@@ -1,6 +1,6 @@
 //! The counters that a box inherits (CSS Lists 3, 4.4).
 
-ghost use Rattle.std.specs.Prelude.{◌≡◌, ◌≢◌, ◌↔◌, ◌++◌, ◌∷◌, IfNone, IfOk, IfSome, IsTrue, List, OnOk, Some, filter, map};
+ghost use Rattle.std.specs.Prelude.{◌≡◌, ◌≢◌, ◌↔◌, ◌++◌, ◌∷◌, ℕ, IfNone, IfOk, IfSome, IsTrue, List, OnOk, Some, filter, length, map, nat_le, slice_get};
 ghost use Rattle.plain_types.specs.declared.counter.Counter.{Counter};
 ghost use Rattle.counter_sets.specs.Sets.{AreDistinct, inherited, is_missing_in, valued_in, with_value};
 
@@ -65,9 +65,10 @@ fn besides<'a>(parent: &'a [Counter], sibling: &'a [Counter]) -> (&'a [Counter],
 }
 
 /// The sibling's counters past those of the parent, where these come first among them.
-fn past_front<'a>(parent: &[Counter], sibling: &'a [Counter]) -> Option<&'a [Counter]>
+pub(crate) fn past_front<'a>(parent: &[Counter], sibling: &'a [Counter]) -> Option<&'a [Counter]>
     requires siblings { AreDistinct sibling.now }
     ensures past { IfSome result (λ past. past.now ≡ filter (is_missing_in parent.now) sibling.now) }
+    ensures front { IfSome result (λ _. (place : ℕ) (counter : Counter) → slice_get sibling.now place ≡ Some counter → is_missing_in parent.now counter ≡ nat_le (length parent.now) place) }
 {
     let mut past = sibling;
     for counter in parent {

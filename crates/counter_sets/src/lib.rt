@@ -12,6 +12,9 @@
 //! knows no siblings. It looks into the parent's set: in the set of a box, the counters that the parent's set
 //! lacks are those of the box and its earlier siblings.
 //!
+//! A box with many entries asks an `IndexedSet`, which finds the innermost counter of a name by a hash, and creates its
+//! counters by `instantiate_all`. Both say the same as one entry after the other, in time linear in the entries.
+//!
 //! The layer above knows this crate by `inherited`, `instantiated`, `incremented`, `assigned` and `innermost`
 //! of `specs/Sets.antt`.
 //!
@@ -23,8 +26,11 @@
 //! ```
 #![tactic(auto)]
 
+pub mod by_name;
 pub mod counter_set;
 pub mod counters;
+pub mod indexed_set;
 mod inheriting;
+mod instantiating;
 #[cfg(test)]
 mod tests;

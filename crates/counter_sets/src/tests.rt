@@ -1,7 +1,9 @@
 //! Sets as documents have them.
 
+use crate::by_name::{ByName, MANY};
 use crate::counter_set::CounterSet;
 use crate::counters::is_missing_in;
+use crate::indexed_set::IndexedSet;
 use plain_types::box_id::BoxId;
 use plain_types::box_kind::BoxKind;
 use plain_types::count::{COUNT_HIGH, COUNT_LOW, Count};
@@ -188,6 +190,42 @@ fn lists_without_a_change_are_shared(rt: HostRuntime) -> Result<(), Fail> {
             .share(alloc)?
             .assign(alloc, &root, &n, value, element(8))?;
         assert!(rt; after.shares_with(&set), "{value}");
+    }
+    Ok(())
+}
+
+#[test]
+fn names_keep_their_values(rt: HostRuntime) -> Result<(), Fail> {
+    let alloc = rt.alloc();
+    let mut values = ByName::new(alloc);
+    values.put_first(alloc, "a", 1)?;
+    values.put_first(alloc, "a", 2)?;
+    values.put(alloc, "b", 3)?;
+    values.put(alloc, "b", 4)?;
+    for (name, want) in [("a", Some(1)), ("b", Some(4)), ("A", None), ("", None)] {
+        assert!(rt; values.get(name) == want, "{name}");
+    }
+    Ok(())
+}
+
+// for how many names a set is asked: with a look-up or without, it says the same
+#[test]
+fn a_look_up_changes_no_answer(rt: HostRuntime) -> Result<(), Fail> {
+    let alloc = rt.alloc();
+    let n = Text::from_str(alloc, "n")?;
+    let m = Text::from_str(alloc, "m")?;
+    let root = CounterSet::empty(alloc)?;
+    let outer = reset(alloc, root.share(alloc)?, &root, "n", 1)?;
+    let both = reset(alloc, outer.share(alloc)?, &outer, "n", 2)?;
+    for asked in [0, MANY - 1, MANY] {
+        let set = IndexedSet::of(alloc, both.share(alloc)?, asked)?;
+        let set = set.increment(alloc, &root, &m, 2, element(3))?;
+        let set = set.increment(alloc, &root, &m, 3, element(4))?;
+        let set = set.assign(alloc, &root, &n, 7, element(5))?;
+        let innermost = set.innermost("n").ok_or("the inner counter")?;
+        assert!(rt; innermost.creator == element(2), "{asked}");
+        assert!(rt; set.innermost("o").is_none(), "{asked}");
+        assert!(rt; has(&set.into_set(), &[(1, 0), (2, 7), (3, 5)]), "{asked}");
     }
     Ok(())
 }

@@ -1,4 +1,3 @@
-use Rattle.box_eval.specs.Elements.{Handed}
 use Rattle.box_eval.proofs.DocumentLemmas.{differs_in_earlier, same_for}
 use Rattle.box_eval.proofs.laws.shared_trees_are_told_by_what_they_are_handed.Goals as goal
 
