@@ -1,13 +1,14 @@
 -- Exchanges, at each key.
-use Rattle.std.proofs.Common.{◌≡◌, ◌<◌, ◌+◌, ◌==◌, ◌++◌, ◌∷◌, ℕ, Bool, true, false, All, List, [], length, drop, take, reverse, get_or, set, Option, Some, None, cond, refl, sym, ap, subst, ◌∙◌, arith, append_assoc}
-use Rattle.std.specs.Prelude.{unwrap_or}
+use Rattle.std.proofs.Common.{◌≡◌, ◌<◌, ◌≤◌, ◌⊎◌, ◌+◌, ◌==◌, ◌++◌, ◌∷◌, ℕ, zero, suc, Bool, true, false, List, [], length, drop, take, reverse, get_or, set, Option, Some, None, cond, inl, inr, refl, sym, ap, subst, ◌∙◌, arith, append_assoc}
+use Rattle.std.specs.Prelude.{IfSome, unwrap_or}
 use Rattle.std.specs.FinMap.{get}
 use Rattle.std.specs.Option.{option_or}
+use Rattle.std.proofs.lemmas.Bool.{cases_Bool, eqb-true}
 use Rattle.std.proofs.lemmas.Bool.Decides.{nat_tests}
 use Rattle.std.proofs.lemmas.Grind.{common_steps}
-use Rattle.std.proofs.lemmas.List.{drop_more, drop-set-lt, get_or-set_other, get_or-set_same, map-append, reverse-append, take_more_set}
+use Rattle.std.proofs.lemmas.List.{drop_more, drop-set-lt, get_or-set_other, get_or-set_same, reverse-append, take_more_set}
 use Rattle.std.proofs.Math.ListN.{length-set}
-use Rattle.std.proofs.lemmas.List.Elements.{All-tail}
+use Rattle.std.proofs.lemmas.List.Elements.{All-cons, All-nil, All-tail}
 use Rattle.std.proofs.lemmas.List.Sorted.{All-permutation, IsPermutation-reverse}
 use Rattle.merged_walk.specs.Entries.{first_at, last_at}
 use Rattle.snapshot_board.specs.Records.{Records}
@@ -16,11 +17,52 @@ use Rattle.snapshot_board.proofs.SlotLemmas.{get-held_in, get-held_in_past, held
 use Rattle.counter_index.proofs.AskingLemmas.{count-added}
 use Rattle.counter_index.specs.Exchanges.{HasRoomFor, IsWayBack, after_exchange, exchanged, keys_in, restored}
 
+past_or_inside : (room at : ℕ) → (room ≤ at) ⊎ (at < room)
+past_or_inside zero at = inl (omega arith)
+past_or_inside (suc room) zero = inr (omega arith)
+past_or_inside (suc room) (suc at) = elim (past_or_inside room at) [ inl h ↦ inl (omega (arith, h)) | inr h ↦ inr (omega (arith, h)) ]
+
 module _ {T : Type 0} where
   -- Slots, by lists.
 
   slot_set : (slots : List (Option T)) (at key : ℕ) (slot : Option T) → at < length slots → get_or (set slots at slot) key None ≡ cond (at == key) slot (get_or slots key None)
   slot_set slots at key slot inside = grind (arith, nat_tests, common_steps, get_or-set_same slots at slot None inside, get_or-set_other slots at key slot None)
+
+  -- Also where nothing is put beyond the last slot.
+
+  put_past : (slots : List (Option T)) (at : ℕ) (slot : Option T) → length slots ≤ at → set slots at slot ≡ slots
+  put_past [] at slot past = refl
+  put_past (first ∷ slots) zero slot past = absurd (omega (arith, past))
+  put_past (first ∷ slots) (suc at) slot past = ap (λ rest. first ∷ rest) (put_past slots at slot (omega (arith, past)))
+
+  none_past : (slots : List (Option T)) (at : ℕ) → length slots ≤ at → get_or slots at None ≡ None
+  none_past [] at past = refl
+  none_past (first ∷ slots) zero past = absurd (omega (arith, past))
+  none_past (first ∷ slots) (suc at) past = none_past slots at (omega (arith, past))
+
+  beyond : (slots : List (Option T)) (at key : ℕ) → length slots ≤ at → get_or slots key None ≡ cond (at == key) None (get_or slots key None)
+  beyond slots at key past = elim (cases_Bool (at == key)) [
+    | inl e ↦ rw e (none_past slots key (subst (λ k. length slots ≤ k) (eqb-true at key e) past))
+    | inr e ↦ rw e refl
+  ]
+
+  slot_put : (slots : List (Option T)) (at key : ℕ) (slot : Option T) → IfSome slot (λ _. at < length slots) → get_or (set slots at slot) key None ≡ cond (at == key) slot (get_or slots key None)
+  slot_put slots at key (Some kept) inside = slot_set slots at key (Some kept) inside
+  slot_put slots at key None inside = elim (past_or_inside (length slots) at) [
+    | inl past ↦ ap (λ all. get_or all key None) (put_past slots at None past) ∙ beyond slots at key past
+    | inr within ↦ slot_set slots at key None within
+  ]
+
+  -- what was in a slot was below the room
+  some_inside : (slots : List (Option T)) (at : ℕ) → IfSome (get_or slots at None) (λ _. at < length slots)
+  some_inside [] at = tt
+  some_inside (None ∷ slots) zero = tt
+  some_inside (Some kept ∷ slots) zero = omega arith
+  some_inside (slot ∷ slots) (suc at) = later (get_or slots at None) (some_inside slots at)
+    where
+      later : (found : Option T) → IfSome found (λ _. at < length slots) → IfSome found (λ _. suc at < length (slot ∷ slots))
+      later None h = tt
+      later (Some kept) h = omega (arith, h)
 
   same_length : (slots : List (Option T)) (at : ℕ) (slot : Option T) → length (set slots at slot) ≡ length slots
   same_length slots at slot = grind (arith, common_steps)
@@ -36,13 +78,23 @@ module _ {T : Type 0} where
   room_of : (room other : ℕ) (entries : List (ℕ × Option T)) → other ≡ room → HasRoomFor room entries → HasRoomFor other entries
   room_of room other entries e has = rw e has
 
-  room_first : (room : ℕ) (entry : ℕ × Option T) (entries : List (ℕ × Option T)) → HasRoomFor room (entry ∷ entries) → entry.0 < room
-  room_first room entry entries has = has 0 entry.0 (omega arith)
+  abbrev IsBelow : ℕ → ℕ × Option T → Type 0
+  IsBelow room entry = IfSome entry.1 (λ _. entry.0 < room)
+
+  room_first : (room : ℕ) (entry : ℕ × Option T) (entries : List (ℕ × Option T)) → HasRoomFor room (entry ∷ entries) → IsBelow room entry
+  room_first room entry entries has = has 0 entry (omega arith)
+
+  -- so has what an exchange leaves
+  exchanged-room : (entries : List (ℕ × Option T)) (slots : List (Option T)) → HasRoomFor (length slots) (exchanged entries slots).1
+  exchanged-room [] slots = All-nil (IsBelow (length slots))
+  exchanged-room (entry ∷ entries) slots =
+      All-cons (IsBelow (length slots)) (entry.0, get_or slots entry.0 None) (exchanged entries (set slots entry.0 entry.1)).1 (some_inside slots entry.0)
+      (room_of (length (set slots entry.0 entry.1)) (length slots) (exchanged entries (set slots entry.0 entry.1)).1 (sym (same_length slots entry.0 entry.1)) (exchanged-room entries (set slots entry.0 entry.1)))
 
   room_rest : (slots : List (Option T)) (entry : ℕ × Option T) (entries : List (ℕ × Option T)) → HasRoomFor (length slots) (entry ∷ entries)
       → HasRoomFor (length (set slots entry.0 entry.1)) entries
   room_rest slots entry entries has =
-      room_of (length slots) _ entries (same_length slots entry.0 entry.1) (All-tail (λ (key : ℕ). key < length slots) entry.0 (keys_in entries) has)
+      room_of (length slots) _ entries (same_length slots entry.0 entry.1) (All-tail (IsBelow (length slots)) entry entries has)
 
   put_last : (last : Option (Option T)) (here : Bool) (new old : Option T) → unwrap_or last (cond here new old) ≡ unwrap_or (option_or last (cond here (Some new) None)) old
   put_last (Some kept) here new old = refl
@@ -54,13 +106,13 @@ module _ {T : Type 0} where
   slots-exchanged [] slots room key = refl
   slots-exchanged (entry ∷ entries) slots room key =
       slots-exchanged entries (set slots entry.0 entry.1) (room_rest slots entry entries room) key
-      ∙ ap (unwrap_or (last_at entries key)) (slot_set slots entry.0 key entry.1 (room_first (length slots) entry entries room))
+      ∙ ap (unwrap_or (last_at entries key)) (slot_put slots entry.0 key entry.1 (room_first (length slots) entry entries room))
       ∙ put_last (last_at entries key) (entry.0 == key) entry.1 (get_or slots key None)
 
-  put_first : (here : Bool) (at key : ℕ) (first : Option (Option T)) (now : Option T) (slots : List (Option T)) (new : Option T) → at < length slots → (at == key) ≡ here
+  put_first : (here : Bool) (at key : ℕ) (first : Option (Option T)) (now : Option T) (slots : List (Option T)) (new : Option T) → IfSome new (λ _. at < length slots) → (at == key) ≡ here
       → unwrap_or first now ≡ get_or (set slots at new) key None → unwrap_or (cond here (Some (get_or slots at None)) first) now ≡ get_or slots key None
   put_first true at key first now slots new inside e is = ap (λ k. get_or slots k None) (grind (arith, nat_tests, e))
-  put_first false at key first now slots new inside e is = is ∙ slot_set slots at key new inside ∙ ap (λ b. cond b new (get_or slots key None)) e
+  put_first false at key first now slots new inside e is = is ∙ slot_put slots at key new inside ∙ ap (λ b. cond b new (get_or slots key None)) e
 
   slots-restored : (entries : List (ℕ × Option T)) (slots : List (Option T)) → HasRoomFor (length slots) entries → (key : ℕ)
       → restored (exchanged entries slots).1 (λ at. get_or (exchanged entries slots).0 at None) key ≡ get_or slots key None
@@ -98,14 +150,6 @@ module _ {T : Type 0} where
       ∙ ap (option_or here) (last-reverse entries key)
       ∙ or-cond (entry.0 == key) entry.1 (first_at entries key)
 
-  keys-reverse : (entries : List (ℕ × Option T)) → keys_in (reverse entries) ≡ reverse (keys_in entries)
-  keys-reverse [] = refl
-  keys-reverse (entry ∷ entries) =
-      ap keys_in (reverse-append (entry ∷ []) entries)
-      ∙ map-append (λ (e : ℕ × Option T). e.0) (reverse entries) (entry ∷ [])
-      ∙ ap (λ keys. keys ++ (entry.0 ∷ [])) (keys-reverse entries)
-      ∙ sym (reverse-append (entry.0 ∷ []) (keys_in entries))
-
   -- What is kept, by keys.
 
   held-exchanged : (entries : List (ℕ × Option T)) (slots : List (Option T)) → HasRoomFor (length slots) entries → (key : ℕ)
@@ -120,10 +164,7 @@ module _ {T : Type 0} where
 
     pub room_for_reversed : (former reversed : List (ℕ × Option T)) → reversed ≡ reverse former → HasRoomFor records.room former → HasRoomFor (length slots) reversed
     room_for_reversed former reversed is has =
-        let keys : List ℕ = keys_in former in
-        let turned : reverse keys ≡ keys_in reversed = sym (keys-reverse former) ∙ sym (ap keys_in is) in
-        subst (All (λ (key : ℕ). key < length slots)) turned
-        (All-permutation (λ (key : ℕ). key < length slots) keys (reverse keys) (IsPermutation-reverse keys) (room_for former has))
+        subst (HasRoomFor (length slots)) (sym is) (All-permutation (IsBelow (length slots)) former (reverse former) (IsPermutation-reverse former) (room_for former has))
 
     module _ (entries : List (ℕ × Option T)) (is : slots' ≡ (exchanged entries slots).0) where
       pub exchange_room : length slots' ≡ records.room
@@ -137,6 +178,11 @@ module _ {T : Type 0} where
       module _ (former : List (ℕ × Option T)) (was : former ≡ (exchanged entries slots).1) where
         pub exchange_keys : keys_in former ≡ keys_in entries
         exchange_keys = ap keys_in was ∙ exchanged-keys entries slots
+
+        pub exchange_back_room : HasRoomFor (length slots') former
+        exchange_back_room =
+            subst (λ (entries : List (ℕ × Option T)). HasRoomFor (length slots') entries) (sym was)
+            (room_of (length slots) (length slots') (exchanged entries slots).1 (ap length is ∙ exchanged-length entries slots) (exchanged-room entries slots))
 
         pub exchange_back : HasRoomFor records.room entries → IsWayBack former (get (held_in slots')) (get records.held)
         exchange_back room key =
@@ -176,7 +222,7 @@ module _ {T : Type 0} where
     room_left : HasRoomFor (length slots) (entry ∷ drop (place + 1) entries)
     room_left = subst (HasRoomFor (length slots)) first_left turn.room
 
-    pub slot_inside : entry.0 < length slots
+    pub slot_inside : IsBelow (length slots) entry
     slot_inside = room_first (length slots) entry (drop (place + 1) entries) room_left
 
     pub turned : (kept : ℕ × Option T) (slots' : List (Option T)) → kept ≡ (entry.0, get_or slots entry.0 None) → slots' ≡ set slots entry.0 entry.1

@@ -1,12 +1,12 @@
 -- What the index of a document tells.
-use Rattle.std.proofs.Common.{◌≡◌, ◌++◌, ◌∷◌, ◌&&◌, ◌||◌, ◌<◌, ℕ, ℤ, pos, Bool, true, false, not, All, List, [], map, Option, Some, None, cond, refl, sym, ap, subst, ◌∙◌, arith, eq-eqb}
-use Rattle.std.specs.Prelude.{filter, is_some, option_map}
+use Rattle.std.proofs.Common.{◌≡◌, ◌++◌, ◌∷◌, ◌&&◌, ◌||◌, ◌<◌, ℕ, ℤ, pos, Bool, true, false, not, All, List, [], map, Option, Some, None, cond, refl, sym, ap, subst, ◌∙◌, arith, eq-eqb, inl, inr}
+use Rattle.std.specs.Prelude.{filter, is_some, option_and_then, option_map}
 use Rattle.std.specs.List.{find, list_any}
 use Rattle.std.specs.Option.{option_map_or}
 use Rattle.std.specs.Str.{bytes_eq}
-use Rattle.std.proofs.lemmas.Bool.{and_parts}
+use Rattle.std.proofs.lemmas.Bool.{and_parts, cases_Bool, or_parts}
 use Rattle.std.proofs.lemmas.List.{map-append}
-use Rattle.std.proofs.lemmas.List.Elements.{All-append, All-cons, All-map, All-nil, All-weaker}
+use Rattle.std.proofs.lemmas.List.Elements.{All-append, All-cons, All-head, All-map, All-nil, All-tail, All-weaker}
 use Rattle.std.proofs.lemmas.Slice.Eq.{bytes_eq-Decides}
 use Rattle.forest.specs.Forest.{Forest, Empty, Tree}
 use Rattle.forest.specs.Keys.{Keyed, HasDistinctKeys, times}
@@ -28,21 +28,28 @@ use Rattle.box_eval.specs.Boxes.{box_of, generates_box, has_pseudo_box}
 use Rattle.box_eval.specs.Elements.{Styled}
 use Rattle.box_eval.specs.Evaluation.{Element, StyledNode, box_starts, element_starts, is_boxed, style_within, styled, styled_node, styled_trees}
 use Rattle.box_eval.specs.Properties.{last_resets, start_in}
-use Rattle.box_eval.specs.Starts.{document_starts, no_starts}
-use Rattle.box_eval.proofs.BoxLemmas.{box_eq}
+use Rattle.box_eval.specs.Starts.{document_starts, events_of, has_starts, no_starts}
+use Rattle.box_eval.proofs.BoxLemmas.{box_eq, box_self}
 use Rattle.merged_walk.specs.Entries.{first_at}
 use Rattle.merged_walk.specs.Evaluators.{past_all}
 use Rattle.surroundings.specs.declared.surroundings.Surroundings.{Surroundings}
+use Rattle.surroundings.specs.declared.told.Told.{Told}
 use Rattle.surroundings.specs.StyledEvaluators.{inside_node, is_element, past_styled, root_surroundings, starts_in, starts_of, styled_evaluator}
-use Rattle.scope_deeds.specs.Counting.{Counting, counting_in}
-use Rattle.scope_deeds.proofs.LawLemmas.{kept_scopes_tell_starts}
+use Rattle.edit_work.specs.Counters.{Identity}
+use Rattle.start_reach.specs.Deeds.{AreAlike}
+use Rattle.scope_deeds.specs.Counting.{Counting, KeepsCounting, counting_in}
+use Rattle.scope_deeds.specs.Reversed.{asks_for, counting_told, has_reversed, has_reversed_in, is_start_of, meets_reversed, reversed_counting}
+use Rattle.scope_deeds.proofs.ReversedLemmas.{asks-told, others_are_idle, reversed_scopes_tell_starts}
 use Rattle.counter_index.specs.declared.deeds.CounterDeeds.{CounterDeeds}
 use Rattle.counter_index.specs.declared.index.CounterIndex.{CounterIndex}
-use Rattle.counter_index.specs.Documents.{KeepsDeeds, counter_deeds_in, counter_deeds_of}
-use Rattle.counter_index.specs.Indexes.{asked_at, asked_by, counting_at, counting_by, told_by_scope, with_values}
-use Rattle.counter_index.specs.Laws.{AskedAreOwn, AskedStartsAreKept, IndexKeepsCounting, OtherStartsAreZero, ScopesTellStarts}
+use Rattle.counter_index.specs.Documents.{KeepsDeeds, all_deeds, counter_deeds_in, counter_deeds_of}
+use Rattle.counter_index.specs.Indexes.{asked_at, asked_by, counting_at, counting_by, deeds_at, is_asked, told_by_scope, with_values}
+use Rattle.counter_index.specs.Laws.{AskedAreOwn, AskedStartsAreKept, IndexKeepsReversed, IndexKeepsWhatIsAsked, IndexKeepsWhatIsDone, OtherStartsAreZero, ScopesTellStarts}
 use Rattle.counter_index.specs.Retold.{told_entries}
+use Rattle.counter_index.specs.Told.{deeds_kept, deeds_told, told_without_starts}
+use Rattle.counter_index.specs.Touched.{deeds_by}
 use Rattle.counter_index.proofs.ListLemmas.{first-has, first-mapped}
+use Rattle.counter_index.proofs.ToldLemmas.{all-told}
 
 -- What it has, by keys.
 
@@ -67,15 +74,81 @@ all-counted table handed (Tree n c r) =
     ∙ ap (λ all. map counted (counter_deeds_in table inside c) ++ all) (map-append counted own (counter_deeds_in table next r))
     ∙ (λ i. below i ++ (here i ++ beside i))
 
-pub index_keeps_counting : IndexKeepsCounting
-index_keeps_counting table style tree index keeps key =
-    ap (option_map counting_by) (keeps key)
-    ∙ sym (first-mapped counting_by (counter_deeds_in table root_surroundings (styled style no_starts tree)) key)
+-- where all is kept that elements do, it tells the starts
+pub all_deeds_keep_counting : (table : List CounterStyle) (style : ℕ → Option Style → ElementStyle) (tree : Forest (Keyed Node))
+    → KeepsCounting table (styled style no_starts tree) (λ key. option_map counting_by (all_deeds table style tree key))
+all_deeds_keep_counting table style tree key =
+    sym (first-mapped counting_by (counter_deeds_in table root_surroundings (styled style no_starts tree)) key)
     ∙ ap (λ entries. first_at entries key) (all-counted table root_surroundings (styled style no_starts tree))
 
+reversed-kept : (found : Option Told) → option_map counting_by (option_and_then deeds_kept found) ≡ option_and_then reversed_counting found
+reversed-kept None = refl
+reversed-kept (Some told) = by (meets_reversed told)
+  where
+    by : (b : Bool) → option_map counting_by (cond b (Some (deeds_told told)) None) ≡ cond b (Some (counting_told told)) None
+    by true = refl
+    by false = refl
+
+pub index_keeps_reversed : IndexKeepsReversed
+index_keeps_reversed table style tree index keeps key = ap (option_map counting_by) (keeps key) ∙ reversed-kept (first_at (told_without_starts table style tree) key)
+
+module _ (creator : BoxId) (name : List ℕ) where
+  asks-told-of : (found : Option Told) → is_start_of creator name (asked_by (option_and_then deeds_kept found)) ≡ true
+      → option_map_or (λ (told : Told). is_start_of creator name told.starts) found false ≡ true
+  asks-told-of None asks = absurd (cc)
+  asks-told-of (Some told) asks = by (meets_reversed told) asks
+    where
+      by : (b : Bool) → is_start_of creator name (asked_by (cond b (Some (deeds_told told)) None)) ≡ true → is_start_of creator name told.starts ≡ true
+      by true asks = asks
+      by false asks = absurd (cc)
+
+  -- what an index is asked for, its document is asked for
+  document-asks : (table : List CounterStyle) (style : ℕ → Option Style → ElementStyle) (tree : Forest (Keyed Node)) (index : CounterIndex) → KeepsDeeds table style tree index
+      → is_asked index creator name ≡ true → asks_for table (styled style no_starts tree) creator name ≡ true
+  document-asks table style tree index keeps asks =
+      asks-told-of (first_at (told_without_starts table style tree) creator.key) (sym (ap (λ deeds. is_start_of creator name (asked_by deeds)) (keeps creator.key)) ∙ asks)
+
 pub scopes_tell_starts : ScopesTellStarts
-scopes_tell_starts table style tree index distinct keeps creator name =
-    kept_scopes_tell_starts table style tree distinct (counting_at index) (index_keeps_counting table style tree index keeps) creator name
+scopes_tell_starts table style tree index distinct keeps creator name asks =
+    reversed_scopes_tell_starts table style tree distinct creator name (document-asks creator name table style tree index keeps asks) (counting_at index) (index_keeps_reversed table style tree index keeps)
+
+none-given : (starts : List Start) → has_starts starts ≡ false → [] ≡ starts
+none-given [] none = refl
+none-given (start ∷ starts) none = absurd (cc)
+
+pub index_keeps_what_is_asked : IndexKeepsWhatIsAsked
+index_keeps_what_is_asked table style tree index keeps key =
+    ap asked_by (keeps key)
+    ∙ by (first_at (told_without_starts table style tree) key) (asks-told table (styled style no_starts tree) key)
+    ∙ sym (ap asked_by (all-told table style tree key))
+  where
+    met : (told : Told) (b : Bool) → meets_reversed told ≡ b → told.asks ≡ has_starts told.starts → asked_by (cond b (Some (deeds_told told)) None) ≡ told.starts
+    met told true is asks = refl
+    met told false is asks = none-given told.starts (sym asks ∙ (or_parts told.asks (has_reversed told.said.own || (has_reversed_in told.said.before || has_reversed_in told.said.after)) is).0)
+
+    by : (found : Option Told) → ((told : Told) → found ≡ Some told → told.asks ≡ has_starts told.starts)
+        → asked_by (option_and_then deeds_kept found) ≡ asked_by (option_map deeds_told found)
+    by None asks = refl
+    by (Some told) asks = met told (meets_reversed told) refl (asks told refl)
+
+abbrev IsNoEvent : Identity → Told → Type 0
+IsNoEvent counter told = (events_of (counting_told told).deeds.before_children counter.creator counter.name ≡ []) × (events_of (counting_told told).deeds.after_children counter.creator counter.name ≡ [])
+
+pub index_keeps_what_is_done : IndexKeepsWhatIsDone
+index_keeps_what_is_done table style tree index distinct keeps counter asks key =
+    subst (λ deeds. AreAlike counter (option_map deeds_by deeds) (option_map deeds_by (deeds_at index key))) (sym (all-told table style tree key))
+    (subst (λ deeds. AreAlike counter (option_map deeds_by (option_map deeds_told (first_at (told_without_starts table style tree) key))) (option_map deeds_by deeds)) (sym (keeps key))
+    (by (first_at (told_without_starts table style tree) key)
+    (others_are_idle table style tree distinct counter.creator counter.name (document-asks counter.creator counter.name table style tree index keeps asks) key)))
+  where
+    met : (told : Told) (b : Bool) → (b ≡ false → IsNoEvent counter told) → AreAlike counter (Some (deeds_by (deeds_told told))) (option_map deeds_by (cond b (Some (deeds_told told)) None))
+    met told true none = record { before_children = refl; after_children = refl }
+    met told false none = let idle = none refl in record { before_children = idle.0; after_children = idle.1 }
+
+    by : (found : Option Told) → ((told : Told) → found ≡ Some told → meets_reversed told ≡ false → IsNoEvent counter told)
+        → AreAlike counter (option_map deeds_by (option_map deeds_told found)) (option_map deeds_by (option_and_then deeds_kept found))
+    by None idle = record { before_children = refl; after_children = refl }
+    by (Some told) idle = met told (meets_reversed told) (λ none. idle told refl none)
 
 -- What elements ask for.
 
@@ -162,8 +235,8 @@ module _ (table : List CounterStyle) (style : ℕ → Option Style → ElementSt
 
 pub asked_are_own : AskedAreOwn
 asked_are_own table style tree index keeps key =
-    subst (λ (first : Option CounterDeeds). All (λ (asked : Start). (asked.creator.key ≡ key) × IsLive tree key) (asked_by first)) (sym (keeps key))
-    (own-first table style tree key (first_at (counter_deeds_in table root_surroundings (styled style no_starts tree)) key) refl)
+    subst (All (λ (asked : Start). (asked.creator.key ≡ key) × IsLive tree key)) (sym (index_keeps_what_is_asked table style tree index keeps key))
+    (own-first table style tree key (all_deeds table style tree key) refl)
 
 -- Starts, by counters.
 
@@ -209,24 +282,57 @@ other_starts_are_zero table style tree index keeps creator name none =
     ap (λ starts. start_in starts creator name) (keeps creator.key)
     ∙ value-unasked (document_starts table style tree) creator name (asked_at index creator.key) none
 
--- starts that are told alike have the same values
-same-values : (told other : BoxId → List ℕ → ℤ) → ((creator : BoxId) (name : List ℕ) → told creator name ≡ other creator name) → (asked : List Start) → with_values told asked ≡ with_values other asked
-same-values told other same [] = refl
-same-values told other same (start ∷ rest) =
-    let value = same start.creator start.name in
-    let others = same-values told other same rest in
-    λ i. record { creator = start.creator; name = start.name; value = value i } ∷ others i
+-- Starts that are told again.
 
--- starts that are told again
+-- a start is among those that have it
+is-its-own : (start : Start) → (is_same_box start.creator start.creator && bytes_eq start.name start.name) ≡ true
+is-its-own start = rw (box_self start.creator, (bytes_eq-Decides start.name start.name).1 refl) refl
+
+or-true : (b : Bool) → (b || true) ≡ true
+or-true true = refl
+or-true false = refl
+
+-- where each of these starts is the same by both, they are the same with both's values
+pub same-told : (told others : BoxId → List ℕ → ℤ) (starts : List Start)
+    → ((creator : BoxId) (name : List ℕ) → is_start_of creator name starts ≡ true → told creator name ≡ others creator name)
+    → with_values told starts ≡ with_values others starts
+same-told told others [] same = refl
+same-told told others (start ∷ starts) same =
+    let first = same start.creator start.name (ap (λ b. b || is_start_of start.creator start.name starts) (is-its-own start)) in
+    let rest =
+    same-told told others starts
+    (λ creator name is. same creator name (ap (λ b. (is_same_box start.creator creator && bytes_eq start.name name) || b) is ∙ or-true (is_same_box start.creator creator && bytes_eq start.name name))) in
+    λ i. record { creator = start.creator; name = start.name; value = first i } ∷ rest i
+
+-- each of these is of a box of one element
+pub one-key : (key : ℕ) (live : Type 0) (creator : BoxId) (name : List ℕ) (starts : List Start) → All (λ (start : Start). (start.creator.key ≡ key) × live) starts
+    → is_start_of creator name starts ≡ true → creator.key ≡ key
+one-key key live creator name [] all is = absurd (cc is)
+one-key key live creator name (start ∷ starts) all is =
+    elim (cases_Bool (is_same_box start.creator creator && bytes_eq start.name name)) [
+      | inl same ↦
+          sym (ap (λ (box : BoxId). box.key) (box_eq start.creator creator (and_parts (is_same_box start.creator creator) (bytes_eq start.name name) same).0))
+          ∙ (All-head (λ (start : Start). (start.creator.key ≡ key) × live) start starts all).0
+      | inr apart ↦
+          one-key key live creator name starts (All-tail (λ (start : Start). (start.creator.key ≡ key) × live) start starts all)
+          (sym (ap (λ b. b || is_start_of creator name starts) apart) ∙ is)
+    ]
+
 module _ (table : List CounterStyle) (style : ℕ → Option Style → ElementStyle) (tree : Forest (Keyed Node)) (index : CounterIndex) (distinct : HasDistinctKeys tree) (keeps : KeepsDeeds table style tree index) where
-  told_again : (asked : List Start) → with_values (told_by_scope (counting_at index) tree) asked ≡ with_values (document_starts table style tree) asked
-  told_again asked =
-      same-values (told_by_scope (counting_at index) tree) (document_starts table style tree)
-      (λ creator name. sym (scopes_tell_starts table style tree index distinct keeps creator name)) asked
+  -- an element asks for the starts of its own counters
+  pub asks-of-its-own : (key : ℕ) (creator : BoxId) (name : List ℕ) → is_start_of creator name (asked_at index key) ≡ true → is_asked index creator name ≡ true
+  asks-of-its-own key creator name is =
+      let here : creator.key ≡ key = one-key key (IsLive tree key) creator name (asked_at index key) (asked_are_own table style tree index keeps key) is in
+      ap (λ at. is_start_of creator name (asked_at index at)) here ∙ is
+
+  told_again : (key : ℕ) → with_values (told_by_scope (counting_at index) tree) (asked_at index key) ≡ with_values (document_starts table style tree) (asked_at index key)
+  told_again key =
+      same-told (told_by_scope (counting_at index) tree) (document_starts table style tree) (asked_at index key)
+      (λ creator name is. sym (scopes_tell_starts table style tree index distinct keeps creator name (asks-of-its-own key creator name is)))
 
   pub all_told_again : (keys : List ℕ) → told_entries (told_by_scope (counting_at index) tree) index keys ≡ told_entries (document_starts table style tree) index keys
   all_told_again [] = refl
   all_told_again (key ∷ keys) =
-      let first = told_again (asked_at index key) in
+      let first = told_again key in
       let rest = all_told_again keys in
       λ i. (key, Some (first i)) ∷ rest i

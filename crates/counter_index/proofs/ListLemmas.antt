@@ -1,13 +1,12 @@
 -- Lists: loops that append something for each item, and entries by their keys.
 use Rattle.std.proofs.Common.{◌≡◌, ◌==◌, ◌<◌, ◌+◌, ◌++◌, ◌∷◌, ◌≤◌, ℕ, Bool, true, false, All, List, [], Option, Some, None, cond, inl, inr, length, get_or, map, take, refl, sym, ap, subst, ◌∙◌, arith, eq-eqb, eqb-true}
 use Rattle.std.specs.Prelude.{flat_map, option_map}
-use Rattle.std.specs.List.{list_any}
 use Rattle.std.specs.Option.{option_or}
 use Rattle.std.proofs.lemmas.List.{flat_map_more, map-append, take_more}
 use Rattle.std.proofs.lemmas.List.Elements.{All-cons, All-head, All-nil, All-tail, All-weaker}
 use Rattle.std.proofs.lemmas.Option.{same_Some}
 use Rattle.forest.proofs.SpotLaws.{chosen}
-use Rattle.merged_walk.specs.Entries.{Holds, first_at, last_at, put_over}
+use Rattle.merged_walk.specs.Entries.{Holds, first_at, last_at}
 
 pub flat-turn : {X A : Type 0} (f : X → List A) (had made grown : List A) (items : List X) (place : ℕ) (item : X) → place < length items → item ≡ get_or items place item
     → made ≡ had ++ flat_map f (take place items) → grown ≡ made ++ f item
@@ -60,24 +59,11 @@ module _ {R S : Type 0} (f : R → S) where
   last_step None true value = refl
   last_step None false value = refl
 
-  last-mapped : (entries : List (ℕ × R)) (key : ℕ) → last_at (map with_other entries) key ≡ option_map f (last_at entries key)
+  pub last-mapped : (entries : List (ℕ × R)) (key : ℕ) → last_at (map with_other entries) key ≡ option_map f (last_at entries key)
   last-mapped [] key = refl
   last-mapped (entry ∷ entries) key =
       ap (λ last. option_or last (cond (entry.0 == key) (Some (f entry.1)) None)) (last-mapped entries key)
       ∙ last_step (last_at entries key) (entry.0 == key) entry.1
-
-  over_step : (last : Option R) (taken : Bool) (held : Option R) → option_or (option_map f last) (cond taken None (option_map f held)) ≡ option_map f (option_or last (cond taken None held))
-  over_step (Some kept) taken held = refl
-  over_step None true held = refl
-  over_step None false held = refl
-
-  pub over-mapped : (puts : List (ℕ × R)) (takes : List ℕ) (held : ℕ → Option R) (now : ℕ → Option S) (key : ℕ) → now key ≡ option_map f (held key)
-      → put_over (map with_other puts) takes now key ≡ option_map f (put_over puts takes held key)
-  over-mapped puts takes held now key is =
-      let taken : Bool = list_any (λ (taken : ℕ). taken == key) takes in
-      ap (λ last. option_or last (cond taken None (now key))) (last-mapped puts key)
-      ∙ ap (λ its. option_or (option_map f (last_at puts key)) (cond taken None its)) is
-      ∙ over_step (last_at puts key) taken (held key)
 
 -- entries whose keys come once
 module _ {R : Type 0} where

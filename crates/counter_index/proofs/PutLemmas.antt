@@ -32,7 +32,7 @@ module _ {T : Type 0} where
   taken_step empty false true = refl
   taken_step empty false false = refl
 
-  last-taken : (takes : List ℕ) (key : ℕ) → last_at (takes_out {T = T} takes) key ≡ cond (list_any (λ taken. taken == key) takes) (Some None) None
+  pub last-taken : (takes : List ℕ) (key : ℕ) → last_at (takes_out {T = T} takes) key ≡ cond (list_any (λ taken. taken == key) takes) (Some None) None
   last-taken [] key = refl
   last-taken (taken ∷ takes) key =
       ap (λ o. option_or o (cond (taken == key) (Some None) None)) (last-taken takes key)

@@ -1,7 +1,8 @@
 -- What is told of elements, and what is kept of them.
 use Rattle.std.proofs.Common.{◌≡◌, ◌==◌, ◌≤◌, ◌++◌, ◌∷◌, ◌&&◌, ◌||◌, ◌⊎◌, ℕ, Bool, true, false, not, cond, List, [], map, Option, Some, None, refl, sym, ap, ap₂, ◌∙◌, inl, inr, arith}
-use Rattle.std.specs.Prelude.{Contains, is_some, option_map}
+use Rattle.std.specs.Prelude.{Contains, is_some, option_and_then, option_map, unwrap_or}
 use Rattle.std.specs.List.{list_any}
+use Rattle.std.specs.Option.{option_or}
 use Rattle.std.proofs.lemmas.Bool.{cases_Bool}
 use Rattle.std.proofs.lemmas.List.{map-append}
 use Rattle.std.proofs.lemmas.List.Elements.{All-contains, All-contains_itself, All-weaker}
@@ -15,46 +16,35 @@ use Rattle.plain_types.specs.declared.node.Node.TheVariants as node
 use Rattle.plain_types.specs.declared.style.ElementStyle.{ElementStyle}
 use Rattle.plain_types.specs.declared.style.Style.{Style}
 use Rattle.node_arena.specs.Nodes.{name_of, node_name}
-use Rattle.box_eval.specs.Elements.{Handed, by_parent}
-use Rattle.box_eval.specs.Evaluation.{Element, StyledNode, Text, changes_in, first_changes, is_boxed, style_within, styled_node, styled_trees}
+use Rattle.box_eval.specs.Evaluation.{StyledNode, style_within, styled_node, styled_trees}
 use Rattle.box_eval.specs.Starts.{no_starts}
 use Rattle.generated_texts.proofs.EntryKeys.{has_element, named-element}
-use Rattle.merged_walk.specs.Entries.{AgreeByKeys, Holds, first_at}
+use Rattle.merged_walk.specs.Entries.{AgreeByKeys, Holds, first_at, last_at}
 use Rattle.merged_walk.specs.Evaluators.{past_all, told, told_all}
 use Rattle.merged_walk.proofs.LawLemmas.{changes_are_enough}
 use Rattle.surroundings.specs.declared.surroundings.Surroundings.{Surroundings}
 use Rattle.surroundings.specs.declared.told.Told.{Told}
-use Rattle.surroundings.specs.StyledEvaluators.{inside_node, is_element, kept_of, own_changes_in, own_changes_of, past_styled, root_surroundings, said_in, said_of, starts_of, styled_evaluator}
-use Rattle.surroundings.specs.Surroundings.{handed_by}
-use Rattle.document_walk.specs.TreeChanges.{changes_after_children, changes_before_children}
+use Rattle.surroundings.specs.StyledEvaluators.{inside_node, is_element, kept_of, past_styled, root_surroundings, said_of, starts_of, styled_evaluator}
+use Rattle.document_walk.specs.TreeChanges.{changes_after_children}
 use Rattle.document_walk.proofs.StyledKeys.{styled_distinct}
 use Rattle.scope_deeds.specs.Counting.{own_set}
+use Rattle.scope_deeds.proofs.ReversedLemmas.{before-told}
 use Rattle.counter_index.specs.declared.deeds.CounterDeeds.{CounterDeeds}
-use Rattle.counter_index.specs.Documents.{counter_deeds_in, counter_deeds_of}
+use Rattle.counter_index.specs.Documents.{all_deeds, counter_deeds_of}
+use Rattle.counter_index.specs.Exchanges.{takes_out}
 use Rattle.counter_index.specs.Indexes.{deeds_at}
-use Rattle.counter_index.specs.Laws.{CaughtIsPutOver, DeedsAreTold, ExchangesKeepDeeds, IndexKeepsWhatIsTold, NewIndexesKeepDeeds}
-use Rattle.counter_index.specs.Told.{all_deeds_told, deeds_told, told_without_starts}
-use Rattle.counter_index.proofs.ListLemmas.{first-has, first-mapped, once-held, over-mapped, times-append, times_in}
-use Rattle.counter_index.proofs.PutLemmas.{exchanges_are_put_over}
+use Rattle.counter_index.specs.Laws.{CaughtIsPutOver, DeedsAreTold, ExchangesKeepDeeds, NewIndexesKeepDeeds}
+use Rattle.counter_index.specs.Told.{all_deeds_kept, deeds_kept, deeds_told, told_without_starts}
+use Rattle.counter_index.proofs.ExchangeLemmas.{last-append}
+use Rattle.counter_index.proofs.ListLemmas.{first-has, first-mapped, last-mapped, once-held, times-append, times_in}
+use Rattle.counter_index.proofs.PutLemmas.{last-taken}
 
 -- Of one element.
 
 module _ (table : List CounterStyle) where
-  before_in : (boxed : Bool) (key : ℕ) (label : StyledNode) (handed behind : Handed)
-      → own_changes_in table boxed key label handed ++ changes_in (said_in table boxed key label handed behind).before ≡ first_changes table by_parent boxed key label handed
-  before_in true key (Element element) handed behind = refl
-  before_in false key (Element element) handed behind = refl
-  before_in true key Text handed behind = refl
-  before_in false key Text handed behind = refl
-
-  before_told : (node : Keyed StyledNode) (handed behind : Option Surroundings)
-      → own_changes_of table node handed ++ changes_in (said_of table node handed behind).before ≡ changes_before_children table node handed
-  before_told node None behind = refl
-  before_told node (Some around) behind = before_in (is_boxed true node.label) node.key node.label (handed_by around) _
-
   one_told : (node : Keyed StyledNode) (handed behind : Option Surroundings) → deeds_told (kept_of table node handed behind) ≡ counter_deeds_of table node handed behind
   one_told node handed behind =
-      let before = before_told node handed behind in
+      let before = before-told table node handed behind in
       λ i. record {
         own = own_set (said_of table node handed behind);
         asked = starts_of node handed;
@@ -86,13 +76,11 @@ deeds_are_told table handed (Tree n c r) =
     ∙ ap (λ all. map entry first ++ all) (map-append entry own later)
     ∙ (λ i. below i ++ (here i ++ beside i))
 
--- What the index has, by what is told.
-pub index_keeps_what_is_told : IndexKeepsWhatIsTold
-index_keeps_what_is_told table style tree index =
-    let told : List (ℕ × Told) = told_without_starts table style tree in
-    let same : (key : ℕ) → first_at (counter_deeds_in table root_surroundings (styled_trees style no_starts None tree)) key ≡ option_map deeds_told (first_at told key) =
-    λ key. (ap (λ entries. first_at entries key) (sym (deeds_are_told table root_surroundings (styled_trees style no_starts None tree))) ∙ first-mapped deeds_told told key) in
-    (λ keeps key. keeps key ∙ same key, λ is key. is key ∙ sym (same key))
+-- What each element of a document does, by what is told of it.
+pub all-told : (table : List CounterStyle) (style : ℕ → Option Style → ElementStyle) (tree : Forest (Keyed Node)) (key : ℕ)
+    → all_deeds table style tree key ≡ option_map deeds_told (first_at (told_without_starts table style tree) key)
+all-told table style tree key =
+    ap (λ entries. first_at entries key) (sym (deeds_are_told table root_surroundings (styled_trees style no_starts None tree))) ∙ first-mapped deeds_told (told_without_starts table style tree) key
 
 -- Of which elements something is told.
 
@@ -205,14 +193,22 @@ caught_is_put_over was_table table was_style style old new takes caught tells ke
     ])
     key
 
+exchanged-kept : (last : Option Told) (any : Bool) (held : Option CounterDeeds) (was : Option Told) → held ≡ option_and_then deeds_kept was
+    → unwrap_or (option_or (option_map deeds_kept last) (cond any (Some None) None)) held ≡ option_and_then deeds_kept (option_or last (cond any None was))
+exchanged-kept (Some told) any held was is = refl
+exchanged-kept None true held was is = refl
+exchanged-kept None false held was is = is
+
 pub exchanges_keep_deeds : ExchangesKeepDeeds
-exchanges_keep_deeds was_table table was_style style old new takes caught tells was now keeps exchanged =
-    (index_keeps_what_is_told table style new now).1
-    (λ key.
+exchanges_keep_deeds was_table table was_style style old new takes caught tells was now keeps exchanged key =
+    let held : Option Told = first_at (told_without_starts was_table was_style old) key in
+    let any : Bool = list_any (λ (taken : ℕ). taken == key) takes in
     exchanged key
-    ∙ exchanges_are_put_over takes (all_deeds_told caught) (deeds_at was) key
-    ∙ over-mapped deeds_told caught takes (first_at (told_without_starts was_table was_style old)) (deeds_at was) key ((index_keeps_what_is_told was_table was_style old was).0 keeps key)
-    ∙ ap (option_map deeds_told) (caught_is_put_over was_table table was_style style old new takes caught tells key))
+    ∙ ap (λ last. unwrap_or last (deeds_at was key)) (last-append (takes_out takes) (all_deeds_kept caught) key)
+    ∙ ap (λ last. unwrap_or (option_or last (last_at (takes_out takes) key)) (deeds_at was key)) (last-mapped deeds_kept caught key)
+    ∙ ap (λ taken. unwrap_or (option_or (option_map deeds_kept (last_at caught key)) taken) (deeds_at was key)) (last-taken takes key)
+    ∙ exchanged-kept (last_at caught key) any (deeds_at was key) held (keeps key)
+    ∙ ap (option_and_then deeds_kept) (caught_is_put_over was_table table was_style style old new takes caught tells key)
 
 -- a document that comes as a whole
 pub new_indexes_keep_deeds : NewIndexesKeepDeeds

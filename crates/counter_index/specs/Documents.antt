@@ -1,5 +1,5 @@
 -- The index of a document (our own, over CSS Lists 3, 4.4).
-use Rattle.std.specs.Prelude.{◌≡◌, ℕ, List, [], ◌∷◌, ◌++◌, Option, if◌then◌else◌}
+use Rattle.std.specs.Prelude.{◌≡◌, ℕ, List, [], ◌∷◌, ◌++◌, Option, if◌then◌else◌, option_and_then}
 use Rattle.forest.specs.Forest.{Forest, Empty, Tree}
 use Rattle.forest.specs.Keys.{Keyed}
 use Rattle.plain_types.specs.declared.counter_style.CounterStyle.{CounterStyle}
@@ -16,9 +16,10 @@ use Rattle.scope_deeds.specs.Counting.{Counting, counting_of}
 use Rattle.counter_index.specs.declared.deeds.CounterDeeds.{CounterDeeds}
 use Rattle.counter_index.specs.declared.index.CounterIndex.{CounterIndex}
 use Rattle.counter_index.specs.Indexes.{asked_at, deeds_at, starts_at, with_values}
+use Rattle.counter_index.specs.Told.{deeds_kept, told_without_starts}
 
 module _ (table : List CounterStyle) where
-  -- what is to be kept of an element that is handed this, where that is handed on behind its children
+  -- what an element does that is handed this, where that is handed on behind its children
   abbrev pub counter_deeds_of : Keyed StyledNode → (handed behind : Option Surroundings) → CounterDeeds
   counter_deeds_of node handed behind =
       let its : Counting = counting_of table node handed behind in
@@ -34,15 +35,20 @@ module _ (table : List CounterStyle) where
       ++ ((if is_element node.label then (node.key, counter_deeds_of node handed behind) ∷ [] else [])
       ++ counter_deeds_in (past_styled table node handed behind) after)
 
-module _ (table : List CounterStyle) (style : ℕ → Option Style → ElementStyle) (tree : Forest (Keyed Node)) (index : CounterIndex) where
-  -- it has what each element does where all starts are 0, and nothing else
-  abbrev pub KeepsDeeds : Type 0
-  KeepsDeeds = (key : ℕ) → deeds_at index key ≡ first_at (counter_deeds_in table root_surroundings (styled style no_starts tree)) key
+module _ (table : List CounterStyle) (style : ℕ → Option Style → ElementStyle) (tree : Forest (Keyed Node)) where
+  -- what each element of a document does where all starts are 0
+  abbrev pub all_deeds : ℕ → Option CounterDeeds
+  all_deeds key = first_at (counter_deeds_in table root_surroundings (styled style no_starts tree)) key
 
-  -- it has the starts for which each element asks, each with its value
-  abbrev pub KeepsStarts : Type 0
-  KeepsStarts = (key : ℕ) → starts_at index key ≡ with_values (document_starts table style tree) (asked_at index key)
+  module _ (index : CounterIndex) where
+    -- an index has that of each element that meets a reversed counter, and nothing else
+    abbrev pub KeepsDeeds : Type 0
+    KeepsDeeds = (key : ℕ) → deeds_at index key ≡ option_and_then deeds_kept (first_at (told_without_starts table style tree) key)
 
-  pub record IsCounterIndex : Type 0 where
-    pub deeds : KeepsDeeds
-    pub starts : KeepsStarts
+    -- it has the starts for which each element asks, each with its value
+    abbrev pub KeepsStarts : Type 0
+    KeepsStarts = (key : ℕ) → starts_at index key ≡ with_values (document_starts table style tree) (asked_at index key)
+
+    pub record IsCounterIndex : Type 0 where
+      pub deeds : KeepsDeeds
+      pub starts : KeepsStarts

@@ -1,5 +1,5 @@
 -- Exchanges of what is kept under keys, and their way back (our own).
-use Rattle.std.specs.Prelude.{◌≡◌, ◌<◌, ℕ, List, [], ◌∷◌, All, Option, Some, None, map, unwrap_or, slice_index_or, slice_set}
+use Rattle.std.specs.Prelude.{◌≡◌, ◌<◌, ℕ, List, [], ◌∷◌, All, Option, Some, None, IfSome, map, unwrap_or, slice_index_or, slice_set}
 use Rattle.merged_walk.specs.Entries.{first_at, last_at}
 
 module _ {T : Type 0} where
@@ -7,9 +7,9 @@ module _ {T : Type 0} where
   abbrev pub keys_in : List (ℕ × Option T) → List ℕ
   keys_in entries = map (λ (entry : ℕ × Option T). entry.0) entries
 
-  -- each of these keys is below the room
+  -- each of these keys is below the room, where something is to be kept under it
   abbrev pub HasRoomFor : ℕ → List (ℕ × Option T) → Type 0
-  HasRoomFor room entries = All (λ (key : ℕ). key < room) (keys_in entries)
+  HasRoomFor room entries = All (λ (entry : ℕ × Option T). IfSome entry.1 (λ _. entry.0 < room)) entries
 
   -- what takes out what is kept under these keys, and what puts these in
   abbrev pub takes_out : List ℕ → List (ℕ × Option T)

@@ -1,20 +1,18 @@
 -- What an index of counters has (our own, over CSS Lists 3, 4.4).
-use Rattle.std.specs.Prelude.{◌≡◌, ◌&&◌, ℕ, ℤ, Bool, true, List, [], Option, map, option_map}
+use Rattle.std.specs.Prelude.{◌≡◌, ℕ, ℤ, Bool, true, List, [], Option, map, option_map}
 use Rattle.std.specs.FinMap.{FinMap, get}
-use Rattle.std.specs.List.{list_any}
 use Rattle.std.specs.Option.{option_map_or}
 use Rattle.std.specs.Ordering.{nat_cmp}
-use Rattle.std.specs.Str.{bytes_eq}
 use Rattle.forest.specs.Forest.{Forest}
 use Rattle.forest.specs.Keys.{Keyed}
 use Rattle.plain_types.specs.declared.box_id.BoxId.{BoxId}
-use Rattle.counter_sets.specs.Sets.{is_same_box}
 use Rattle.reversed_start.specs.Starts.{start}
 use Rattle.box_eval.specs.declared.inputs.Start.{Start}
 use Rattle.box_eval.specs.Properties.{start_in}
 use Rattle.box_eval.specs.Starts.{events_of, has_starts}
 use Rattle.scope_deeds.specs.Counting.{Counting}
 use Rattle.scope_deeds.specs.KeptScopes.{kept_scope}
+use Rattle.scope_deeds.specs.Reversed.{is_start_of}
 use Rattle.counter_index.specs.declared.deeds.CounterDeeds.{CounterDeeds}
 use Rattle.counter_index.specs.declared.index.CounterIndex.{CounterIndex}
 
@@ -54,10 +52,6 @@ starts_at index key = starts_by (get index.starts.held key)
 -- the value that is kept of a counter, and 0 where none is
 abbrev pub value_at : CounterIndex → BoxId → List ℕ → ℤ
 value_at index creator name = start_in (starts_at index creator.key) creator name
-
--- one of these is the start of the counter of this name that this box creates
-abbrev pub is_start_of : BoxId → List ℕ → List Start → Bool
-is_start_of creator name starts = list_any (λ (asked : Start). is_same_box asked.creator creator && bytes_eq asked.name name) starts
 
 -- the boxes of its creator's element ask for its start
 abbrev pub is_asked : CounterIndex → BoxId → List ℕ → Bool

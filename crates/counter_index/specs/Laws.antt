@@ -1,5 +1,5 @@
 -- Laws of the index of a document.
-use Rattle.std.specs.Prelude.{◌≡◌, ◌↔◌, ◌++◌, ℕ, ℤ, pos, true, false, All, List, [], Option, Some, None, if◌then◌else◌, option_map}
+use Rattle.std.specs.Prelude.{◌≡◌, ◌++◌, ℕ, ℤ, pos, true, false, All, List, [], Option, Some, None, if◌then◌else◌, option_map}
 use Rattle.forest.specs.Forest.{Forest}
 use Rattle.forest.specs.Keys.{Keyed, HasDistinctKeys}
 use Rattle.forest.specs.Spots.{IsLive}
@@ -16,30 +16,44 @@ use Rattle.merged_walk.specs.Evaluators.{told_all}
 use Rattle.surroundings.specs.declared.surroundings.Surroundings.{Surroundings}
 use Rattle.surroundings.specs.declared.told.Told.{Told}
 use Rattle.surroundings.specs.StyledEvaluators.{styled_evaluator}
+use Rattle.edit_work.specs.Counters.{Identity}
 use Rattle.edit_work.specs.KeyedSources.{is_among}
-use Rattle.scope_deeds.specs.Counting.{KeepsCounting}
+use Rattle.scope_deeds.specs.Reversed.{KeepsReversed}
+use Rattle.start_reach.specs.Deeds.{AreAlike}
 use Rattle.counter_index.specs.declared.deeds.CounterDeeds.{CounterDeeds}
 use Rattle.counter_index.specs.declared.index.CounterIndex.{CounterIndex}
 use Rattle.counter_index.specs.Exchanges.{after_exchange, puts_in, takes_out}
-use Rattle.counter_index.specs.Documents.{KeepsDeeds, KeepsStarts, counter_deeds_in}
-use Rattle.counter_index.specs.Indexes.{asked_at, counting_at, deeds_at, is_asked, told_by_scope, value_at, with_values}
+use Rattle.counter_index.specs.Documents.{KeepsDeeds, KeepsStarts, all_deeds, counter_deeds_in}
+use Rattle.counter_index.specs.Indexes.{asked_at, asked_by, counting_at, deeds_at, is_asked, told_by_scope, value_at, with_values}
 use Rattle.counter_index.specs.Retold.{told_entries}
-use Rattle.counter_index.specs.Told.{TellsWithoutStarts, all_deeds_told, deeds_told, told_exchange, told_without_starts}
+use Rattle.counter_index.specs.Touched.{deeds_by}
+use Rattle.counter_index.specs.Told.{TellsWithoutStarts, all_deeds_told, told_exchange, told_without_starts}
 
 -- a law of an index and of a document
 abbrev pub OfEachIndex : ((table : List CounterStyle) (style : ℕ → Option Style → ElementStyle) (tree : Forest (Keyed Node)) → CounterIndex → Type 0) → Type 0
 OfEachIndex law =
     (table : List CounterStyle) (style : ℕ → Option Style → ElementStyle) (tree : Forest (Keyed Node)) (index : CounterIndex) → law table style tree index
 
--- where it has what the elements do, it has what tells the starts
-abbrev pub IndexKeepsCounting : Type 0
-IndexKeepsCounting = OfEachIndex (λ table style tree index. KeepsDeeds table style tree index → KeepsCounting table (styled style no_starts tree) (counting_at index))
+-- where it has what the elements do that meet reversed counters, it has what tells the starts of these
+abbrev pub IndexKeepsReversed : Type 0
+IndexKeepsReversed = OfEachIndex (λ table style tree index. KeepsDeeds table style tree index → KeepsReversed table (styled style no_starts tree) (counting_at index))
 
--- so the scope of a counter, read by its keys, tells its start
+-- so the scope of a counter for which an element asks, read by its keys, tells its start
 abbrev pub ScopesTellStarts : Type 0
 ScopesTellStarts =
     OfEachIndex (λ table style tree index. HasDistinctKeys tree → KeepsDeeds table style tree index
-    → (creator : BoxId) (name : List ℕ) → document_starts table style tree creator name ≡ told_by_scope (counting_at index) tree creator name)
+    → (creator : BoxId) (name : List ℕ) → is_asked index creator name ≡ true → document_starts table style tree creator name ≡ told_by_scope (counting_at index) tree creator name)
+
+-- it has all for which elements ask
+abbrev pub IndexKeepsWhatIsAsked : Type 0
+IndexKeepsWhatIsAsked = OfEachIndex (λ table style tree index. KeepsDeeds table style tree index → (key : ℕ) → asked_at index key ≡ asked_by (all_deeds table style tree key))
+
+-- and to a counter for which an element asks each element does what the index has of it; one of which it has nothing does nothing
+abbrev pub IndexKeepsWhatIsDone : Type 0
+IndexKeepsWhatIsDone =
+    OfEachIndex (λ table style tree index. HasDistinctKeys tree → KeepsDeeds table style tree index
+    → (counter : Identity) → is_asked index counter.creator counter.name ≡ true
+    → (key : ℕ) → AreAlike counter (option_map deeds_by (all_deeds table style tree key)) (option_map deeds_by (deeds_at index key)))
 
 -- an element asks for the starts of counters that its own boxes create, and it stands in the document
 abbrev pub AskedAreOwn : Type 0
@@ -59,17 +73,11 @@ OtherStartsAreZero =
     OfEachIndex (λ table style tree index. KeepsStarts table style tree index
     → (creator : BoxId) (name : List ℕ) → is_asked index creator name ≡ false → value_at index creator name ≡ pos 0)
 
--- What is told of elements gives what is kept of them.
+-- What is told of elements gives what they do.
 abbrev pub DeedsAreTold : Type 0
 DeedsAreTold =
     (table : List CounterStyle) (handed : Option Surroundings) (trees : Forest (Keyed StyledNode))
     → all_deeds_told (told_all (styled_evaluator table) handed trees) ≡ counter_deeds_in table handed trees
-
--- so the index of a document has of each element what is told of it
-abbrev pub IndexKeepsWhatIsTold : Type 0
-IndexKeepsWhatIsTold =
-    OfEachIndex (λ table style tree index.
-    KeepsDeeds table style tree index ↔ ((key : ℕ) → deeds_at index key ≡ option_map deeds_told (first_at (told_without_starts table style tree) key)))
 
 -- a law of a document that an edit made of another one, and of what a walk has caught of it
 abbrev pub OfEachCaught :

@@ -1,5 +1,5 @@
 -- What is kept of elements, by what is told of them (our own, over CSS Lists 3, 4.4).
-use Rattle.std.specs.Prelude.{◌≡◌, ◌&&◌, ◌++◌, ℕ, List, Option, is_some, map, not}
+use Rattle.std.specs.Prelude.{◌≡◌, ◌&&◌, ◌++◌, ℕ, List, Option, Some, None, if◌then◌else◌, is_some, map, not}
 use Rattle.forest.specs.Forest.{Forest}
 use Rattle.forest.specs.Keys.{HasDistinctKeys, Keyed}
 use Rattle.plain_types.specs.declared.counter_style.CounterStyle.{CounterStyle}
@@ -14,10 +14,11 @@ use Rattle.surroundings.specs.declared.told.Told.{Told}
 use Rattle.surroundings.specs.Laws.{told_document}
 use Rattle.edit_work.specs.KeyedSources.{is_among}
 use Rattle.scope_deeds.specs.Counting.{own_set}
+use Rattle.scope_deeds.specs.Reversed.{meets_reversed}
 use Rattle.counter_index.specs.declared.deeds.CounterDeeds.{CounterDeeds}
-use Rattle.counter_index.specs.Exchanges.{puts_in, takes_out}
+use Rattle.counter_index.specs.Exchanges.{takes_out}
 
--- what is to be kept of an element of which this is told
+-- what an element does, of which this is told
 abbrev pub deeds_told : Told → CounterDeeds
 deeds_told told = record {
   own = own_set told.said;
@@ -26,13 +27,20 @@ deeds_told told = record {
   after_children = changes_in told.said.after;
 }
 
--- that of each of these elements
+-- and where the element meets a reversed counter, for of others nothing is kept
+abbrev pub deeds_kept : Told → Option CounterDeeds
+deeds_kept told = if meets_reversed told then Some (deeds_told told) else None
+
+-- those of each of these elements, and what is to be kept of each
 abbrev pub all_deeds_told : List (ℕ × Told) → List (ℕ × CounterDeeds)
 all_deeds_told told = map (λ (element : ℕ × Told). (element.0, deeds_told element.1)) told
 
+abbrev pub all_deeds_kept : List (ℕ × Told) → List (ℕ × Option CounterDeeds)
+all_deeds_kept told = map (λ (element : ℕ × Told). (element.0, deeds_kept element.1)) told
+
 -- what is exchanged where some elements go, and this is told of others
 abbrev pub told_exchange : (takes : List ℕ) → List (ℕ × Told) → List (ℕ × Option CounterDeeds)
-told_exchange takes told = takes_out takes ++ puts_in (all_deeds_told told)
+told_exchange takes told = takes_out takes ++ all_deeds_kept told
 
 -- what is told of a document's elements where all starts are 0
 abbrev pub told_without_starts : List CounterStyle → (ℕ → Option Style → ElementStyle) → Forest (Keyed Node) → List (ℕ × Told)

@@ -3,8 +3,9 @@
 ghost use Rattle.std.specs.Prelude.{◌≡◌, ◌++◌, IfOk, OnOk, option_copied};
 ghost use Rattle.box_eval.specs.Evaluation.{changes_in};
 ghost use Rattle.scope_deeds.specs.Counting.{own_set};
-ghost use Rattle.counter_index.specs.Exchanges.{puts_in, takes_out};
-ghost use Rattle.counter_index.specs.Told.{all_deeds_told, deeds_told, told_exchange};
+ghost use Rattle.scope_deeds.specs.Reversed.{has_reversed, has_reversed_in, meets_reversed};
+ghost use Rattle.counter_index.specs.Exchanges.{takes_out};
+ghost use Rattle.counter_index.specs.Told.{all_deeds_kept, deeds_kept, deeds_told, told_exchange};
 
 use box_eval::change::Change;
 use box_eval::element_record::ElementRecord;
@@ -103,8 +104,48 @@ fn add_changes(alloc: Global, more: &[Change], changes: &mut List<Change>) -> Re
     Ok(())
 }
 
+/// Whether a set has a reversed counter.
+fn has_reversed(set: &CounterSet) -> bool
+    ensures { result ≡ has_reversed set.now }
+{
+    set.as_slice().iter().any(|counter| counter.reversed)
+}
+
+/// Whether that of the box of a pseudo-element has one, where there is such a box.
+fn has_reversed_in(made: Option<&Made>) -> bool
+    ensures { result ≡ has_reversed_in (option_copied made.entry) }
+{
+    match made {
+        Some(made) => has_reversed(&made.set),
+        None => false,
+    }
+}
+
+/// Whether an element meets a reversed counter: the set of a box of it has one, or a box asks for the start of one. It takes time in
+/// these sets.
+fn meets_reversed(told: &Told) -> bool
+    ensures { result ≡ meets_reversed told.now }
+{
+    let said = &told.said;
+    told.asks
+        || has_reversed(&said.own)
+        || has_reversed_in(said.before.as_ref())
+        || has_reversed_in(said.after.as_ref())
+}
+
+/// What is to be kept of an element: nothing where it meets no reversed counter.
+fn kept_deeds(alloc: Global, told: &Told) -> Result<Option<CounterDeeds>, Memory>
+    ensures kept { IfOk result (λ kept. kept ≡ deeds_kept told.now) }
+{
+    if !meets_reversed(told) {
+        return Ok(None);
+    }
+    let deeds = CounterDeeds::of(alloc, told)?;
+    Ok(Some(deeds))
+}
+
 /// What is exchanged, as by [`CounterIndex::exchange`](crate::index::CounterIndex::exchange), where these elements go, and of
-/// others this is told by a walk with all starts 0.
+/// others this is told by a walk with all starts 0. Of an element that meets no reversed counter nothing is kept.
 pub fn told_exchange(
     alloc: Global,
     takes: &[usize],
@@ -131,16 +172,16 @@ fn put_taken(
     Ok(())
 }
 
-/// Appends what is told of elements.
+/// Appends what is to be kept of elements of which this is told.
 fn put_told(
     alloc: Global,
     told: &[(usize, Told)],
     entries: &mut Vec<(usize, Option<CounterDeeds>)>,
 ) -> Result<(), Memory>
-    ensures ok { OnOk result (entries.new.items ≡ entries.old.items ++ puts_in (all_deeds_told told.now)) }
+    ensures ok { OnOk result (entries.new.items ≡ entries.old.items ++ all_deeds_kept told.now) }
 {
     for (key, element) in told {
-        entries.push((*key, Some(CounterDeeds::of(alloc, element)?)))?;
+        entries.push((*key, kept_deeds(alloc, element)?))?;
     }
     Ok(())
 }

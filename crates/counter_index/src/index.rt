@@ -99,13 +99,15 @@ impl CounterIndex {
     }
 
     /// Keeps these deeds of elements, in their order, and leaves in their place what was kept of the elements before:
-    /// the way back. An element that goes has none. It takes no memory, and time linear in the elements.
+    /// the way back. An element that goes has none, and one of which nothing is kept needs no room. It takes no memory, and time
+    /// linear in the elements.
     pub fn exchange(&mut self, entries: &mut [(usize, Option<CounterDeeds>)])
         requires room { HasRoomFor self.old.deeds.room entries.old }
         ensures deeds { (key : ℕ) → deeds_at self.new key ≡ after_exchange entries.old (deeds_at self.old) key }
         ensures back { IsWayBack entries.new (deeds_at self.new) (deeds_at self.old) }
         ensures keys { keys_in entries.new ≡ keys_in entries.old }
         ensures room { self.new.deeds.room ≡ self.old.deeds.room }
+        ensures back_room { HasRoomFor self.new.deeds.room entries.new }
         ensures starts { self.new.starts ≡ self.old.starts }
     {
         self.deeds.exchange(entries);
@@ -128,6 +130,7 @@ impl CounterIndex {
         ensures back { IsWayBack entries.new (get self.new.starts.held) (get self.old.starts.held) }
         ensures keys { keys_in entries.new ≡ keys_in entries.old }
         ensures room { self.new.starts.room ≡ self.old.starts.room }
+        ensures back_room { HasRoomFor self.new.starts.room entries.new }
         ensures deeds { self.new.deeds ≡ self.old.deeds }
     {
         self.starts.exchange(entries);

@@ -1,12 +1,15 @@
 //! Laws of the index. The functions do nothing: each contract is a law.
 
-ghost use Rattle.counter_index.specs.Laws.{AskedAreOwn, AskedStartsAreKept, CaughtIsPutOver, DeedsAreTold, ExchangesArePutOver, ExchangesKeepDeeds, IndexKeepsCounting, IndexKeepsWhatIsTold, NewIndexesKeepDeeds, OtherStartsAreZero, ScopesTellStarts, ToldAreExchanged};
+ghost use Rattle.counter_index.specs.Laws.{AskedAreOwn, AskedStartsAreKept, CaughtIsPutOver, DeedsAreTold, ExchangesArePutOver, ExchangesKeepDeeds, IndexKeepsReversed, IndexKeepsWhatIsAsked, IndexKeepsWhatIsDone, NewIndexesKeepDeeds, OtherStartsAreZero, ScopesTellStarts, ToldAreExchanged};
 
-/// The index of a document has what tells the starts of its counters, and so the scopes tell them. Each element asks for starts
-/// of counters that its own boxes create. Of a counter for which an element asks the index has the start, and of others 0.
+/// The index of a document has what tells the starts of the counters for which its elements ask, and so the scopes tell them. It has
+/// all for which elements ask, and what they do to these counters. Each element asks for starts of counters that its own boxes create.
+/// Of a counter for which an element asks the index has the start, and of others 0.
 pub fn index_tells_starts()
-    ensures counting { IndexKeepsCounting }
+    ensures counting { IndexKeepsReversed }
     ensures scopes { ScopesTellStarts }
+    ensures all_asked { IndexKeepsWhatIsAsked }
+    ensures done { IndexKeepsWhatIsDone }
     ensures own { AskedAreOwn }
     ensures asked { AskedStartsAreKept }
     ensures others { OtherStartsAreZero }
@@ -25,7 +28,6 @@ pub fn exchanges_are_put_over()
 /// deeds of the document after it. An empty index has them once all that is told is exchanged.
 pub fn indexes_follow_walks()
     ensures deeds { DeedsAreTold }
-    ensures index { IndexKeepsWhatIsTold }
     ensures over { CaughtIsPutOver }
     ensures edits { ExchangesKeepDeeds }
     ensures whole { NewIndexesKeepDeeds }

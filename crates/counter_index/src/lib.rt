@@ -2,8 +2,10 @@
 //!
 //! A reversed counter that is given no number starts with one that is told by all that boxes do to it in its scope (CSS Lists 3,
 //! 4.4). So an edit at one place can change the start of a counter that a box far from it creates. The index keeps of each element
-//! what it does to counters, as it is told where all starts are 0, since these are not changed by any start. An edit exchanges
-//! what is kept of the elements that it changes, and the starts that can be other now are told again by what is kept.
+//! that meets a reversed counter what it does to counters, as it is told where all starts are 0, since these are not changed by any
+//! start. An element meets one where the set of a box of it has one, or a box of it asks for the start of one: no other element does
+//! anything to a counter for which one asks. So the index of a document without reversed counters is empty. An edit exchanges what is
+//! kept of the elements that it changes, and the starts that can be other now are told again by what is kept.
 //!
 //! | In an [`index::CounterIndex`] stands under the key of an element | as |
 //! |---|---|
@@ -15,7 +17,7 @@
 //! | Step | Call | It takes |
 //! |---|---|---|
 //! | the deeds of the elements that change, come and go, as a walk with all starts 0 tells of them | [`deeds::told_exchange`] | memory for what they do; it shares sets |
-//! | room for the keys of the elements that come | `reserve` | memory for a key |
+//! | room for the keys of those of which something is kept | `reserve` | memory for a key |
 //! | these deeds | `exchange` | no memory; time in these elements |
 //! | which elements' starts can be other now | `touched` | time in the square of what each exchanged element does and did, and in what each other one does |
 //! | their starts, told by the scopes of their counters | `tell` | time in the nodes of these scopes |
@@ -55,8 +57,8 @@
 //!
 //! # What the layers above cite
 //!
-//! In contracts: `IsCounterIndex` with its parts `KeepsDeeds` and `KeepsStarts` (`specs/Documents.antt`); `deeds_at`, `asked_at`,
-//! `starts_at`, `value_at` and `counting_at` (`Indexes.antt`); `deeds_told`, `told_exchange` and `TellsWithoutStarts`
+//! In contracts: `IsCounterIndex` with its parts `KeepsDeeds` and `KeepsStarts`, and `all_deeds` (`specs/Documents.antt`); `deeds_at`, `asked_at`,
+//! `starts_at`, `value_at` and `counting_at` (`Indexes.antt`); `deeds_kept`, `told_exchange` and `TellsWithoutStarts`
 //! (`Told.antt`); `after_exchange`, `restored` and `IsWayBack` (`Exchanges.antt`); `IsUntouched` and `AreTouched`
 //! (`Touched.antt`); `told_entries` and `other_keys` (`Retold.antt`). What ties them to a document are the laws of [`laws`]; in
 //! proofs, by `proofs/IndexLemmas.antt`, `PutLemmas.antt` and `ToldLemmas.antt`.

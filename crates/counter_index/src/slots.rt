@@ -1,6 +1,6 @@
 //! What is kept under keys, and exchanges of it.
 
-ghost use Rattle.std.specs.Prelude.{◌≡◌, ◌↔◌, ◌+◌, ◌<◌, ◌≤◌, ◌++◌, ℕ, IsTrue, None, OnErr, OnOk, cond, length, option_copied, replicate, slice_index_or, slice_set};
+ghost use Rattle.std.specs.Prelude.{◌≡◌, ◌↔◌, ◌+◌, ◌<◌, ◌≤◌, ◌++◌, ℕ, IfSome, IsTrue, None, OnErr, OnOk, cond, length, option_copied, replicate, slice_index_or, slice_set};
 ghost use Rattle.std.specs.FinMap.{empty, get};
 ghost use Rattle.counter_index.specs.Machinery.Asking.{HasAsking, count_asking};
 ghost use Rattle.counter_index.specs.Exchanges.{HasRoomFor, IsWayBack, after_exchange, exchanged, keys_in, restored};
@@ -82,6 +82,7 @@ impl<T: Asks + Drop> Slots<T> {
         ensures back { IsWayBack entries.new (get self.new.held) (get self.old.held) }
         ensures keys { keys_in entries.new ≡ keys_in entries.old }
         ensures room { self.new.room ≡ self.old.room }
+        ensures back_room { HasRoomFor self.new.room entries.new }
     {
         exchange_all(&mut self.slots, &mut self.asking, entries);
     }
@@ -126,13 +127,13 @@ fn exchange_all<T: Asks + Drop>(
     }
 }
 
-/// Exchanges what a slot has for this.
+/// Exchanges what a slot has for this. Beyond the last slot nothing is, and nothing comes.
 fn exchange_one<T: Asks + Drop>(
     slots: &mut Vec<Option<T>>,
     asking: &mut usize,
     entry: &mut (usize, Option<T>),
 )
-    requires room { entry.old.0 < length slots.old.items }
+    requires room { IfSome entry.old.1 (λ _. entry.old.0 < length slots.old.items) }
     requires asking { asking.old ≡ count_asking T.asks slots.old.items }
     ensures slots { slots.new.items ≡ slice_set slots.old.items entry.old.0 entry.old.1 }
     ensures entry { entry.new ≡ (entry.old.0, slice_index_or slots.old.items entry.old.0 None) }
@@ -140,6 +141,9 @@ fn exchange_one<T: Asks + Drop>(
 {
     let came = is_asking(entry.1.as_ref());
     let room = slots.len();
+    if room <= entry.0 {
+        return;
+    }
     let slot = &mut slots[entry.0];
     let went = is_asking(slot.as_ref());
     mem::swap(slot, &mut entry.1);

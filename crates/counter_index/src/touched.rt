@@ -4,7 +4,8 @@ ghost use Rattle.std.specs.Prelude.{◌≡◌, ◌++◌, ℕ, IfOk, OnOk, flat_m
 ghost use Rattle.std.specs.Str.{bytes_eq, chars};
 ghost use Rattle.box_eval.specs.Starts.{events_of};
 ghost use Rattle.edit_work.specs.KeyedSources.{is_among};
-ghost use Rattle.counter_index.specs.Indexes.{asked_by, is_asked, is_start_of};
+ghost use Rattle.scope_deeds.specs.Reversed.{is_start_of};
+ghost use Rattle.counter_index.specs.Indexes.{asked_by, is_asked};
 ghost use Rattle.counter_index.specs.Touched.{AreTouched, asking, asking_other, by_exchanged, by_moved, changes_after, changes_before, do_same, is_alike, touched_by, touched_in, touched_keys};
 ghost use Rattle.edit_work.specs.Inputs.{are_same_starts, is_same_start};
 

@@ -82,23 +82,32 @@ module _ (k : ℕ) where
   abbrev one : ℕ → ℕ
   one key = cond {A = ℕ} (key == k) 1 0
 
-  abbrev entries : List (ℕ × Counting) → ℕ
-  entries [] = 0
-  entries (entry ∷ es) = one entry.0 + entries es
+  module _ {R : Type 0} where
+    abbrev pub entries : List (ℕ × R) → ℕ
+    entries [] = 0
+    entries (entry ∷ es) = one entry.0 + entries es
+
+    entries-split : (xs ys : List (ℕ × R)) → entries (xs ++ ys) ≡ entries xs + entries ys
+    entries-split [] ys = omega arith
+    entries-split (x ∷ xs) ys = let rest = entries-split xs ys in omega (arith, rest)
+
+    -- a list without the key has nothing under it
+    absent : (es : List (ℕ × R)) → entries es ≡ 0 → first_at es k ≡ None
+    absent [] none = refl
+    absent (entry ∷ es) none = elim (cases_Bool (entry.0 == k)) [
+      | inl e ↦ absurd (let some : 1 + entries es ≡ 0 = rw e at none in omega (arith, some))
+      | inr e ↦ let rest : 0 + entries es ≡ 0 = rw e at none in ap (λ b. cond b (Some entry.1) (first_at es k)) e ∙ absent es (omega (arith, rest))
+    ]
 
   abbrev texts : Forest (Keyed StyledNode) → ℕ
   texts Empty = 0
   texts (Tree n c r) = cond {A = ℕ} (is_element n.label) 0 (one n.key) + (texts c + texts r)
 
-  entries-split : (xs ys : List (ℕ × Counting)) → entries (xs ++ ys) ≡ entries xs + entries ys
-  entries-split [] ys = omega arith
-  entries-split (x ∷ xs) ys = let rest = entries-split xs ys in omega (arith, rest)
-
   own-entry : (key : ℕ) (label : StyledNode) (its : Counting) → entries (cond (is_element label) ((key, its) ∷ []) []) + cond {A = ℕ} (is_element label) 0 (one key) ≡ one key
   own-entry key (Element element) its = omega arith
   own-entry key Text its = omega arith
 
-  counted : (table : List CounterStyle) (g : Forest (Keyed StyledNode)) (i : Option Surroundings) → entries (counting_in table i g) + texts g ≡ times k g
+  pub counted : (table : List CounterStyle) (g : Forest (Keyed StyledNode)) (i : Option Surroundings) → entries (counting_in table i g) + texts g ≡ times k g
   counted table Empty i = omega arith
   counted table (Tree n c r) i =
       let inside = inside_node table n i in
@@ -108,40 +117,33 @@ module _ (k : ℕ) where
       let beside = counting_in table (past_styled table n i x) r in
       omega (arith, entries-split below (own ++ beside), entries-split own beside, own-entry n.key n.label (counting_of table n i x), counted table c inside, counted table r (past_styled table n i x))
 
-  -- a list without the key has nothing under it
-  absent : (es : List (ℕ × Counting)) → entries es ≡ 0 → first_at es k ≡ None
-  absent [] none = refl
-  absent (entry ∷ es) none = elim (cases_Bool (entry.0 == k)) [
-    | inl e ↦ absurd (let some : 1 + entries es ≡ 0 = rw e at none in omega (arith, some))
-    | inr e ↦ let rest : 0 + entries es ≡ 0 = rw e at none in ap (λ b. cond b (Some entry.1) (first_at es k)) e ∙ absent es (omega (arith, rest))
-  ]
-
 -- Entries whose keys are distinct are held by their first ones.
 
-behind-it : (key : ℕ) (its : Counting) (held : ℕ → Option Counting) (es : List (ℕ × Counting)) → entries key es ≡ 0 → Holds held es → Holds (λ k. cond (key == k) (Some its) (held k)) es
-behind-it key its held [] none h = All-nil (λ (entry : ℕ × Counting). cond (key == entry.0) (Some its) (held entry.0) ≡ Some entry.1)
-behind-it key its held (entry ∷ es) none h = elim (cases_Bool (entry.0 == key)) [
-  | inl e ↦ absurd (let some : 1 + entries key es ≡ 0 = rw e at none in omega (arith, some))
-  | inr e ↦
-      let rest : 0 + entries key es ≡ 0 = rw e at none in
-      All-cons (λ (entry : ℕ × Counting). cond (key == entry.0) (Some its) (held entry.0) ≡ Some entry.1) entry es
-      (ap (λ b. cond b (Some its) (held entry.0)) (flipped key entry.0 e) ∙ All-head (λ (entry : ℕ × Counting). held entry.0 ≡ Some entry.1) entry es h)
-      (behind-it key its held es (omega (arith, rest)) (All-tail (λ (entry : ℕ × Counting). held entry.0 ≡ Some entry.1) entry es h))
-]
-  where
-    flipped : (k l : ℕ) → (l == k) ≡ false → (k == l) ≡ false
-    flipped k l e = elim (cases_Bool (k == l)) [
-      | inl same ↦ absurd (let there : (l == k) ≡ true = eq-eqb l k (sym (eqb-true k l same)) in cc)
-      | inr apart ↦ apart
-    ]
+module _ {R : Type 0} where
+  behind-it : (key : ℕ) (its : R) (held : ℕ → Option R) (es : List (ℕ × R)) → entries key es ≡ 0 → Holds held es → Holds (λ k. cond (key == k) (Some its) (held k)) es
+  behind-it key its held [] none h = All-nil (λ (entry : ℕ × R). cond (key == entry.0) (Some its) (held entry.0) ≡ Some entry.1)
+  behind-it key its held (entry ∷ es) none h = elim (cases_Bool (entry.0 == key)) [
+    | inl e ↦ absurd (let some : 1 + entries key es ≡ 0 = rw e at none in omega (arith, some))
+    | inr e ↦
+        let rest : 0 + entries key es ≡ 0 = rw e at none in
+        All-cons (λ (entry : ℕ × R). cond (key == entry.0) (Some its) (held entry.0) ≡ Some entry.1) entry es
+        (ap (λ b. cond b (Some its) (held entry.0)) (flipped key entry.0 e) ∙ All-head (λ (entry : ℕ × R). held entry.0 ≡ Some entry.1) entry es h)
+        (behind-it key its held es (omega (arith, rest)) (All-tail (λ (entry : ℕ × R). held entry.0 ≡ Some entry.1) entry es h))
+  ]
+    where
+      flipped : (k l : ℕ) → (l == k) ≡ false → (k == l) ≡ false
+      flipped k l e = elim (cases_Bool (k == l)) [
+        | inl same ↦ absurd (let there : (l == k) ≡ true = eq-eqb l k (sym (eqb-true k l same)) in cc)
+        | inr apart ↦ apart
+      ]
 
-first-held : (es : List (ℕ × Counting)) → ((k : ℕ) → entries k es ≤ 1) → Holds (first_at es) es
-first-held [] once = All-nil (λ (entry : ℕ × Counting). first_at [] entry.0 ≡ Some entry.1)
-first-held (entry ∷ es) once =
-    let here : 1 + entries entry.0 es ≤ 1 = rw (eq-eqb entry.0 entry.0 refl) at (once entry.0) in
-    All-cons (λ (other : ℕ × Counting). first_at (entry ∷ es) other.0 ≡ Some other.1) entry es
-    (ap (λ b. cond b (Some entry.1) (first_at es entry.0)) (eq-eqb entry.0 entry.0 refl))
-    (behind-it entry.0 entry.1 (first_at es) es (omega (arith, here)) (first-held es (λ k. (let both = once k in omega (arith, both)))))
+  pub first-held : (es : List (ℕ × R)) → ((k : ℕ) → entries k es ≤ 1) → Holds (first_at es) es
+  first-held [] once = All-nil (λ (entry : ℕ × R). first_at [] entry.0 ≡ Some entry.1)
+  first-held (entry ∷ es) once =
+      let here : 1 + entries entry.0 es ≤ 1 = rw (eq-eqb entry.0 entry.0 refl) at (once entry.0) in
+      All-cons (λ (other : ℕ × R). first_at (entry ∷ es) other.0 ≡ Some other.1) entry es
+      (ap (λ b. cond b (Some entry.1) (first_at es entry.0)) (eq-eqb entry.0 entry.0 refl))
+      (behind-it entry.0 entry.1 (first_at es) es (omega (arith, here)) (first-held es (λ k. (let both = once k in omega (arith, both)))))
 
 -- What a map has of a document.
 module _ (table : List CounterStyle) (document : Forest (Keyed StyledNode)) (distinct : HasDistinctKeys document) (kept : ℕ → Option Counting) (keeps : KeepsCounting table document kept) where

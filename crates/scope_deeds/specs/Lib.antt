@@ -1,3 +1,4 @@
 pub mod Counting
 pub mod KeptScopes
+pub mod Reversed
 pub mod Laws

@@ -67,10 +67,24 @@
 //! kept of 3, and 4 has no own set, so both are passed, and 5 with them. Were the counter created by the after box, that would be
 //! read alone, since 1 has no parent. Each of these readings is computed in `proofs/Examples.antt`.
 //!
+//! # Elements that meet reversed counters
+//!
+//! Starts are asked for of reversed counters alone. So it is enough to keep the elements that meet one: a box of theirs has a reversed
+//! counter in its set, or asks for the start of one (`meets_reversed`). A document without reversed counters has no such element, and
+//! of it nothing is kept.
+//!
+//! Nothing is kept then of an element in a row whose own set lacks the counter, where its set has no other reversed one. So the row does
+//! not end there, and more is read. What is read then is between what is read of the scope where all is kept, and all that is kept of the
+//! document. These two have the same events of the counter, and so has what is between them.
+//! [`laws::reversed_scopes_tell_starts`]
+//!
+//! In the first example all elements but the body are kept. Where the second heading has `counter-reset: c`, its set has no reversed
+//! counter, so of 4 and 5 nothing is kept: both are passed, and what 5 does is done to another counter. The counter starts with 3 as before.
+//!
 //! # What the layers above cite
 //!
 //! In contracts: `Counting`, `own_set`, `counting_in` and `KeepsCounting` (`specs/Counting.antt`), `kept_changes`, `kept_row` and
-//! `kept_scope` (`KeptScopes.antt`). In proofs: the laws of [`laws`], by the lemmas of `proofs/LawLemmas.antt`.
+//! `kept_scope` (`KeptScopes.antt`), `meets_reversed`, `counting_told` and `KeepsReversed` (`Reversed.antt`). In proofs: the laws of [`laws`], by the lemmas of `proofs/LawLemmas.antt` and `proofs/ReversedLemmas.antt`.
 #![tactic(auto)]
 
 pub mod laws;

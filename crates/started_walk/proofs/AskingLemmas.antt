@@ -18,9 +18,10 @@ use Rattle.surroundings.specs.StyledEvaluators.{inside_node, is_element, kept_of
 use Rattle.surroundings.proofs.Asking.{asks-all, asks-starts}
 use Rattle.edit_work.specs.KeyedSources.{author, styled_with, table}
 use Rattle.reference_reach.specs.ToldLaws.{told_with}
-use Rattle.counter_index.specs.Indexes.{asked_by}
+use Rattle.counter_index.specs.Indexes.{asked_at, asked_by}
 use Rattle.counter_index.specs.Told.{deeds_told}
-use Rattle.counter_index.proofs.ToldLemmas.{index_keeps_what_is_told}
+use Rattle.counter_index.proofs.IndexLemmas.{index_keeps_what_is_asked}
+use Rattle.counter_index.proofs.ToldLemmas.{all-told}
 use Rattle.started_walk.specs.Laws.{IndexesTellWhoAsks}
 use Rattle.started_walk.proofs.ToldKeys.{holds}
 
@@ -78,9 +79,11 @@ indexes_tell_who_asks source index distinct is =
     let all : List (ℕ × Told) = told_with source no_starts in
     let tell : All TellsAsking all = all-tell (table source) (styled_with source no_starts) root_surroundings in
     let asks = asks-all (table source) (styled_with source no_starts) root_surroundings in
-    let keeps = (index_keeps_what_is_told (table source) (document_style (author source) source.tree) source.tree index).0 is.deeds in (
-      λ some. sym asks ∙ first-asks all some.0 tell (sym (ap (λ deeds. has_starts (asked_by deeds)) (keeps some.0)) ∙ some.1),
+    let style = document_style (author source) source.tree in
+    let has : (key : ℕ) → asked_at index key ≡ asked_by (option_map deeds_told (first_at all key)) =
+    λ key. index_keeps_what_is_asked (table source) style source.tree index is.deeds key ∙ ap asked_by (all-told (table source) style source.tree key) in (
+      λ some. sym asks ∙ first-asks all some.0 tell (sym (ap has_starts (has some.0)) ∙ some.1),
       λ any.
           (let found = asking-first all all tell (holds source distinct no_starts) (asks ∙ any) in
-          (found.0, ap (λ deeds. has_starts (asked_by deeds)) (keeps found.0) ∙ found.1)),
+          (found.0, ap has_starts (has found.0) ∙ found.1)),
     )

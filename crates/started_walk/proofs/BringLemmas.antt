@@ -1,8 +1,8 @@
 -- An index that is brought to another document, and back.
-use Rattle.std.proofs.Common.{◌≡◌, ◌≤◌, ◌<◌, ◌++◌, ◌∷◌, ◌∙◌, ℕ, ℤ, List, [], Option, Some, drop, length, map, take, refl, sym, ap, subst, inl, inr, arith}
-use Rattle.std.specs.Prelude.{All, option_map}
-use Rattle.std.proofs.lemmas.List.{length-map, take_at}
-use Rattle.std.proofs.lemmas.List.Elements.{All-cons, All-nil, All-weaker}
+use Rattle.std.proofs.Common.{◌≡◌, ◌≤◌, ◌<◌, ◌++◌, ◌∷◌, ◌∙◌, ℕ, ℤ, List, [], Option, Some, None, ◌+◌, drop, get_or, length, map, take, refl, sym, ap, subst, inl, inr, arith}
+use Rattle.std.specs.Prelude.{All, IfSome, option_map}
+use Rattle.std.proofs.lemmas.List.{length-map, take_at, take_more}
+use Rattle.std.proofs.lemmas.List.Elements.{All-append, All-cons, All-nil, All-weaker}
 use Rattle.forest.specs.Forest.{Forest}
 use Rattle.forest.specs.Keys.{Keyed}
 use Rattle.forest.specs.Spots.{IsLive}
@@ -18,7 +18,8 @@ use Rattle.counter_index.specs.declared.deeds.CounterDeeds.{CounterDeeds}
 use Rattle.counter_index.specs.declared.index.CounterIndex.{CounterIndex}
 use Rattle.counter_index.specs.Documents.{KeepsDeeds}
 use Rattle.counter_index.specs.Exchanges.{HasRoomFor, keys_in, restored}
-use Rattle.counter_index.specs.Indexes.{asked_at, asked_by, deeds_at, is_start_of, with_values}
+use Rattle.scope_deeds.specs.Reversed.{is_start_of}
+use Rattle.counter_index.specs.Indexes.{asked_at, asked_by, deeds_at, with_values}
 use Rattle.counter_index.specs.Retold.{told_entries}
 use Rattle.counter_index.specs.Touched.{AreTouched, IsUntouched, deeds_by, did}
 use Rattle.counter_index.proofs.IndexLemmas.{asked_are_own}
@@ -28,16 +29,35 @@ use Rattle.started_walk.specs.Countings.{HasSomeDeeds}
 -- Rooms.
 
 module _ {T : Type 0} where
-  -- keys that are below a room are below one that is no smaller
-  pub below-room : (room more : ℕ) (entries : List (ℕ × Option T)) → AreBelow room entries → room ≤ more → HasRoomFor more entries
-  below-room room more [] below grown = All-nil (λ key. key < more)
-  below-room room more (entry ∷ entries) below grown =
-      All-cons (λ key. key < more) entry.0 (keys_in entries) (let here = below.0 in omega (arith, here, grown)) (below-room room more entries below.1 grown)
+  abbrev IsBelow : ℕ → ℕ × Option T → Type 0
+  IsBelow room entry = IfSome entry.1 (λ _. entry.0 < room)
 
-  -- and so are the same keys of other entries
-  pub room-more : (room more : ℕ) (entries others : List (ℕ × Option T)) → keys_in others ≡ keys_in entries → HasRoomFor room entries → room ≤ more → HasRoomFor more others
-  room-more room more entries others same has grown =
-      subst (λ keys. All (λ key. key < more) keys) (sym same) (All-weaker (λ key. key < room) (λ key. key < more) (λ key below. omega (arith, below, grown)) (keys_in entries) has)
+  -- where keys are below a room, there is room in one that is no smaller
+  one-below : (key room : ℕ) (kept : Option T) → key < room → IfSome kept (λ _. key < room)
+  one-below key room None below = tt
+  one-below key room (Some its) below = below
+
+  pub below-room : (room more : ℕ) (entries : List (ℕ × Option T)) → AreBelow room entries → room ≤ more → HasRoomFor more entries
+  below-room room more [] below grown = All-nil (IsBelow more)
+  below-room room more (entry ∷ entries) below grown =
+      All-cons (IsBelow more) entry entries (one-below entry.0 more entry.1 (let here = below.0 in omega (arith, here, grown))) (below-room room more entries below.1 grown)
+
+  one-grown : (key room more : ℕ) (kept : Option T) → room ≤ more → IfSome kept (λ _. key < room) → IfSome kept (λ _. key < more)
+  one-grown key room more None grown below = tt
+  one-grown key room more (Some its) grown below = omega (arith, below, grown)
+
+  pub room-grown : (room more : ℕ) (entries : List (ℕ × Option T)) → HasRoomFor room entries → room ≤ more → HasRoomFor more entries
+  room-grown room more entries has grown = All-weaker (IsBelow room) (IsBelow more) (λ entry below. one-grown entry.0 room more entry.1 grown below) entries has
+
+  -- a turn of a loop over entries
+  pub kept-turn : (entries : List (ℕ × Option T)) (place room more its : ℕ) (entry : ℕ × Option T) → place < length entries → entry ≡ get_or entries place entry
+      → HasRoomFor room (take place entries) → IfSome entry.1 (λ _. entry.0 < its) → room ≤ more → its ≤ more → HasRoomFor more (take (place + 1) entries)
+  kept-turn entries place room more its entry within is has below grown more_yet =
+      let turned : take (place + 1) entries ≡ take place entries ++ entry ∷ [] =
+      take_more entries place entry within ∙ ap (λ (one : ℕ × Option T). take place entries ++ one ∷ []) (sym is) in
+      subst (HasRoomFor more) (sym turned)
+      (All-append (IsBelow more) (take place entries) (entry ∷ []) (room-grown room more (take place entries) has grown)
+      (All-cons (IsBelow more) entry [] (one-grown entry.0 its more entry.1 more_yet below) (All-nil (IsBelow more))))
 
 -- Indexes with the same deeds.
 

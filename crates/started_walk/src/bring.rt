@@ -9,7 +9,7 @@ ghost use Rattle.counter_index.specs.Retold.{other_keys};
 ghost use Rattle.started_walk.specs.Countings.{HasSomeDeeds, KeepsTheSame};
 ghost use Rattle.started_walk.specs.Exchanges.{BringsStarts, IsBroughtTo, TakesBack};
 
-use crate::room::room_for;
+use crate::room::room_kept;
 use crate::starts::{exchange_starts, starts_again};
 use box_eval::inputs::Start;
 use counter_index::deeds::CounterDeeds;
@@ -83,7 +83,7 @@ pub fn bring_index(
     ensures err { OnErr result (KeepsTheSame index.new index.old) }
 {
     let mut former = deeds;
-    let room = room_for(former.as_slice())?;
+    let room = room_kept(former.as_slice())?;
     index.reserve(room)?;
     index.exchange(former.as_mut_slice());
     match bring_starts(alloc, arena, index, former.as_slice(), moved) {

@@ -1,27 +1,19 @@
 -- An evaluation that asks an index for starts is that with the document's own. Throughout, b is whether the parent of a node has a box, p
 -- the style of the parent, n a node, c what is under it, r what is after it, g trees, m a merge, k a key, l a label, and t whether an
 -- element is turned.
-use Rattle.std.proofs.Common.{◌≡◌, ◌&&◌, ◌||◌, ◌∷◌, ℕ, ℤ, Bool, true, false, All, List, [], Option, None, refl, sym, ap, subst, ◌∙◌, inl, inr}
-use Rattle.std.specs.Str.{bytes_eq}
-use Rattle.std.proofs.lemmas.Bool.{and_parts, cases_Bool}
-use Rattle.std.proofs.lemmas.List.Elements.{All-head, All-tail}
-use Rattle.std.proofs.lemmas.Slice.Eq.{bytes_eq-Decides}
+use Rattle.std.proofs.Common.{◌≡◌, ◌&&◌, ℕ, Bool, true, false, cond, List, [], Option, None, refl, sym, ap, subst, ◌∙◌}
 use Rattle.forest.specs.Forest.{Forest, Empty, Tree}
 use Rattle.forest.specs.Keys.{Keyed, HasDistinctKeys}
 use Rattle.forest.specs.Spots.{IsLive}
-use Rattle.plain_types.specs.declared.box_id.BoxId.{BoxId}
 use Rattle.plain_types.specs.declared.counter_style.CounterStyle.{CounterStyle}
 use Rattle.plain_types.specs.declared.node.Node.{Node}
 use Rattle.plain_types.specs.declared.node.Node.TheVariants as node
 use Rattle.plain_types.specs.declared.style.ElementStyle.{ElementStyle}
 use Rattle.plain_types.specs.declared.style.Style.{Style}
-use Rattle.counter_sets.specs.Sets.{is_same_box}
-use Rattle.box_eval.specs.declared.inputs.Start.{Start}
 use Rattle.box_eval.specs.Boxes.{box_of}
 use Rattle.box_eval.specs.Evaluation.{Element, StyledNode, element_starts, style_within, styled_node, styled_trees}
 use Rattle.box_eval.specs.Properties.{start_in}
 use Rattle.box_eval.specs.Starts.{document_starts, no_starts}
-use Rattle.box_eval.proofs.BoxLemmas.{box_eq, box_self}
 use Rattle.generated_texts.specs.Documents.{agent_sheet, document_style}
 use Rattle.merged_walk.specs.Merges.{Merge, End, Kept, Turned, Gone, Come, new_of}
 use Rattle.edit_merge.specs.EditMerges.{is_element}
@@ -37,48 +29,13 @@ use Rattle.start_reach.proofs.LawLemmas.{edits, merges, same-styles}
 use Rattle.start_reach.proofs.TurnedLaws.{at_node}
 use Rattle.counter_index.specs.declared.index.CounterIndex.{CounterIndex}
 use Rattle.counter_index.specs.Documents.{IsCounterIndex}
-use Rattle.counter_index.specs.Indexes.{asked_at, is_start_of, value_at, with_values}
-use Rattle.counter_index.proofs.IndexLemmas.{asked_are_own, asked_starts_are_kept}
+use Rattle.counter_index.specs.Indexes.{asked_at, value_at, with_values}
+use Rattle.scope_deeds.specs.Reversed.{is_start_of}
+use Rattle.counter_index.proofs.IndexLemmas.{asked_are_own, asked_starts_are_kept, index_keeps_what_is_asked, one-key, same-told}
 use Rattle.touched_starts.specs.Laws.{SecondMergesAreAsked, StartsAreAsked}
 use Rattle.touched_starts.proofs.IndexedNodes.{Asks, Stays, told-starts, whole-asks, whole-stays}
 use Rattle.touched_starts.proofs.KeptNodes.{same-inner}
 use Rattle.touched_starts.proofs.NodeFacts.{OfNodes, boxed_in, of-both, same-within, within_of}
-
--- Starts that are told by what is asked.
-
--- a start is among those that have it
-is-its-own : (start : Start) → (is_same_box start.creator start.creator && bytes_eq start.name start.name) ≡ true
-is-its-own start = rw (box_self start.creator, (bytes_eq-Decides start.name start.name).1 refl) refl
-
-or-true : (b : Bool) → (b || true) ≡ true
-or-true true = refl
-or-true false = refl
-
--- where each of these starts is the same by both, they are the same with both's values
-pub same-told : (told others : BoxId → List ℕ → ℤ) (starts : List Start)
-    → ((creator : BoxId) (name : List ℕ) → is_start_of creator name starts ≡ true → told creator name ≡ others creator name)
-    → with_values told starts ≡ with_values others starts
-same-told told others [] same = refl
-same-told told others (start ∷ starts) same =
-    let first = same start.creator start.name (ap (λ b. b || is_start_of start.creator start.name starts) (is-its-own start)) in
-    let rest =
-    same-told told others starts
-    (λ creator name is. same creator name (ap (λ b. (is_same_box start.creator creator && bytes_eq start.name name) || b) is ∙ or-true (is_same_box start.creator creator && bytes_eq start.name name))) in
-    λ i. record { creator = start.creator; name = start.name; value = first i } ∷ rest i
-
--- each of these is of a box of one element
-pub one-key : (key : ℕ) (live : Type 0) (creator : BoxId) (name : List ℕ) (starts : List Start) → All (λ (start : Start). (start.creator.key ≡ key) × live) starts
-    → is_start_of creator name starts ≡ true → creator.key ≡ key
-one-key key live creator name [] all is = absurd (cc)
-one-key key live creator name (start ∷ starts) all is =
-    elim (cases_Bool (is_same_box start.creator creator && bytes_eq start.name name)) [
-      | inl same ↦
-          sym (ap (λ (box : BoxId). box.key) (box_eq start.creator creator (and_parts (is_same_box start.creator creator) (bytes_eq start.name name) same).0))
-          ∙ (All-head (λ (start : Start). (start.creator.key ≡ key) × live) start starts all).0
-      | inr apart ↦
-          one-key key live creator name starts (All-tail (λ (start : Start). (start.creator.key ≡ key) × live) start starts all)
-          (sym (ap (λ b. b || is_start_of creator name starts) apart) ∙ is)
-    ]
 
 module _ (table : List CounterStyle) (style : ℕ → Option Style → ElementStyle) (tree : Forest (Keyed Node)) (index : CounterIndex) (keeps : IsCounterIndex table style tree index) where
   abbrev own : Starting
@@ -86,13 +43,14 @@ module _ (table : List CounterStyle) (style : ℕ → Option Style → ElementSt
 
   -- the index has the starts of an element
   pub record HasItsStarts (b : Bool) (p : Option Style) (n : Keyed Node) : Type 0 where
-    pub asks : Asks table style tree index b p n
-    pub stays : Stays table style tree index b p n
+    pub asks : is_element n.label ≡ true → asked_at index n.key ≡ cond b (element_starts no_starts n.key (style n.key p)) []
+    pub stays : Stays table style tree b p n
 
   pub whole-starts : HasDistinctKeys tree → OfNodes style HasItsStarts true None tree
   whole-starts distinct =
-      of-both style (Asks table style tree index) (Stays table style tree index) HasItsStarts (λ b p n asks stays. record { asks = asks; stays = stays }) tree true None
-      (whole-asks table style tree index distinct keeps.deeds) (whole-stays table style tree index distinct keeps.deeds)
+      of-both style (Asks table style tree) (Stays table style tree) HasItsStarts
+      (λ b p n asks stays. record { asks = λ element. index_keeps_what_is_asked table style tree index keeps.deeds n.key ∙ asks element; stays = stays }) tree true None
+      (whole-asks table style tree distinct) (whole-stays table style tree distinct)
 
   same-asked : (k : ℕ) → with_values (value_at index) (asked_at index k) ≡ with_values own (asked_at index k)
   same-asked k =

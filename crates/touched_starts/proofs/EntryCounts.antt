@@ -4,7 +4,7 @@ use Rattle.std.proofs.Common.{◌≡◌, ◌==◌, ◌+◌, ◌≤◌, ◌++◌,
 use Rattle.std.specs.Cmp.{nat_eq_equiv}
 use Rattle.std.specs.List.{AllByRecursion, IsDistinct}
 use Rattle.std.proofs.lemmas.Bool.{cases_Bool}
-use Rattle.std.proofs.lemmas.List.Elements.{All-cons, All-head, All-nil, All-tail, All-weaker}
+use Rattle.std.proofs.lemmas.List.Elements.{All-cons, All-head, All-nil, All-tail}
 use Rattle.std.proofs.lemmas.Map.Keys.{IsDistinct-head, IsDistinct-tail}
 use Rattle.forest.specs.Forest.{Forest, Empty, Tree}
 use Rattle.forest.specs.Keys.{Keyed, HasDistinctKeys, times}
@@ -21,10 +21,8 @@ use Rattle.surroundings.specs.StyledEvaluators.{inside_node, is_element, past_st
 use Rattle.document_walk.proofs.StyledKeys.{styled_distinct}
 use Rattle.start_reach.proofs.TurnedLaws.{key-flipped}
 use Rattle.counter_index.specs.declared.deeds.CounterDeeds.{CounterDeeds}
-use Rattle.counter_index.specs.declared.index.CounterIndex.{CounterIndex}
-use Rattle.counter_index.specs.Documents.{KeepsDeeds, counter_deeds_in, counter_deeds_of}
+use Rattle.counter_index.specs.Documents.{all_deeds, counter_deeds_in, counter_deeds_of}
 use Rattle.counter_index.specs.Exchanges.{keys_in}
-use Rattle.counter_index.specs.Indexes.{deeds_at}
 
 module _ {R : Type 0} where
   abbrev pub entries : ℕ → List (ℕ × R) → ℕ
@@ -54,7 +52,7 @@ module _ {R : Type 0} where
       (ap (λ b. cond b (Some x.1) (first_at xs x.0)) (eq-eqb x.0 x.0 refl))
       (behind-it x.0 x.1 (first_at xs) xs (omega (arith, here)) (first-held xs (λ k. (let both = once k in omega (arith, both)))))
 
--- What an index has of a document.
+-- What the elements of a document do.
 module _ (table : List CounterStyle) (k : ℕ) where
   own-entry : (key : ℕ) (label : StyledNode) (its : CounterDeeds) → entries k (cond (is_element label) ((key, its) ∷ []) []) ≤ cond {A = ℕ} (key == k) 1 0
   own-entry key (Element element) its = omega arith
@@ -77,13 +75,12 @@ module _ (table : List CounterStyle) (k : ℕ) where
         counted r (past_styled table n i x),
       )
 
-pub deeds-held : (table : List CounterStyle) (style : ℕ → Option Style → ElementStyle) (tree : Forest (Keyed Node)) (index : CounterIndex) → HasDistinctKeys tree → KeepsDeeds table style tree index
-    → Holds (deeds_at index) (counter_deeds_in table root_surroundings (styled style no_starts tree))
-deeds-held table style tree index distinct keeps =
+pub deeds-held : (table : List CounterStyle) (style : ℕ → Option Style → ElementStyle) (tree : Forest (Keyed Node)) → HasDistinctKeys tree
+    → Holds (all_deeds table style tree) (counter_deeds_in table root_surroundings (styled style no_starts tree))
+deeds-held table style tree distinct =
     let document : Forest (Keyed StyledNode) = styled style no_starts tree in
-    let all : List (ℕ × CounterDeeds) = counter_deeds_in table root_surroundings document in
-    All-weaker (λ (x : ℕ × CounterDeeds). first_at all x.0 ≡ Some x.1) (λ (x : ℕ × CounterDeeds). deeds_at index x.0 ≡ Some x.1) (λ x first. keeps x.0 ∙ first) all
-    (first-held all (λ k. (let few = counted table k document root_surroundings in let once = styled_distinct style no_starts tree None distinct k in omega (arith, few, once))))
+    first-held (counter_deeds_in table root_surroundings document)
+    (λ k. (let few = counted table k document root_surroundings in let once = styled_distinct style no_starts tree None distinct k in omega (arith, few, once)))
 
 -- Entries of which each key comes once.
 module _ {T : Type 0} where

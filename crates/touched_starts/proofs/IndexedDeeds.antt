@@ -1,4 +1,4 @@
--- What an index has of a document: of each element what it does, as start_reach compares it, and of nothing else anything. Throughout, p is
+-- What the elements of a document do, as start_reach compares it, and that nothing else does anything. Throughout, p is
 -- the style of the parent of a node, n a node, c what is under it, r what is after it, g trees, i what they are handed, k a key, and l a
 -- label.
 use Rattle.std.proofs.Common.{◌≡◌, ◌++◌, ◌∷◌, ℕ, Bool, true, false, cond, All, List, [], map, Option, Some, None, IsSome, refl, sym, ap, subst, ◌∙◌, arith}
@@ -20,15 +20,18 @@ use Rattle.box_eval.specs.Starts.{no_starts}
 use Rattle.merged_walk.specs.Entries.{Holds, first_at}
 use Rattle.merged_walk.specs.Evaluators.{past_all}
 use Rattle.surroundings.specs.declared.surroundings.Surroundings.{Surroundings}
+use Rattle.surroundings.specs.declared.told.Told.{Told}
 use Rattle.surroundings.specs.StyledEvaluators.{inside_node, past_styled, root_surroundings, styled_evaluator}
 use Rattle.surroundings.specs.StyledEvaluators.{is_element as is_styled_element}
 use Rattle.start_reach.specs.Deeds.{Deeds, deeds_in}
 use Rattle.counter_index.specs.declared.deeds.CounterDeeds.{CounterDeeds}
 use Rattle.counter_index.specs.declared.index.CounterIndex.{CounterIndex}
-use Rattle.counter_index.specs.Documents.{KeepsDeeds, counter_deeds_in, counter_deeds_of}
+use Rattle.counter_index.specs.Documents.{KeepsDeeds, all_deeds, counter_deeds_in, counter_deeds_of}
 use Rattle.counter_index.specs.Indexes.{deeds_at}
+use Rattle.counter_index.specs.Told.{deeds_kept, deeds_told, told_without_starts}
 use Rattle.counter_index.specs.Touched.{deeds_by}
 use Rattle.counter_index.proofs.ListLemmas.{first-has}
+use Rattle.counter_index.proofs.ToldLemmas.{all-told}
 use Rattle.touched_starts.proofs.EntryCounts.{deeds-held}
 use Rattle.touched_starts.proofs.NodeFacts.{Stands, stands-below, stands-beside, stands-top}
 
@@ -93,29 +96,36 @@ module _ (table : List CounterStyle) (style : ℕ → Option Style → ElementSt
       (All-append IsNamed own beside (own-named n.key n.label p (counter_deeds_of table node i behind) (stands-named parent earlier n c r at))
       (all-named r parent (earlier ++ n ∷ []) p next (stands-beside tree distinct parent earlier n c r at r refl)))
 
-  module _ (index : CounterIndex) (keeps : KeepsDeeds table style tree index) where
-    abbrev pub does_at : ℕ → Option Deeds
-    does_at k = option_map deeds_by (deeds_at index k)
+  abbrev pub does_at : ℕ → Option Deeds
+  does_at k = option_map deeds_by (all_deeds table style tree k)
 
-    pub holds-deeds : Holds does_at (deeds_in table root_surroundings (styled style no_starts tree))
-    holds-deeds =
-        let all : List (ℕ × CounterDeeds) = counter_deeds_in table root_surroundings (styled style no_starts tree) in
-        subst (Holds does_at) (all-deeds table (styled style no_starts tree) root_surroundings)
-        (All-map (λ (entry : ℕ × Deeds). does_at entry.0 ≡ Some entry.1) deed all
-        (All-weaker (λ (entry : ℕ × CounterDeeds). deeds_at index entry.0 ≡ Some entry.1) (λ (entry : ℕ × CounterDeeds). does_at entry.0 ≡ Some (deeds_by entry.1))
-        (λ entry is. ap (option_map deeds_by) is) all (deeds-held table style tree index distinct keeps)))
+  pub holds-deeds : Holds does_at (deeds_in table root_surroundings (styled style no_starts tree))
+  holds-deeds =
+      let all : List (ℕ × CounterDeeds) = counter_deeds_in table root_surroundings (styled style no_starts tree) in
+      subst (Holds does_at) (all-deeds table (styled style no_starts tree) root_surroundings)
+      (All-map (λ (entry : ℕ × Deeds). does_at entry.0 ≡ Some entry.1) deed all
+      (All-weaker (λ (entry : ℕ × CounterDeeds). all_deeds table style tree entry.0 ≡ Some entry.1) (λ (entry : ℕ × CounterDeeds). does_at entry.0 ≡ Some (deeds_by entry.1))
+      (λ entry is. ap (option_map deeds_by) is) all (deeds-held table style tree distinct)))
 
-    module _ (k : ℕ) where
-      none-first : name_of tree k ≡ None → (first : Option CounterDeeds) → first_at (counter_deeds_in table root_surroundings (styled style no_starts tree)) k ≡ first → first ≡ None
-      none-first none None at = refl
-      none-first none (Some deeds) at =
-          let named : IsSome (name_of tree k) =
-          first-has IsNamed (counter_deeds_in table root_surroundings (styled style no_starts tree)) (all-named tree None [] None root_surroundings (stands-top tree tree refl)) k deeds at in
-          absurd (let never : true ≡ false = sym named ∙ ap (λ (o : Option (List ℕ)). is_some o) none in cc never)
+  module _ (k : ℕ) where
+    none-first : name_of tree k ≡ None → (first : Option CounterDeeds) → all_deeds table style tree k ≡ first → first ≡ None
+    none-first none None at = refl
+    none-first none (Some deeds) at =
+        let named : IsSome (name_of tree k) =
+        first-has IsNamed (counter_deeds_in table root_surroundings (styled style no_starts tree)) (all-named tree None [] None root_surroundings (stands-top tree tree refl)) k deeds at in
+        absurd (let never : true ≡ false = sym named ∙ ap (λ (o : Option (List ℕ)). is_some o) none in cc never)
 
-      -- it has nothing of a text, nor of what is not in the document
-      pub nothing-kept : name_of tree k ≡ None → deeds_at index k ≡ None
-      nothing-kept none = keeps k ∙ none-first none (first_at (counter_deeds_in table root_surroundings (styled style no_starts tree)) k) refl
+    -- a text does nothing, nor does what is not in the document
+    pub nothing-done : name_of tree k ≡ None → all_deeds table style tree k ≡ None
+    nothing-done none = none-first none (all_deeds table style tree k) refl
 
-      pub lacks-others : times k tree ≡ 0 → deeds_at index k ≡ None
-      lacks-others none = nothing-kept (ap (λ (o : Option (Spot Node)). option_and_then node_name (option_map (λ (s : Spot Node). s.label) o)) (spot-absent tree None [] k none))
+    pub others-do-nothing : times k tree ≡ 0 → all_deeds table style tree k ≡ None
+    others-do-nothing none = nothing-done (ap (λ (o : Option (Spot Node)). option_and_then node_name (option_map (λ (s : Spot Node). s.label) o)) (spot-absent tree None [] k none))
+
+    kept-of-none : (found : Option Told) → option_map deeds_told found ≡ None → option_and_then deeds_kept found ≡ None
+    kept-of-none None none = refl
+    kept-of-none (Some told) none = absurd (cc)
+
+    -- so an index has nothing of either
+    pub nothing-kept : (index : CounterIndex) → KeepsDeeds table style tree index → name_of tree k ≡ None → deeds_at index k ≡ None
+    nothing-kept index keeps none = keeps k ∙ kept-of-none (first_at (told_without_starts table style tree) k) (sym (all-told table style tree k) ∙ nothing-done none)

@@ -1,4 +1,4 @@
--- What the index of a document has of its nodes. Throughout, b is whether the parent of a node has a box, p the style of the parent, n a
+-- What the nodes of a document ask for and do. Throughout, b is whether the parent of a node has a box, p the style of the parent, n a
 -- node, c what is under it, r what is after it, g trees, i what they are handed, k a key, and l a label.
 use Rattle.std.proofs.Common.{◌≡◌, ◌&&◌, ◌++◌, ◌∷◌, ℕ, pos, Bool, true, false, All, List, [], Option, Some, None, IsSome, cond, map, refl, sym, ap, subst, ◌∙◌}
 use Rattle.std.specs.Prelude.{filter, is_some, not, option_and_then, option_map, unwrap_or}
@@ -39,15 +39,15 @@ use Rattle.edit_merge.specs.EditMerges.{is_element}
 use Rattle.styled_merge.specs.StyledMerges.{Starting}
 use Rattle.scope_reading.specs.ScopeChanges.{has_it}
 use Rattle.scope_deeds.specs.Counting.{Counting}
+use Rattle.scope_deeds.proofs.LawLemmas.{kept_scopes_tell_starts}
 use Rattle.scope_deeds.specs.KeptScopes.{kept_after, kept_before, kept_changes, kept_from, kept_own, kept_row, kept_scope}
 use Rattle.counter_index.specs.declared.deeds.CounterDeeds.{CounterDeeds}
-use Rattle.counter_index.specs.declared.index.CounterIndex.{CounterIndex}
-use Rattle.counter_index.specs.Documents.{KeepsDeeds, counter_deeds_in, counter_deeds_of}
-use Rattle.counter_index.specs.Indexes.{asked_at, asked_by, counting_at, counting_by, deeds_at, with_values}
-use Rattle.counter_index.proofs.IndexLemmas.{scopes_tell_starts}
+use Rattle.counter_index.specs.Documents.{all_deeds, counter_deeds_in, counter_deeds_of}
+use Rattle.counter_index.specs.Indexes.{asked_by, counting_by, with_values}
+use Rattle.counter_index.proofs.IndexLemmas.{all_deeds_keep_counting}
 use Rattle.counter_index.proofs.ScopeLemmas.{scope-at, up}
 use Rattle.touched_starts.proofs.EntryCounts.{deeds-held}
-use Rattle.touched_starts.proofs.IndexedDeeds.{nothing-kept, stands-named}
+use Rattle.touched_starts.proofs.IndexedDeeds.{nothing-done, stands-named}
 use Rattle.touched_starts.proofs.NodeFacts.{OfNodes, Stands, stands-below, stands-beside, stands-top, within_of}
 
 -- The starts of an element are those for which it asks, with their values.
@@ -80,14 +80,14 @@ module _ (told : Starting) where
       ∙ ap (λ rest. map value (own no_starts) ++ rest) (map-append value (before no_starts) (after no_starts))
       ∙ (λ i. first i ++ (second i ++ third i)))
 
-module _ (table : List CounterStyle) (style : ℕ → Option Style → ElementStyle) (tree : Forest (Keyed Node)) (index : CounterIndex) where
+module _ (table : List CounterStyle) (style : ℕ → Option Style → ElementStyle) (tree : Forest (Keyed Node)) where
   -- What elements ask for: what their styles do, where their parents have boxes.
 
   abbrev pub Asks : Bool → Option Style → Keyed Node → Type 0
-  Asks b p n = is_element n.label ≡ true → asked_at index n.key ≡ cond b (element_starts no_starts n.key (style n.key p)) []
+  Asks b p n = is_element n.label ≡ true → asked_by (all_deeds table style tree n.key) ≡ cond b (element_starts no_starts n.key (style n.key p)) []
 
   abbrev IsHeld : ℕ × CounterDeeds → Type 0
-  IsHeld entry = deeds_at index entry.0 ≡ Some entry.1
+  IsHeld entry = all_deeds table style tree entry.0 ≡ Some entry.1
 
   asked-if : (b : Bool) (all : List Start) (element : Styled) → element.starts ≡ cond b all [] → starts_in b (Element element) ≡ element.starts
   asked-if true all element is = refl
@@ -101,7 +101,7 @@ module _ (table : List CounterStyle) (style : ℕ → Option Style → ElementSt
   own-asks : (k : ℕ) (l : Node) (p : Option Style) (i behind : Option Surroundings)
       → let node : Keyed StyledNode = record { key = k; label = styled_node style no_starts p k l } in
       All IsHeld (cond (is_styled_element node.label) ((k, counter_deeds_of table node i behind) ∷ []) []) → is_element l ≡ true
-      → asked_at index k ≡ cond (is_some i) (element_starts no_starts k (style k p)) []
+      → asked_by (all_deeds table style tree k) ≡ cond (is_some i) (element_starts no_starts k (style k p)) []
   own-asks k (node.Text characters) p i behind all is = absurd (cc is)
   own-asks k (node.Element name attrs) p i behind all is =
       let its : ElementStyle = style k p in
@@ -138,20 +138,20 @@ module _ (table : List CounterStyle) (style : ℕ → Option Style → ElementSt
     pub named : is_element n.label ≡ true → IsSome (name_of tree n.key)
     pub zero : b ≡ false → (which : BoxKind) (name : List ℕ) → document_starts table style tree (box_of n.key which) name ≡ pos 0
 
-  module _ (distinct : HasDistinctKeys tree) (keeps : KeepsDeeds table style tree index) where
+  module _ (distinct : HasDistinctKeys tree) where
     abbrev kept : ℕ → Option Counting
-    kept = counting_at index
+    kept key = option_map counting_by (all_deeds table style tree key)
 
     -- what is kept of an element tells what is kept for counters
-    before-by : (k : ℕ) (o : Option CounterDeeds) → deeds_at index k ≡ o → kept_before kept k ≡ option_map_or (λ (its : CounterDeeds). its.before_children) o []
+    before-by : (k : ℕ) (o : Option CounterDeeds) → all_deeds table style tree k ≡ o → kept_before kept k ≡ option_map_or (λ (its : CounterDeeds). its.before_children) o []
     before-by k None at = ap (λ (o : Option CounterDeeds). option_map_or (λ (its : Counting). its.deeds.before_children) (option_map counting_by o) []) at
     before-by k (Some its) at = ap (λ (o : Option CounterDeeds). option_map_or (λ (its : Counting). its.deeds.before_children) (option_map counting_by o) []) at
 
-    after-by : (k : ℕ) (o : Option CounterDeeds) → deeds_at index k ≡ o → kept_after kept k ≡ option_map_or (λ (its : CounterDeeds). its.after_children) o []
+    after-by : (k : ℕ) (o : Option CounterDeeds) → all_deeds table style tree k ≡ o → kept_after kept k ≡ option_map_or (λ (its : CounterDeeds). its.after_children) o []
     after-by k None at = ap (λ (o : Option CounterDeeds). option_map_or (λ (its : Counting). its.deeds.after_children) (option_map counting_by o) []) at
     after-by k (Some its) at = ap (λ (o : Option CounterDeeds). option_map_or (λ (its : Counting). its.deeds.after_children) (option_map counting_by o) []) at
 
-    own-by : (k : ℕ) (o : Option CounterDeeds) → deeds_at index k ≡ o → kept_own kept k ≡ option_and_then (λ (its : CounterDeeds). its.own) o
+    own-by : (k : ℕ) (o : Option CounterDeeds) → all_deeds table style tree k ≡ o → kept_own kept k ≡ option_and_then (λ (its : CounterDeeds). its.own) o
     own-by k None at = ap (λ (o : Option CounterDeeds). option_and_then (λ (its : Counting). its.own) (option_map counting_by o)) at
     own-by k (Some its) at = ap (λ (o : Option CounterDeeds). option_and_then (λ (its : Counting). its.own) (option_map counting_by o)) at
 
@@ -168,7 +168,7 @@ module _ (table : List CounterStyle) (style : ℕ → Option Style → ElementSt
 
     node-none : (k : ℕ) (l : Node) (p : Option Style) (behind : Option Surroundings) → name_of tree k ≡ node_name l → Own k l p None behind → DoesNothing k
     node-none k (node.Text characters) p behind named all =
-        let none = nothing-kept table style tree distinct index keeps k named in
+        let none = nothing-done table style tree distinct k named in
         record { before = before-by k None none; after = after-by k None none; own = own-by k None none }
     node-none k (node.Element name attrs) p behind named all =
         let element : Styled = record { attrs = attrs; style = style k p; starts = element_starts no_starts k (style k p) } in
@@ -185,7 +185,7 @@ module _ (table : List CounterStyle) (style : ℕ → Option Style → ElementSt
 
     node-after : (k : ℕ) (l : Node) (p : Option Style) (i behind : Option Surroundings) → name_of tree k ≡ node_name l → Own k l p i behind
         → is_boxed (is_some i) (styled_node style no_starts p k l) ≡ false → kept_after kept k ≡ []
-    node-after k (node.Text characters) p i behind named all none = after-by k None (nothing-kept table style tree distinct index keeps k named)
+    node-after k (node.Text characters) p i behind named all none = after-by k None (nothing-done table style tree distinct k named)
     node-after k (node.Element name attrs) p i behind named all none =
         let element : Styled = record { attrs = attrs; style = style k p; starts = element_starts no_starts k (style k p) } in
         let its : CounterDeeds = counter_deeds_of table (record { key = k; label = Element element }) i behind in
@@ -260,7 +260,7 @@ module _ (table : List CounterStyle) (style : ℕ → Option Style → ElementSt
         kept_from kept creator name which n.key (unwrap_or (option_map (λ (s : Spot Node). s.children) o) Empty) (unwrap_or (option_map (λ (s : Spot Node). s.after) o) Empty)
         ++ up kept (option_and_then (λ (s : Spot Node). s.parent) o)) at
         ∙ (λ x. own x ++ above x) in
-        scopes_tell_starts table style tree index distinct keeps creator name ∙ ap (λ (read : List Change). start (events_of read creator name)) read ∙ no_event
+        kept_scopes_tell_starts table style tree distinct kept (all_deeds_keep_counting table style tree) creator name ∙ ap (λ (read : List Change). start (events_of read creator name)) read ∙ no_event
 
     -- by whether something is handed
     zero-by : (n : Keyed Node) (c r : Forest (Keyed Node)) (parent : Option ℕ) (earlier : List (Keyed Node)) (p : Option Style) (i : Option Surroundings) → Stands tree parent earlier (Tree n c r)
@@ -291,7 +291,7 @@ module _ (table : List CounterStyle) (style : ℕ → Option Style → ElementSt
         )
 
     pub whole-asks : OfNodes style Asks true None tree
-    whole-asks = all-ask tree None root_surroundings (deeds-held table style tree index distinct keeps)
+    whole-asks = all-ask tree None root_surroundings (deeds-held table style tree distinct)
 
     pub whole-stays : OfNodes style Stays true None tree
-    whole-stays = all-stay tree None [] None root_surroundings (stands-top tree tree refl) (λ none. refl) (deeds-held table style tree index distinct keeps)
+    whole-stays = all-stay tree None [] None root_surroundings (stands-top tree tree refl) (λ none. refl) (deeds-held table style tree distinct)

@@ -75,6 +75,6 @@ module _ (edit : Edit) (before after : KeyedSource) (leads : Leads edit before a
 pub gone_are_moved : GoneAreMoved
 gone_are_moved edit before after leads was did takes taken key goes =
     elim (moved-by edit before after leads key goes takes taken (name_of before.tree key) (name_of after.tree key) refl refl) [
-      | inl none ↦ inl (nothing-kept (table before) (document_style (author before) before.tree) before.tree leads.done.before.distinct was did key none)
+      | inl none ↦ inl (nothing-kept (table before) (document_style (author before) before.tree) before.tree leads.done.before.distinct key was did none)
       | inr among ↦ inr among
     ]

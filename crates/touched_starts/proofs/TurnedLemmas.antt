@@ -209,7 +209,7 @@ module _ (edit : Edit) (before after : KeyedSource) (leads : Leads edit before a
   asks-named : (k : ℕ) → has_starts (asked_at now k) ≡ true → (name : Option (List ℕ)) → name_of after.tree k ≡ name → IsSome name
   asks-named k asks (Some name) at = refl
   asks-named k asks None at =
-      absurd (let nothing : asked_at now k ≡ [] = ap asked_by (nothing-kept (table after) new after.tree leads.done.after.distinct now now_is.deeds k at) in
+      absurd (let nothing : asked_at now k ≡ [] = ap asked_by (nothing-kept (table after) new after.tree leads.done.after.distinct k now now_is.deeds at) in
       let never : true ≡ false = sym asks ∙ ap has_starts nothing in cc never)
 
   module _ (k : ℕ) (found : Found k) where

@@ -24,13 +24,13 @@ use Rattle.counter_index.specs.declared.deeds.CounterDeeds.{CounterDeeds}
 use Rattle.counter_index.specs.declared.index.CounterIndex.{CounterIndex}
 use Rattle.counter_index.specs.Documents.{IsCounterIndex, KeepsDeeds, KeepsStarts}
 use Rattle.counter_index.specs.Exchanges.{IsWayBack, after_exchange, keys_in}
-use Rattle.counter_index.specs.Indexes.{asked_at, deeds_at, value_at}
+use Rattle.counter_index.specs.Indexes.{asked_at, deeds_at, is_asked, value_at}
 use Rattle.counter_index.specs.Laws.{OfEachIndex}
 use Rattle.counter_index.specs.Retold.{other_keys, told_entries}
 use Rattle.counter_index.specs.Touched.{AreTouched, IsUntouched, was_kept}
 
 module _ (source : KeyedSource) (index : CounterIndex) where
-  -- an index has what the elements of a document do, where all starts are 0
+  -- an index has what the elements of a document do that meet reversed counters, where all starts are 0
   abbrev pub HasDeeds : Type 0
   HasDeeds = KeepsDeeds (table source) (document_style (author source) source.tree) source.tree index
 
@@ -42,7 +42,7 @@ module _ (source : KeyedSource) (index : CounterIndex) where
   abbrev pub IsIndexOf : Type 0
   IsIndexOf = IsCounterIndex (table source) (document_style (author source) source.tree) source.tree index
 
--- One index has what the elements did before an edit, another what they do after it. `former` has what was kept of the elements
+-- One index has what the elements did before an edit, another what they do after it, of those that meet reversed counters. `former` has what was kept of the elements
 -- that were exchanged; `moved` has each element in a tree that goes.
 pub record IsBrought (edit : Edit) (before after : KeyedSource) (was now : CounterIndex) (former : List (ℕ × Option CounterDeeds)) (moved : List ℕ) : Type 0 where
   pub did : HasDeeds before was
@@ -57,10 +57,11 @@ OfEachBrought law =
     → (was now : CounterIndex) (former : List (ℕ × Option CounterDeeds)) (moved : List ℕ)
     → IsBrought edit before after was now former moved → law edit before after was now former moved)
 
--- a counter that is untouched has the start that it had
+-- a counter for whose start an element asks, before the edit and after it, has the start that it had where it is untouched
 abbrev pub UntouchedStartsStay : Type 0
 UntouchedStartsStay =
-    OfEachBrought (λ edit before after was now former moved. (counter : Identity) → IsUntouched former moved now counter
+    OfEachBrought (λ edit before after was now former moved. (counter : Identity)
+    → is_asked was counter.creator counter.name ≡ true → is_asked now counter.creator counter.name ≡ true → IsUntouched former moved now counter
     → own_starts after counter.creator counter.name ≡ own_starts before counter.creator counter.name)
 
 -- So an index that had the starts of the document before is brought to the document after the edit, where the starts of touched elements

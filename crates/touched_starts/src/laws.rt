@@ -2,7 +2,7 @@
 
 ghost use Rattle.touched_starts.specs.Laws.{GoneAreMoved, SecondMergesAreAsked, StartsAreAsked, StartsAreBrought, TurnedAreTold, UntouchedStartsStay};
 
-/// A counter that is untouched has the start that it had. So an index that had the starts of the document before the edit is that of
+/// A counter for whose start an element asks, before the edit and after it, has the start that it had where it is untouched. So an index that had the starts of the document before the edit is that of
 /// the document after it, where the starts of touched elements are told again and exchanged.
 pub fn untouched_starts_stay()
     ensures stay { UntouchedStartsStay }

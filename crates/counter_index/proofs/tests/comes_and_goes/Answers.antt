@@ -1,8 +1,13 @@
-use Rattle.std.proofs.Common.{◌<◌, ℕ, []}
+use Rattle.std.proofs.Common.{◌<◌, ℕ, [], Option}
+use Rattle.std.specs.Prelude.{IfSome}
 use Rattle.std.proofs.lemmas.List.Elements.{All-cons, All-nil}
+use Rattle.counter_index.specs.declared.deeds.CounterDeeds.{CounterDeeds}
 use Rattle.counter_index.proofs.tests.comes_and_goes.Goals as goal
+
+abbrev IsBelow : ℕ → ℕ × Option CounterDeeds → Type 0
+IsBelow room entry = IfSome entry.1 (λ _. entry.0 < room)
 
 pub exchange-requires : goal.exchange-requires
 exchange-requires c =
     let room : ℕ = c.args.index.now.deeds.room in
-    record { room = All-cons (λ (key : ℕ). key < room) 2 [] c.requires.room (All-nil (λ (key : ℕ). key < room)) }
+    record { room = All-cons (IsBelow room) _ [] c.requires.room (All-nil (IsBelow room)) }

@@ -1,6 +1,6 @@
 use Rattle.std.proofs.Common.{◌≡◌, drop}
 use Rattle.std.specs.Str.{chars}
-use Rattle.counter_index.specs.Indexes.{is_start_of}
+use Rattle.scope_deeds.specs.Reversed.{is_start_of}
 use Rattle.counter_index.proofs.touched.is_start_of.Given as goal
 
 abbrev pub invariant-loop-start : goal.invariant-loop-start

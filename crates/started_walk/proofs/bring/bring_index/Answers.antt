@@ -8,27 +8,24 @@ use Rattle.counter_index.specs.Exchanges.{HasRoomFor, after_exchange, restored}
 use Rattle.counter_index.specs.Indexes.{deeds_at}
 use Rattle.counter_index.specs.Retold.{told_entries}
 use Rattle.counter_index.specs.Touched.{AreTouched}
-use Rattle.kept_elements.specs.Changes.{AreBelow}
-use Rattle.started_walk.proofs.BringLemmas.{below-room, keys-length, room-more, written}
+use Rattle.started_walk.proofs.BringLemmas.{keys-length, room-grown, written}
 use Rattle.started_walk.proofs.bring.bring_index.Goals as goal
 
 pub exchange-requires : goal.exchange-requires
 exchange-requires c =
-    let below = subst (λ (entries : List (ℕ × Option CounterDeeds)). AreBelow c.in_ok-room.room entries) (c.as_slice.ensures.value ∙ sym c.as_mut_slice.ensures.value) c.in_ok-room.ensures.room in
-    record { room = below-room c.in_ok-room.room c.reserve.new.self.deeds.room c.as_mut_slice.result.now below c.in_ok-reserve.ensures.room }
+    let has =
+    subst (λ (entries : List (ℕ × Option CounterDeeds)). HasRoomFor c.in_ok-room.room entries) (c.as_slice.ensures.value ∙ sym c.as_mut_slice.ensures.value) c.in_ok-room.ensures.room in
+    record { room = room-grown c.in_ok-room.room c.reserve.new.self.deeds.room c.as_mut_slice.result.now has c.in_ok-reserve.ensures.room }
 
 pub restore-requires : goal.restore-requires
 restore-requires c =
     let deeds = c.args.deeds in
     let after = c.exchange.new.entries in
-    let below = subst (λ (entries : List (ℕ × Option CounterDeeds)). AreBelow c.in_ok-room.room entries) (c.as_slice.ensures.value ∙ sym c.as_mut_slice.ensures.value) c.in_ok-room.ensures.room in
-    let room = below-room c.in_ok-room.room c.reserve.new.self.deeds.room c.as_mut_slice.result.now below c.in_ok-reserve.ensures.room in
     let put = written deeds.len after deeds.items (omega (arith, keys-length after c.as_mut_slice.result.now c.exchange.ensures.keys, ap length c.as_mut_slice.ensures.value, deeds.ok.0)) in
     record {
       room =
           subst (λ (entries : List (ℕ × Option CounterDeeds)). HasRoomFor c.bring_starts.new.index.deeds.room entries) (sym (c.as_mut_slice-in-Err.ensures.value ∙ put))
-          (room-more c.reserve.new.self.deeds.room c.bring_starts.new.index.deeds.room c.as_mut_slice.result.now after c.exchange.ensures.keys room
-          (omega (arith, c.exchange.ensures.room, c.bring_starts.ensures.grown)));
+          (room-grown c.exchange.new.self.deeds.room c.bring_starts.new.index.deeds.room after c.exchange.ensures.back_room c.bring_starts.ensures.grown);
     }
 
 pub returns-in-Ok-clause-brought : goal.returns-in-Ok-clause-brought
@@ -59,8 +56,6 @@ returns-in-Ok-clause-back c =
     let was = c.args.index.now in
     let now = c.bring_starts.new.index in
     let brought = c.in-Ok.ensures.brought in
-    let below = subst (λ (entries : List (ℕ × Option CounterDeeds)). AreBelow c.in_ok-room.room entries) (c.as_slice.ensures.value ∙ sym c.as_mut_slice.ensures.value) c.in_ok-room.ensures.room in
-    let room = below-room c.in_ok-room.room c.reserve.new.self.deeds.room c.as_mut_slice.result.now below c.in_ok-reserve.ensures.room in
     let put = written deeds.len after deeds.items (omega (arith, keys-length after c.as_mut_slice.result.now c.exchange.ensures.keys, ap length c.as_mut_slice.ensures.value, deeds.ok.0)) in
     record {
       deeds =
@@ -73,7 +68,6 @@ returns-in-Ok-clause-back c =
       starts = λ key. brought.back key ∙ ap (λ held. get held key) (ap (λ slots. slots.held) c.exchange.ensures.starts ∙ c.reserve.ensures.starts);
       deeds_room =
           subst (λ (entries : List (ℕ × Option CounterDeeds)). HasRoomFor now.deeds.room entries) (sym put)
-          (room-more c.reserve.new.self.deeds.room now.deeds.room c.as_mut_slice.result.now after c.exchange.ensures.keys room
-          (omega (arith, c.exchange.ensures.room, c.bring_starts.ensures.grown)));
+          (room-grown c.exchange.new.self.deeds.room now.deeds.room after c.exchange.ensures.back_room c.bring_starts.ensures.grown);
       starts_room = brought.room;
     }

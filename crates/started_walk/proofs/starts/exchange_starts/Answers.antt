@@ -1,5 +1,4 @@
-use Rattle.std.proofs.Common.{arith}
-use Rattle.started_walk.proofs.BringLemmas.{below-room, room-more}
+use Rattle.started_walk.proofs.BringLemmas.{below-room}
 use Rattle.started_walk.proofs.starts.exchange_starts.Goals as goal
 
 pub exchange_starts-requires : goal.exchange_starts-requires
@@ -8,16 +7,7 @@ exchange_starts-requires c = record {
 }
 
 pub restore_starts-requires : goal.restore_starts-requires
-restore_starts-requires c =
-    let room = below-room c.in_ok-room.room c.reserve.new.self.starts.room c.args.starts.now c.in_ok-room.ensures.room c.in_ok-reserve.ensures.starts_room in
-    record {
-      room =
-          room-more c.reserve.new.self.starts.room c.exchange_starts.new.self.starts.room c.args.starts.now c.exchange_starts.new.entries c.exchange_starts.ensures.keys room
-          (omega (arith, c.exchange_starts.ensures.room));
-    }
+restore_starts-requires c = record { room = c.exchange_starts.ensures.back_room }
 
 pub returns-in-Ok-clause-room : goal.returns-in-Ok-clause-room
-returns-in-Ok-clause-room c =
-    let room = below-room c.in_ok-room.room c.reserve.new.self.starts.room c.args.starts.now c.in_ok-room.ensures.room c.in_ok-reserve.ensures.starts_room in
-    room-more c.reserve.new.self.starts.room c.exchange_starts.new.self.starts.room c.args.starts.now c.exchange_starts.new.entries c.exchange_starts.ensures.keys room
-    (omega (arith, c.exchange_starts.ensures.room))
+returns-in-Ok-clause-room c = c.exchange_starts.ensures.back_room

@@ -1,4 +1,4 @@
-use Rattle.counter_index.proofs.ExchangeLemmas.{exchange_back, exchange_held, exchange_keys, exchange_room, room_for}
+use Rattle.counter_index.proofs.ExchangeLemmas.{exchange_back, exchange_back_room, exchange_held, exchange_keys, exchange_room, room_for}
 use Rattle.counter_index.proofs.slots.Slots.exchange.Goals as goal
 
 pub exchange_all-requires : goal.exchange_all-requires
@@ -27,3 +27,8 @@ pub returns-clause-room : goal.returns-clause-room
 returns-clause-room g c =
     exchange_room c.self.inside.slots.items c.exchange_all.new.slots.items c.args.self.now c.self.view_is
     c.args.entries.now c.exchange_all.ensures.slots
+
+pub returns-clause-back_room : goal.returns-clause-back_room
+returns-clause-back_room g c =
+    exchange_back_room c.self.inside.slots.items c.exchange_all.new.slots.items c.args.self.now c.self.view_is
+    c.args.entries.now c.exchange_all.ensures.slots c.exchange_all.new.entries c.exchange_all.ensures.entries
