@@ -6,7 +6,9 @@ ghost use Rattle.counter_sets.specs.ByNames.{value_of};
 ghost use Rattle.box_eval.specs.Lookups.{created, start_given};
 ghost use Rattle.box_eval.specs.Properties.{first_value, start_in};
 
+use crate::counting::start_in;
 use crate::inputs::Start;
+use crate::starts::Starts;
 use counter_sets::by_name::ByName;
 use plain_types::box_id::BoxId;
 use plain_types::count::Count;
@@ -62,7 +64,7 @@ impl<'a> BoxStarts<'a> {
     }
 
     /// The start of a reversed counter of the box; one that is not given is 0.
-    fn start(&self, name: &str) -> Count
+    fn own_start(&self, name: &str) -> Count
         ensures start { result ≡ start_in self.now.0 self.now.1 (chars name.now) }
     {
         self.by_name.get(name).unwrap_or(0)
@@ -76,7 +78,7 @@ impl<'a> BoxStarts<'a> {
             Some(value) => value,
             None => {
                 if op.reversed {
-                    self.start(op.name.as_str())
+                    self.own_start(op.name.as_str())
                 } else {
                     0
                 }
@@ -94,6 +96,19 @@ impl<'a> BoxStarts<'a> {
             reversed: op.reversed,
             value: self.first_value(op),
         })
+    }
+}
+
+/// Those of the box come by the look-up.
+impl<'a> Starts for BoxStarts<'a> {
+    ghost starts = { λ own. start_in own.0 };
+
+    fn start(&self, creator: BoxId, name: &str) -> Count {
+        if creator == self.creator {
+            self.own_start(name)
+        } else {
+            start_in(self.starts, creator, name)
+        }
     }
 }
 

@@ -82,7 +82,7 @@ fn count_few(
 }
 
 /// The start of a reversed counter of the box; one that is not given is 0.
-fn start_in(starts: &[Start], creator: BoxId, name: &str) -> Count
+pub(crate) fn start_in(starts: &[Start], creator: BoxId, name: &str) -> Count
     ensures start { result ≡ start_in starts.now creator (chars name.now) }
 {
     for start in starts {

@@ -1,6 +1,6 @@
 //! The starts of a document's reversed counters (our own after CSS Lists 3, 4.4).
 
-ghost use Rattle.std.specs.Prelude.{◌≡◌, ◌++◌, ◌∷◌, ◌&&◌, ℕ, ℤ, List, [], IfOk, OnOk, true, not, is_some, cond};
+ghost use Rattle.std.specs.Prelude.{◌≡◌, ◌++◌, ◌∷◌, ◌&&◌, ℕ, ℤ, List, [], IfOk, IfSome, OnOk, true, not, is_some, cond};
 ghost use Rattle.std.specs.List.{list_any};
 ghost use Rattle.std.specs.Str.{bytes_eq, chars};
 ghost use Rattle.plain_types.specs.declared.box_id.BoxId.{BoxId};
@@ -8,8 +8,10 @@ ghost use Rattle.plain_types.specs.declared.style.ResetOp.{ResetOp};
 ghost use Rattle.counter_sets.specs.ByNames.{is_at, value_of};
 ghost use Rattle.box_eval.specs.Boxes.{generates_box, has_pseudo_box};
 ghost use Rattle.box_eval.specs.Evaluation.{box_starts, element_starts};
+ghost use Rattle.box_eval.specs.Properties.{start_in};
 ghost use Rattle.box_eval.specs.Starts.{no_starts};
 
+use crate::box_starts::BoxStarts;
 use crate::boxes::has_pseudo_box;
 use crate::inputs::Start;
 use crate::ops::{is_reset_in, last_resets};
@@ -31,6 +33,14 @@ pub trait Starts {
     /// The start of the counter of this name that this box creates.
     fn start(&self, creator: BoxId, name: &str) -> Count
         ensures start { result ≡ starts self.now creator (chars name.now) };
+
+    /// A list that has the starts of all counters that this box creates, where they are kept in one. Who asks for many of
+    /// them looks them up in it.
+    fn listed(&self, creator: BoxId) -> Option<&[Start]>
+        ensures listed { IfSome result (λ list. (name : List ℕ) → starts self.now creator name ≡ start_in list.now creator name) }
+    {
+        None
+    }
 }
 
 /// Each counter starts with 0. So a document is evaluated to learn its starts.
@@ -103,7 +113,7 @@ fn add_few<T: Starts>(
     Ok(())
 }
 
-/// The same of a box of many resets, with a look-up.
+/// The same of a box of many resets, with a look-up of the last of each name.
 fn add_many<T: Starts>(
     alloc: Global,
     starts: &T,
@@ -123,6 +133,25 @@ fn add_many<T: Starts>(
     Ok(())
 }
 
+/// The same, with a look-up of the starts too, where they are listed.
+fn add_looked_up<T: Starts>(
+    alloc: Global,
+    starts: &T,
+    creator: BoxId,
+    style: &Style,
+    all: &mut List<Start>,
+) -> Result<(), Memory>
+    ensures ok { OnOk result (all.new ≡ all.old ++ box_starts (T.starts starts.now) creator style.now) }
+{
+    match starts.listed(creator) {
+        Some(list) => {
+            let own = BoxStarts::of(alloc, list, creator)?;
+            add_many(alloc, &own, creator, style, all)
+        }
+        None => add_many(alloc, starts, creator, style, all),
+    }
+}
+
 /// Appends the starts of the reversed counters that a box of this style creates without a number.
 fn add_box_starts<T: Starts>(
     alloc: Global,
@@ -136,7 +165,7 @@ fn add_box_starts<T: Starts>(
     if style.resets.len() < MANY {
         add_few(alloc, starts, creator, style, all)
     } else {
-        add_many(alloc, starts, creator, style, all)
+        add_looked_up(alloc, starts, creator, style, all)
     }
 }
 
@@ -157,7 +186,7 @@ fn add_pseudo_starts<T: Starts>(
 }
 
 /// The starts of the reversed counters that the boxes of an element with a box create without a number. It
-/// takes time linear in the resets.
+/// takes time linear in the resets and in the list of starts, where there is one; without a list a start of each is asked.
 pub fn element_starts<T: Starts>(
     alloc: Global,
     starts: &T,

@@ -147,13 +147,19 @@ impl CounterIndex {
     }
 }
 
-/// The starts that are kept. It takes no memory, and time linear in the starts for which the element asks.
+/// The starts that are kept.
 impl Starts for CounterIndex {
     ghost use Rattle.counter_index.specs.Indexes.{value_at};
 
     ghost starts = { value_at };
 
+    /// It takes no memory, and time linear in the starts for which the element asks.
     fn start(&self, creator: BoxId, name: &str) -> Count {
         value_in(self.starts(creator.key), creator, name)
+    }
+
+    /// Those of all boxes of the element, in constant time.
+    fn listed(&self, creator: BoxId) -> Option<&[Start]> {
+        Some(self.starts(creator.key))
     }
 }

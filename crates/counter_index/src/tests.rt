@@ -118,7 +118,16 @@ fn is_touched(alloc: Global, index: &mut CounterIndex) -> Result<bool, Memory>
     Ok(!asks_before && asks && keys.as_slice() == [LIST].as_slice() && later.as_slice().is_empty())
 }
 
-/// Whether the start of the list's counter is this once it is exchanged for that before, and 0 once that is restored.
+/// Whether this is the one start that is listed of the list.
+fn is_listed(index: &CounterIndex, value: Count) -> bool {
+    match index.listed(list_box()) {
+        Some([start]) => start.value == value,
+        _ => false,
+    }
+}
+
+/// Whether the start of the list's counter is this, and is listed, once it is exchanged for that before, and 0 once that is
+/// restored.
 fn starts_and_ends(alloc: Global, index: &mut CounterIndex, value: Count) -> Result<bool, Memory>
     requires room { LIST < index.old.starts.room }
 {
@@ -126,8 +135,9 @@ fn starts_and_ends(alloc: Global, index: &mut CounterIndex, value: Count) -> Res
     index.exchange_starts(&mut entries);
     let between = index.start(list_box(), "c");
     let other = index.start(list_box(), "d");
+    let listed = is_listed(index, value);
     index.restore_starts(&mut entries);
-    Ok(between == value && other == 0 && index.start(list_box(), "c") == 0)
+    Ok(between == value && other == 0 && listed && index.start(list_box(), "c") == 0)
 }
 
 #[test]
