@@ -36,14 +36,15 @@
 //! - `Names`, `Lines` and `Statuses`: the line and the code of a status, and the status of a fault.
 //!
 //! A text such as DOC reads as one tree or fails at one place, and this is a relation (`ReadsAsDocument`), which no
-//! definition computes; so it is with SCRIPT (`ReadsAsScript`), and with what DOC bakes to (`IsBaked`). So `output` takes what
-//! the words and texts read as, the `Readings`. `run` gives some that are right where it comes to read them (`AreReadings`), and what its other
-//! clauses say of a shelf that tells its files (`OverTold`) holds of all such.
+//! definition computes; so it is with SCRIPT (`ReadsAsScript`), and with what DOC bakes to (`IsBaked`). So `output` takes
+//! what the words and texts read as, the `Readings`. `run` gives some that are right where it comes to read them
+//! (`AreReadings`), and what its other clauses say of a shelf that tells its files (`OverTold`) holds of all such.
 //!
-//! `Stands` says where a run stands between two of its parts, `Takings` what these take, `Editors` what a script's document stands for, and `OpenVolumes`
-//! what a book's volume does. Another aspect of a document has a line in `aspect_bytes` and `words_of`. A command that joins
-//! has an `.._output` of its own in `specs/`, and a line in `words_of`, `TextsReadAs`, `form_output`, `form_size`, `form_steps` and `IsFormWithinWork`; a status that joins has a line in
-//! `code_of`, `message`, `IsCaused`, `IsStop`, `IsSettled`, `IsWhole` and `TellsOfLine`.
+//! `Stands` says where a run stands between two of its parts, `Takings` what these take, `Editors` what a script's
+//! document stands for, and `OpenVolumes` what a book's volume does. Another aspect of a document has a line in
+//! `aspect_bytes` and `words_of`. A command that joins has an `.._output` of its own in `specs/`, and a line in
+//! `words_of`, `TextsReadAs`, `form_output`, `form_size`, `form_steps` and `IsFormWithinWork`; a status that joins has a
+//! line in `code_of`, `message`, `IsCaused`, `IsStop`, `IsSettled`, `IsWhole` and `TellsOfLine`.
 //!
 //! The words, the order of refusals and the lines are our own.
 //!

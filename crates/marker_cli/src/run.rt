@@ -196,15 +196,17 @@ fn flushed<O: Sink>(outcome: Status, out: &mut O) -> Status
 ///
 /// The words are the arguments of the program without its name. They are told apart first, then the files
 /// are read in their order, each checked for its length and for UTF-8 before the next one, then the document is
-/// read, or those of a book in their order, and then the script; its commands are done in their order, and the file of a `sheet` line is read when
-/// that line is done. The first fault ends the run, and its status tells it; what was written until then stays. A refused
-/// edit, an undo or redo that finds nothing, and a path to no element are told in the output and end nothing. Where `bake`
-/// leaves texts out, all else is written, and the status, `LeftOut`, tells how many. At the end `out` is flushed, and where
-/// that fails the status is `WriteFault`, if it isn't `Usage` or `Memory`. A fault of `err` changes no status.
+/// read, or those of a book in their order, and then the script; its commands are done in their order, and the
+/// file of a `sheet` line is read when that line is done. The first fault ends the run, and its status tells it;
+/// what was written until then stays. A refused edit, an undo or redo that finds nothing, and a path to no element
+/// are told in the output and end nothing. Where `bake` leaves texts out, all else is written, and the status,
+/// `LeftOut`, tells how many. At the end `out` is flushed, and where that fails the status is `WriteFault`, if it
+/// isn't `Usage` or `Memory`. A fault of `err` changes no status.
 ///
 /// It takes time linear in the files and the output, and what one evaluation of the document costs; for each accepted
-/// edit, undo, redo and `sheet` line what `Engine::apply` of such an edit costs, within the same bound by its work, and for each `show` of a book what
-/// `Volume::show` does. It takes memory for the files, the commands, the documents and what is kept of their elements, and for the edits that can be undone and redone. A run that is made up takes
+/// edit, undo, redo and `sheet` line what `Engine::apply` of such an edit costs, within the same bound by its work,
+/// and for each `show` of a book what `Volume::show` does. It takes memory for the files, the commands, the documents
+/// and what is kept of their elements, and for the edits that can be undone and redone. A run that is made up takes
 /// time and memory for its COUNT edits too.
 pub fn run<S: Shelf, O: Sink, E: Sink, L: Ledger>(
     alloc: Global,

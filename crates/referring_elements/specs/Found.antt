@@ -1,16 +1,14 @@
 -- Which elements are found through an index (our own).
-use Rattle.std.specs.Prelude.{◌≡◌, ℕ, nat_eq, Bool, true, false, ◌&&◌, ◌||◌, codes, is_some, List, Some}
+use Rattle.std.specs.Prelude.{ℕ, nat_eq, Bool, false, ◌&&◌, ◌||◌, codes, List, Some}
 use Rattle.std.specs.List.{list_any}
 use Rattle.std.specs.Option.{option_eq, option_map_or}
 use Rattle.forest.specs.Forest.{Forest}
 use Rattle.forest.specs.Keys.{Keyed}
 use Rattle.plain_types.specs.declared.node.Node.{Node}
 use Rattle.node_arena.specs.Nodes.{attr_of}
-use Rattle.edit_work.specs.KeyedSources.{is_among}
 use Rattle.generated_texts.specs.References.{first_holder}
 use Rattle.target_index.specs.declared.index.Index.{Index}
 use Rattle.target_index.specs.Holders.{is_reference}
-use Rattle.referring_elements.specs.ElementsById.{element_of}
 use Rattle.referring_elements.specs.declared.former.FormerTarget.{FormerTarget}
 use Rattle.referring_elements.specs.Former.{is_former}
 
@@ -30,7 +28,3 @@ module _ (document : Forest (Keyed Node)) (index : Index) where
   -- it refers to an id that names another element than before, or to one of these
   abbrev pub is_found : List FormerTarget → (targets : List ℕ) → ℕ → Bool
   is_found former targets key = list_any (refers_anew key) former || list_any (refers_by_id key) targets
-
--- of each id for which an element is kept, the elements that refer to it are found
-abbrev pub AreAdded : Index → (added : List (List ℕ × ℕ)) → (found : List ℕ) → Type 0
-AreAdded index added found = (id : List ℕ) → is_some (element_of added id) ≡ true → (key : ℕ) → is_reference index id key ≡ true → is_among found key ≡ true

@@ -3,3 +3,4 @@ pub mod Former
 pub mod Found
 pub mod References
 pub mod ElementsById
+pub mod Machinery

@@ -9,8 +9,9 @@ ghost use Rattle.edit_work.specs.KeyedSources.{is_among};
 ghost use Rattle.target_index.specs.Holders.{is_reference};
 ghost use Rattle.reference_reach.specs.ChangedTargets.{Evaluated, refers, refers_through};
 ghost use Rattle.referring_elements.specs.Former.{AreFormerTargets, is_former};
-ghost use Rattle.referring_elements.specs.Found.{AreAdded, is_found, is_named, refers_anew, refers_by_id};
+ghost use Rattle.referring_elements.specs.Found.{is_found, is_named, refers_anew, refers_by_id};
 ghost use Rattle.referring_elements.specs.Indexes.{AreLive, AreReferencesLive, IsIndexOf, TellsReferences};
+ghost use Rattle.referring_elements.specs.Machinery.Additions.{AreAdded};
 
 use crate::elements::Elements;
 use crate::elements_by_id::ElementsById;

@@ -1,7 +1,8 @@
 use Rattle.std.proofs.Common.{◌≡◌, ℕ, take}
 use Rattle.std.specs.List.{list_any}
 use Rattle.edit_work.specs.KeyedSources.{is_among}
-use Rattle.referring_elements.specs.Found.{AreAdded, refers_anew}
+use Rattle.referring_elements.specs.Found.{refers_anew}
+use Rattle.referring_elements.specs.Machinery.Additions.{AreAdded}
 use Rattle.referring_elements.proofs.referring.elements_anew.Given as goal
 
 abbrev pub invariant-loop-target : goal.invariant-loop-target
