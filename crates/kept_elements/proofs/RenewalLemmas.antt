@@ -16,7 +16,7 @@ use Rattle.merged_walk.proofs.EntryLaws.{contains-first}
 use Rattle.merged_walk.proofs.LawLemmas.{changes_are_enough}
 use Rattle.kept_elements.specs.declared.kept.Kept.{Kept}
 use Rattle.kept_elements.specs.declared.kept_change.KeptChange.{KeptChange}
-use Rattle.kept_elements.specs.Changes.{AreBelow, AreChanges, Renews, puts_of}
+use Rattle.kept_elements.specs.Changes.{AreBelow, AreChanges, Renews, TellWere, puts_of}
 use Rattle.kept_elements.proofs.ChangeLemmas.{HasKeysOnce, get-put_all, get-take_all, has_key}
 
 module _ {A : Type 0} where
@@ -127,6 +127,14 @@ module _ (held : FinMap nat_cmp Kept) where
           shown = (refl, rest.shown);
           few = let fewer : length h.1.0 ≤ length all = rest.few in omega (arith, fewer);
         })
+  ]
+
+  -- and each tells what its element was handed before
+  pub tell_were : (all : List (ℕ × Kept)) (changes : List (ℕ × KeptChange)) → AreChanges held all changes → TellWere held changes
+  tell_were [] changes are = subst (TellWere held) (sym are) tt
+  tell_were (entry ∷ all) changes are = elim are [
+    | inl h ↦ tell_were all changes h.1
+    | inr h ↦ subst (TellWere held) (sym h.1.1) (refl, tell_were all h.1.0 h.1.2)
   ]
 
   -- The elements of one document go and those of another come: the map has all that is kept of these.

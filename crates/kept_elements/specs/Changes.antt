@@ -6,6 +6,7 @@ use Rattle.std.specs.List.{AllByRecursion}
 use Rattle.generated_texts.specs.declared.entry.NodeEntry.{NodeEntry}
 use Rattle.merged_walk.specs.Entries.{AreAmong, Covers}
 use Rattle.changed_lines.specs.Changes.{shows_other}
+use Rattle.surroundings.specs.declared.walked.Walked.{Walked}
 use Rattle.kept_elements.specs.declared.kept.Kept.{Kept}
 use Rattle.kept_elements.specs.declared.kept_change.KeptChange.{KeptChange}
 
@@ -13,9 +14,14 @@ use Rattle.kept_elements.specs.declared.kept_change.KeptChange.{KeptChange}
 abbrev pub entry_at : FinMap nat_cmp Kept → ℕ → Option NodeEntry
 entry_at held key = option_map (λ (kept : Kept). kept.entry) (get held key)
 
--- this comes to be kept under a key: the element shows another text in a box, or it does not, by what a map holds there
+-- what the element of a key was handed, and what was handed on behind its children, as a map holds it
+abbrev pub walked_at : FinMap nat_cmp Kept → ℕ → Option Walked
+walked_at held key = option_map (λ (kept : Kept). kept.walked) (get held key)
+
+-- this comes to be kept under a key: the element shows another text in a box, or it does not, by what a map holds there, and that
+-- tells what the element was handed before
 abbrev pub change_from : FinMap nat_cmp Kept → ℕ → Kept → KeptChange
-change_from held key kept = record { kept = kept; shows_other = shows_other (entry_at held key) (Some kept.entry) }
+change_from held key kept = record { kept = kept; shows_other = shows_other (entry_at held key) (Some kept.entry); was = walked_at held key }
 
 -- what these changes put under the keys of the elements
 abbrev pub puts_of : List (ℕ × KeptChange) → List (ℕ × Kept)
@@ -25,6 +31,10 @@ puts_of changes = map (λ (change : ℕ × KeptChange). (change.0, change.1.kept
 abbrev pub TellShown : FinMap nat_cmp Kept → List (ℕ × KeptChange) → Type 0
 TellShown held changes =
     AllByRecursion (λ (change : ℕ × KeptChange). change.1.shows_other ≡ shows_other (entry_at held change.0) (Some change.1.kept.entry)) changes
+
+-- each tells what its element was handed before, and what was handed on behind its children: as a map holds it, or none
+abbrev pub TellWere : FinMap nat_cmp Kept → List (ℕ × KeptChange) → Type 0
+TellWere held changes = AllByRecursion (λ (change : ℕ × KeptChange). change.1.was ≡ walked_at held change.0) changes
 
 -- the entries that a map does not hold, in their order
 abbrev pub AreChanges : FinMap nat_cmp Kept → List (ℕ × Kept) → List (ℕ × KeptChange) → Type 0

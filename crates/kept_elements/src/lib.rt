@@ -18,10 +18,11 @@
 //!
 //! What comes to a board of an element tells, too, whether a box of the element shows another text than by what the board has
 //! ([`kept_change::KeptChange`]): it is compared with that anyway. So who tells the lines that an edit changes need look at no
-//! element of which only counters are other.
+//! element of which only counters are other. And it tells what the element was handed before the change, which the board has no
+//! more once the change has come to it: so who keeps something beside a board need not read the board once more.
 //!
 //! The layer above knows this crate by `kept_of`, `document_kept` and `evaluated_document` of `specs/Evaluations.antt`, by
-//! `Renews` of `specs/Changes.antt`: what comes to a board of which all that is to be kept is known; by `IsSomeWalk` of
+//! `Renews` and `TellWere` of `specs/Changes.antt`: what comes to a board of which all that is to be kept is known; by `IsSomeWalk` of
 //! `specs/Renewals.antt`: what a walk has told of a document that an edit made of another one; and by `AreNewsOf` of
 //! `specs/News.antt`: which of that is enough.
 //!

@@ -23,6 +23,7 @@ use std::alloc::Global;
 use std::sync::ledger::Ledger;
 use steps::Steps;
 use surroundings::told::Told;
+use surroundings::walked::Walked;
 
 /// The texts of a box, where there is one.
 fn box_text<T: Targets>(
@@ -95,23 +96,39 @@ fn entry_of(held: Option<&Kept>) -> Option<&NodeEntry>
     Some(&held?.entry)
 }
 
+/// What an element was handed of which this is kept, and what was handed on behind its children.
+fn walked_in(alloc: Global, held: Option<&Kept>) -> Result<Option<Walked>, Memory>
+    ensures walked { IfOk result (λ walked. walked ≡ option_map (λ (kept : Kept). kept.walked) (option_copied held.entry)) }
+{
+    match held {
+        Some(kept) => Ok(Some(kept.walked.share(alloc)?)),
+        None => Ok(None),
+    }
+}
+
 /// What comes to be kept under this key, unless a board holds just this there; then it is let go. One step.
 pub(crate) fn unless_held<L: Ledger>(
+    alloc: Global,
     board: &Board<Kept>,
     key: usize,
     kept: Kept,
     steps: &mut Steps<L>,
-) -> Option<KeptChange>
-    ensures some { IfSome result (λ change. (change ≡ change_from board.now.held key kept) × (get board.now.held key ≡ Some kept → ⊥)) }
-    ensures none { IfNone result (get board.now.held key ≡ Some kept) }
+) -> Result<Option<KeptChange>, Memory>
+    ensures some { IfOk result (λ found. IfSome found (λ change. (change ≡ change_from board.now.held key kept) × (get board.now.held key ≡ Some kept → ⊥))) }
+    ensures none { IfOk result (λ found. IfNone found (get board.now.held key ≡ Some kept)) }
     ensures step { steps.new ≡ steps.old + 1 }
 {
     let held = board.get(key, steps);
     if is_kept(held, &kept) {
-        return None;
+        return Ok(None);
     }
     let shows_other = shows_other(entry_of(held), Some(&kept.entry));
-    Some(KeptChange { kept, shows_other })
+    let was = walked_in(alloc, held)?;
+    Ok(Some(KeptChange {
+        kept,
+        shows_other,
+        was,
+    }))
 }
 
 pub(crate) fn push(
@@ -147,8 +164,8 @@ pub fn put_entries<T: Targets, L: Ledger>(
     Ok(())
 }
 
-/// What is kept of the elements and is not on a board, and which of them show other texts by it: what is there already is let
-/// go at once. It is a step for each element.
+/// What is kept of the elements and is not on a board, which of them show other texts by it, and what they were handed before:
+/// what is there already is let go at once. It is a step for each element.
 pub fn changed_entries<T: Targets, L: Ledger>(
     alloc: Global,
     table: &Table,
@@ -163,7 +180,7 @@ pub fn changed_entries<T: Targets, L: Ledger>(
     let mut changes = Vec::new(alloc);
     for (key, told) in records {
         let kept = kept_of(alloc, table, told, targets)?;
-        if let Some(change) = unless_held(board, *key, kept, steps) {
+        if let Some(change) = unless_held(alloc, board, *key, kept, steps)? {
             push(&mut changes, *key, change)?;
         }
     }

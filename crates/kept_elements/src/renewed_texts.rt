@@ -9,7 +9,7 @@ ghost use Rattle.node_arena.specs.Nodes.{name_of};
 ghost use Rattle.edit_work.specs.KeyedSources.{is_among};
 ghost use Rattle.generated_texts.specs.References.{kept_at, known_targets};
 ghost use Rattle.referring_elements.specs.Indexes.{IsIndexOf};
-ghost use Rattle.kept_elements.specs.Changes.{AreChanges, Renews};
+ghost use Rattle.kept_elements.specs.Changes.{AreChanges, Renews, TellWere};
 ghost use Rattle.kept_elements.specs.Evaluations.{all_kept_of};
 ghost use Rattle.referring_elements.specs.References.{said_of};
 ghost use Rattle.kept_elements.specs.Known.{IsKeptIn, all_flat_texts_of};
@@ -73,7 +73,7 @@ fn changes_of<T: Targets, L: Ledger>(
     for key in keys {
         if let Some(told) = records.get(key) {
             let kept = kept_of(alloc, table, told, targets)?;
-            if let Some(change) = unless_held(board, *key, kept, steps) {
+            if let Some(change) = unless_held(alloc, board, *key, kept, steps)? {
                 push(&mut changes, *key, change)?;
             }
         }
@@ -239,6 +239,7 @@ pub fn renewed_entries<L: Ledger>(
     requires indexed { IsIndexOf index.now arena.now.tree }
     requires edit { IsSomeEdit table.now arena.now.tree told board.now.held found.now.first found.now.second }
     ensures renewal { IfOk result (λ changes. (edit : IsSomeEdit table.now arena.now.tree told board.now.held found.now.first found.now.second) → Renews board.now.held (all_kept_of table.now (known_targets table.now arena.now.tree (said_of edit.is)) edit.is) changes.items) }
+    ensures were { IfOk result (λ changes. TellWere board.now.held changes.items) }
     ensures steps { steps.new ≤ steps.old + 2 * element_count (without_keys arena.now.tree) }
     ensures fewer { (edit : IsSomeEdit table.now arena.now.tree told board.now.held found.now.first found.now.second) → steps.new ≤ steps.old + renewal_weight (evaluated_as edit.old edit.was) (evaluated_as arena.now.tree edit.is) edit.merge told }
     ensures few { IfOk result (λ changes. (edit : IsSomeEdit table.now arena.now.tree told board.now.held found.now.first found.now.second) → length changes.items ≤ renewal_weight (evaluated_as edit.old edit.was) (evaluated_as arena.now.tree edit.is) edit.merge told) }
@@ -284,6 +285,7 @@ pub fn walked_entries<L: Ledger>(
     requires indexed { IsIndexOf index.now arena.now.tree }
     requires walk { IsSomeWalk table.now index.now former.now stops.now arena.now.tree told board.now.held }
     ensures renewal { IfOk result (λ changes. (walk : IsSomeWalk table.now index.now former.now stops.now arena.now.tree told board.now.held) → Renews board.now.held (all_kept_of table.now (known_targets table.now arena.now.tree (said_of walk.is)) walk.is) changes.items) }
+    ensures were { IfOk result (λ changes. TellWere board.now.held changes.items) }
     ensures steps { steps.new ≤ steps.old + 2 * element_count (without_keys arena.now.tree) }
     ensures fewer { (walk : IsSomeWalk table.now index.now former.now stops.now arena.now.tree told board.now.held) → steps.new ≤ steps.old + renewal_weight (evaluated_as walk.old walk.was) (evaluated_as arena.now.tree walk.is) walk.merge told }
     ensures few { IfOk result (λ changes. (walk : IsSomeWalk table.now index.now former.now stops.now arena.now.tree told board.now.held) → length changes.items ≤ renewal_weight (evaluated_as walk.old walk.was) (evaluated_as arena.now.tree walk.is) walk.merge told) }

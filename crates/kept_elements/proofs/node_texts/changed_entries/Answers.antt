@@ -1,4 +1,5 @@
 use Rattle.std.proofs.Common.{◌≡◌, ◌+◌, ◌++◌, ◌∷◌, [], ◌∙◌, ℕ, List, Some, ap, sym, subst, arith, take}
+use Rattle.std.specs.FinMap.{get}
 use Rattle.kept_elements.specs.declared.kept_change.KeptChange.{KeptChange}
 use Rattle.kept_elements.specs.Changes.{AreChanges, change_from}
 use Rattle.kept_elements.specs.Evaluations.{all_kept_of, kept_of}
@@ -18,16 +19,18 @@ loop-key-preserved g c =
     let all = all_kept_of c.args.table.now known (take (place + 1) records) in
     let same = c.in_ok-kept.ensures.kept in
     record {
-      changes = elim c.match-unless_held.branch [
+      changes = elim c.match-branch-3.branch [
         | in-Some+in_ok-push w ↦
-            let pushed : c.match-unless_held.changes.items ≡ before ++ (entry.0, change_from held entry.0 (make entry.1)) ∷ [] =
-            ap (λ v. v.items) w.changes-is ∙ w.in_ok-push.ensures.ok ∙ ap (λ (change : KeptChange). before ++ (entry.0, change) ∷ []) (w.in-Some.ensures.some.0 ∙ ap (change_from held entry.0) same) in
+            let found : (w.in-Some.change ≡ change_from held entry.0 c.in_ok-kept.kept) × (get held entry.0 ≡ Some c.in_ok-kept.kept → ⊥) = rw w.in-Some.is at c.in_ok-change.ensures.some in
+            let pushed : c.match-branch-3.changes.items ≡ before ++ (entry.0, change_from held entry.0 (make entry.1)) ∷ [] =
+            ap (λ v. v.items) w.changes-is ∙ w.in_ok-push.ensures.ok ∙ ap (λ (change : KeptChange). before ++ (entry.0, change) ∷ []) (found.0 ∙ ap (change_from held entry.0) same) in
             subst (λ (changes : List (ℕ × KeptChange)). AreChanges held all changes) (sym pushed)
-            (change_more make records place entry c.loop-key-test.true c.loop-key-item.is held before c.loop-key.invariant.changes (λ there. w.in-Some.ensures.some.1 (there ∙ ap Some (sym same))))
+            (change_more make records place entry c.loop-key-test.true c.loop-key-item.is held before c.loop-key.invariant.changes (λ there. found.1 (there ∙ ap Some (sym same))))
         | in_default w ↦
-            let kept : c.match-unless_held.changes.items ≡ before = ap (λ v. v.items) w.changes-is in
+            let there : get held entry.0 ≡ Some c.in_ok-kept.kept = rw w.in_default.is at c.in_ok-change.ensures.none in
+            let kept : c.match-branch-3.changes.items ≡ before = ap (λ v. v.items) w.changes-is in
             subst (λ (changes : List (ℕ × KeptChange)). AreChanges held all changes) (sym kept)
-            (none_more make records place entry c.loop-key-test.true c.loop-key-item.is held before c.loop-key.invariant.changes (w.in_default.ensures.none ∙ ap Some same))
+            (none_more make records place entry c.loop-key-test.true c.loop-key-item.is held before c.loop-key.invariant.changes (there ∙ ap Some same))
       ];
       steps = omega arith;
     }

@@ -1,4 +1,5 @@
-use Rattle.std.proofs.Common.{◌≡◌, ◌+◌, ◌++◌, ◌∷◌, [], ◌∙◌, ℕ, List, Option, ap, sym, subst, arith, get_or, nat_eq, option_copied, take}
+use Rattle.std.proofs.Common.{◌≡◌, ◌+◌, ◌++◌, ◌∷◌, [], ◌∙◌, ℕ, List, Option, Some, ap, sym, subst, arith, get_or, nat_eq, option_copied, take}
+use Rattle.std.specs.FinMap as map
 use Rattle.std.specs.HashMap.{get}
 use Rattle.std.specs.Option.{option_map_or}
 use Rattle.surroundings.specs.declared.told.Told.{Told}
@@ -9,7 +10,7 @@ use Rattle.kept_elements.specs.Evaluations.{kept_of}
 use Rattle.kept_elements.specs.Machinery.Renewals.{renewed_kept}
 use Rattle.kept_elements.proofs.RenewedLoops.{held_told, new_told, none_told}
 use Rattle.kept_elements.proofs.renewed_texts.changes_of.Goals as goal
-use Rattle.kept_elements.proofs.renewed_texts.changes_of.Goals.{in-Some+in_ok-kept+in-Some-unless_held+in_ok-push, in-Some+in_ok-kept+in_default-unless_held, in_default}
+use Rattle.kept_elements.proofs.renewed_texts.changes_of.Goals.{in-Some+in_ok-kept+in_ok-change+in-Some-2+in_ok-push, in-Some+in_ok-kept+in_ok-change+in_default-2, in_default}
 
 pub loop-key-preserved : goal.loop-key-preserved
 loop-key-preserved g c =
@@ -24,25 +25,26 @@ loop-key-preserved g c =
     let all = renewed_kept c.args.table.now known told (take (place + 1) keys) in
     let f : ℕ → List (ℕ × Kept) = λ key. option_map_or (λ (one : Told). (key, kept_of c.args.table.now known one) ∷ []) (told key) [] in
     elim c.match-get.branch [
-      | in-Some+in_ok-kept+in-Some-unless_held+in_ok-push w ↦
+      | in-Some+in_ok-kept+in_ok-change+in-Some-2+in_ok-push w ↦
+          let found : (w.in-Some-2.change ≡ change_from held key w.in_ok-kept.kept) × (map.get held key ≡ Some w.in_ok-kept.kept → ⊥) = rw w.in-Some-2.is at w.in_ok-change.ensures.some in
           let its : f key ≡ (key, w.in_ok-kept.kept) ∷ [] =
           ap made (ap option_copied (sym c.get.ensures.value ∙ ap option_copied w.in-Some.is))
           ∙ ap (λ (kept : Kept). (key, kept) ∷ []) (sym w.in_ok-kept.ensures.kept) in
           let pushed : c.match-get.changes.items ≡ before ++ (key, change_from held key w.in_ok-kept.kept) ∷ [] =
-          ap (λ v. v.items) w.changes-is ∙ w.in_ok-push.ensures.ok ∙ ap (λ (change : KeptChange). before ++ (key, change) ∷ []) w.in-Some-unless_held.ensures.some.0 in
+          ap (λ v. v.items) w.changes-is ∙ w.in_ok-push.ensures.ok ∙ ap (λ (change : KeptChange). before ++ (key, change) ∷ []) found.0 in
           record {
             changes = subst (λ (changes : List (ℕ × KeptChange)). AreChanges held all changes) (sym pushed)
-                (new_told f keys place c.loop-key-test.true held before c.loop-key.invariant.changes w.in_ok-kept.kept its
-                w.in-Some-unless_held.ensures.some.1);
+                (new_told f keys place c.loop-key-test.true held before c.loop-key.invariant.changes w.in_ok-kept.kept its found.1);
             steps = omega (arith, c.loop-key.invariant.steps, w.unless_held.ensures.step, w.steps-is);
           }
-      | in-Some+in_ok-kept+in_default-unless_held w ↦
+      | in-Some+in_ok-kept+in_ok-change+in_default-2 w ↦
+          let there : map.get held key ≡ Some w.in_ok-kept.kept = rw w.in_default-2.is at w.in_ok-change.ensures.none in
           let its : f key ≡ (key, w.in_ok-kept.kept) ∷ [] =
           ap made (ap option_copied (sym c.get.ensures.value ∙ ap option_copied w.in-Some.is))
           ∙ ap (λ (kept : Kept). (key, kept) ∷ []) (sym w.in_ok-kept.ensures.kept) in
           record {
             changes = subst (λ (changes : List (ℕ × KeptChange)). AreChanges held all changes) (sym (ap (λ v. v.items) w.changes-is))
-                (held_told f keys place c.loop-key-test.true held before c.loop-key.invariant.changes w.in_ok-kept.kept its w.in_default-unless_held.ensures.none);
+                (held_told f keys place c.loop-key-test.true held before c.loop-key.invariant.changes w.in_ok-kept.kept its there);
             steps = omega (arith, c.loop-key.invariant.steps, w.unless_held.ensures.step, w.steps-is);
           }
       | in_default w ↦

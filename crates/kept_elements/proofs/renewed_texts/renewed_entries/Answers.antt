@@ -22,6 +22,7 @@ use Rattle.kept_elements.specs.Machinery.Renewals.{AreRead, IsRenewal, IsWithinL
 use Rattle.kept_elements.proofs.AgainLemmas.{or_right, read_there}
 use Rattle.kept_elements.proofs.KeyWeights.{either_true}
 use Rattle.kept_elements.proofs.NamedKeys.{few_named}
+use Rattle.kept_elements.proofs.RenewalLemmas.{tell_were}
 use Rattle.kept_elements.proofs.RenewedLemmas.{are_elements, named_first, named_second, renewed}
 use Rattle.kept_elements.proofs.StepLemmas.{few_steps, first_is_few, target_elements, targets_are, told_are, told_elements}
 use Rattle.kept_elements.proofs.renewed_texts.renewed_entries.Goals as goal
@@ -286,3 +287,7 @@ returns-clause-few g c =
     c.as_slice.result.now (c.as_slice.ensures.items ∙ all) (length changes.items) lists in
     omega (arith, few, come))
     c.entries_again.ensures.few
+
+pub returns-clause-were : goal.returns-clause-were
+returns-clause-were g c =
+    IfOk-weaker c.entries_again.result _ _ (λ changes renewal. tell_were c.args.board.now.held _ changes.items renewal.changes_are) c.entries_again.ensures.renewal
