@@ -1,39 +1,42 @@
 -- What the first walk of an edit makes of what is kept for it.
 use Rattle.std.proofs.Common.{◌≡◌, ◌++◌, ◌∷◌, ◌≤◌, ◌+◌, ◌∙◌, ◌&&◌, ◌⊎◌, ℕ, true, not, List, [], Option, None, refl, sym, ap, subst, arith}
-use Rattle.std.specs.Prelude.{IsSome, filter, is_some, option_map}
+use Rattle.std.specs.Prelude.{All, IsSome, filter, is_some}
 use Rattle.std.specs.FinMap.{get}
+use Rattle.std.specs.Option.{option_or}
+use Rattle.std.proofs.lemmas.Bool.{and_parts}
+use Rattle.std.proofs.lemmas.List.Elements.{All-weaker, filter_passes}
+use Rattle.forest.specs.Forest.{Forest}
+use Rattle.forest.specs.Keys.{Keyed}
+use Rattle.plain_types.specs.declared.node.Node.{Node}
 use Rattle.plain_types.specs.declared.style.ElementStyle.{ElementStyle}
 use Rattle.plain_types.specs.declared.style.Style.{Style}
 use Rattle.node_arena.specs.Nodes.{name_of}
 use Rattle.box_eval.specs.Evaluation.{StyledNode}
-use Rattle.box_eval.specs.Starts.{document_starts, no_starts}
+use Rattle.box_eval.specs.Starts.{document_starts, has_starts, no_starts}
 use Rattle.generated_texts.specs.Documents.{document_style}
 use Rattle.merged_walk.specs.declared.stop.Stop.{Stop}
 use Rattle.merged_walk.specs.Counts.{budget}
-use Rattle.merged_walk.specs.Entries.{first_at}
 use Rattle.merged_walk.specs.Merges.{Merge}
 use Rattle.merged_walk.specs.Stops.{stops_of}
 use Rattle.surroundings.specs.declared.told.Told.{Told}
+use Rattle.surroundings.specs.declared.walked.Walked.{Walked}
 use Rattle.surroundings.specs.StyledEvaluators.{root_surroundings, styled_evaluator}
 use Rattle.document_walk.specs.Catching.{Reading}
 use Rattle.edit_merge.specs.EditMerges.{is_element}
 use Rattle.edit_work.specs.KeyedSources.{KeyedSource, author, is_among, table}
 use Rattle.reference_reach.specs.ToldLaws.{told_with}
 use Rattle.kept_elements.specs.Changes.{AreBelow}
-use Rattle.snapshot_board.specs.Records.{put_all, take_all}
 use Rattle.start_reach.specs.Laws.{AreTurned}
 use Rattle.start_reach.specs.SecondMerges.{first_merge}
 use Rattle.turned_stops.specs.Coming.{coming_at_stops}
-use Rattle.zero_walks.specs.Told.{walked_of}
-use Rattle.zero_walks.proofs.LawLemmas.{what_is_told_is_kept}
 use Rattle.counter_index.specs.declared.deeds.CounterDeeds.{CounterDeeds}
 use Rattle.counter_index.specs.declared.index.CounterIndex.{CounterIndex}
 use Rattle.counter_index.specs.Documents.{KeepsDeeds}
 use Rattle.counter_index.specs.Exchanges.{after_exchange}
-use Rattle.counter_index.specs.Indexes.{deeds_at}
+use Rattle.counter_index.specs.Indexes.{asked_at, deeds_at}
 use Rattle.counter_index.specs.Retold.{other_keys, told_entries}
 use Rattle.counter_index.specs.Told.{TellsWithoutStarts, told_exchange}
-use Rattle.counter_index.proofs.ToldLemmas.{caught_is_put_over, exchanges_keep_deeds}
+use Rattle.counter_index.proofs.ToldLemmas.{exchanges_keep_deeds}
 use Rattle.touched_starts.specs.Laws.{IsBrought, IsIndexOf, WereExchanged, turned_keys}
 use Rattle.touched_starts.proofs.LawLemmas.{starts_are_brought}
 use Rattle.touched_starts.proofs.MovedLemmas.{gone_are_moved}
@@ -42,11 +45,11 @@ use Rattle.started_walk.specs.declared.bring.WayBack.{WayBack}
 use Rattle.started_walk.specs.declared.counting.Counting.{Counting}
 use Rattle.started_walk.specs.Countings.{HasSomeDeeds, KeepsWalked}
 use Rattle.started_walk.specs.Exchanges.{IsBroughtTo, TakesBack, asks_and_stays}
-use Rattle.started_walk.specs.Twice.{CountsBefore, IsSomeEdit, IsWithinFirst}
+use Rattle.started_walk.specs.Twice.{CanWalkTwice, IsSomeEdit, IsWithinFirst}
 use Rattle.started_walk.specs.Walks.{Finds, IsWithinTurned, StandsTurned}
 use Rattle.started_walk.proofs.EditLemmas.{its-stops, tree-is, walk-zeros, zeros-plain}
 
-module _ (from : Reading) (counting : Counting) (takes : List ℕ) (stops : List Stop) (stands : CountsBefore from counting takes stops) where
+module _ (from : Reading) (counting : Counting) (kept : ℕ → Option Walked) (takes : List ℕ) (stops : List Stop) (stands : CanWalkTwice from counting kept takes stops) where
   abbrev place : IsSomeEdit from takes stops
   place = stands.place
 
@@ -71,11 +74,6 @@ module _ (from : Reading) (counting : Counting) (takes : List ℕ) (stops : List
       among = finds.among;
       taken = place.taken;
     }
-
-    pub zeros-after : KeepsWalked after no_starts (get (put_all (walked_of told) (take_all takes counting.zeros.held)))
-    zeros-after key =
-        what_is_told_is_kept counting.zeros.held (first_at (told_with before no_starts)) told takes stands.counts.zeros key
-        ∙ ap (option_map (λ (told : Told). told.walked)) (caught_is_put_over (table before) (table after) (style_in before) (style_in after) before.tree after.tree takes told tells key)
 
     -- what is exchanged so
     module _ (entries : List (ℕ × Option CounterDeeds)) (same : entries ≡ told_exchange takes told) where
@@ -126,16 +124,31 @@ module _ (from : Reading) (counting : Counting) (takes : List ℕ) (stops : List
             subst (AreTurned place.edit before after) (sym (is ∙ ap (turned_keys now back.starts.items) coming-is))
             (turned_are_told place.edit before after place.leads place.local counting.index now stands.counts.index index-is back.starts.items exchanged-are)
 
-  abbrev pub walk : StandsTurned from (get counting.zeros.held) stops
-  walk = walk-zeros from takes stops place (get counting.zeros.held) stands.counts.zeros
+  -- the walk compares with this
+  abbrev pub over : ℕ → Option Walked
+  over key = option_or (get counting.zeros.held key) (kept key)
+
+  pub keeps-over : KeepsWalked before no_starts over
+  keeps-over key = ap (option_or (get counting.zeros.held key)) (stands.keeps key) ∙ stands.counts.zeros key
+
+  abbrev pub walk : StandsTurned from over stops
+  walk = walk-zeros from takes stops place over keeps-over
 
 -- The steps of the first walk.
-pub first-within : (from : Reading) (counting : Counting) (takes : List ℕ) (stops : List Stop) (were now : ℕ)
-    → IsWithinTurned from (get counting.zeros.held) stops were now → IsWithinFirst from counting takes stops were now
-first-within from counting takes stops were now few stands =
+pub first-within : (from : Reading) (counting : Counting) (kept : ℕ → Option Walked) (takes : List ℕ) (stops : List Stop) (were now : ℕ)
+    → IsWithinTurned from (λ key. option_or (get counting.zeros.held key) (kept key)) stops were now → IsWithinFirst from counting kept takes stops were now
+first-within from counting kept takes stops were now few stands =
     let place = stands.place in
     subst (λ (merge : Merge StyledNode). now ≤ were + budget (styled_evaluator (table place.after)) root_surroundings root_surroundings merge) (zeros-plain from takes stops place)
-    (few (walk-zeros from takes stops place (get counting.zeros.held) stands.counts.zeros))
+    (few (walk from counting kept takes stops stands))
+
+-- The elements that are turned ask.
+pub turned-ask : (tree : Forest (Keyed Node)) (index : CounterIndex) (stops : List Stop) (keys : List ℕ)
+    → All (λ key. has_starts (asked_at index key) ≡ true) (filter (asks_and_stays tree index stops) keys)
+turned-ask tree index stops keys =
+    All-weaker (λ key. asks_and_stays tree index stops key ≡ true) (λ key. has_starts (asked_at index key) ≡ true)
+    (λ key test. (and_parts (has_starts (asked_at index key)) (not (is_among (coming_at_stops tree stops) key)) test).0)
+    (filter (asks_and_stays tree index stops) keys) (filter_passes (asks_and_stays tree index stops) keys)
 
 -- Rooms: keys that are below one are below one that is no smaller.
 pub below-more : {V : Type 0} (room more : ℕ) (entries : List (ℕ × V)) → AreBelow room entries → room ≤ more → AreBelow more entries

@@ -1,7 +1,8 @@
 -- What is kept of a document for the walks of its edits, when it is evaluated as a whole.
 use Rattle.std.proofs.Common.{◌≡◌, ◌∙◌, ◌⊎◌, ℕ, Bool, true, false, cond, List, [], Option, Some, None, refl, sym, ap, inl, inr, arith}
-use Rattle.std.specs.Prelude.{Contains, option_map}
+use Rattle.std.specs.Prelude.{Contains, is_some, option_map}
 use Rattle.std.specs.FinMap.{empty, get, get-empty}
+use Rattle.std.specs.Option.{option_or}
 use Rattle.std.specs.Ordering.{nat_cmp}
 use Rattle.std.proofs.lemmas.List.Elements.{All-contains_itself, All-weaker}
 use Rattle.forest.specs.Forest.{Empty}
@@ -12,9 +13,10 @@ use Rattle.box_eval.specs.Starts.{no_starts}
 use Rattle.generated_texts.specs.Documents.{document_style}
 use Rattle.merged_walk.specs.Entries.{first_at}
 use Rattle.surroundings.specs.declared.told.Told.{Told}
+use Rattle.surroundings.specs.declared.walked.Walked.{Walked}
 use Rattle.edit_work.specs.KeyedSources.{KeyedSource, author, is_among, own_starts, table}
 use Rattle.reference_reach.specs.ToldLaws.{told_with}
-use Rattle.snapshot_board.specs.Records.{put_all, take_all}
+use Rattle.snapshot_board.specs.Records.{put_all}
 use Rattle.zero_walks.specs.Told.{walked_of}
 use Rattle.zero_walks.proofs.LawLemmas.{what_is_told_is_kept}
 use Rattle.counter_index.specs.declared.deeds.CounterDeeds.{CounterDeeds}
@@ -27,8 +29,9 @@ use Rattle.counter_index.proofs.PutLemmas.{told_are_exchanged}
 use Rattle.counter_index.proofs.ToldLemmas.{caught_is_put_over, new_indexes_keep_deeds}
 use Rattle.touched_starts.specs.Laws.{IsIndexOf}
 use Rattle.started_walk.specs.declared.bring.WayBack.{WayBack}
-use Rattle.started_walk.specs.Countings.{HasSomeDeeds, KeepsWalked}
+use Rattle.started_walk.specs.Countings.{HasSomeDeeds, KeepsZeros, walked_with}
 use Rattle.started_walk.specs.Exchanges.{IsBroughtTo, TakesBack}
+use Rattle.started_walk.proofs.ToldKeys.{walked-named}
 
 module _ (source : KeyedSource) (distinct : HasDistinctKeys source.tree) where
   abbrev style : ℕ → Option Style → ElementStyle
@@ -47,10 +50,22 @@ module _ (source : KeyedSource) (distinct : HasDistinctKeys source.tree) where
     taken = λ key. refl;
   }
 
-  pub zeros-begun : KeepsWalked source no_starts (get (put_all (walked_of all) (take_all [] empty)))
-  zeros-begun key =
+  -- all that is told where all starts are 0 is kept
+  all-begun : (key : ℕ) → get (put_all (walked_of all) empty) key ≡ walked_with source no_starts key
+  all-begun key =
       what_is_told_is_kept empty (first_at []) all [] (λ key. get-empty nat_cmp key) key
       ∙ ap (option_map (λ (told : Told). told.walked)) (caught_is_put_over (table source) (table source) style style Empty source.tree [] all tells key)
+
+  none-over : (zero own : Option Walked) → is_some own ≡ is_some zero → option_or zero own ≡ zero
+  none-over None None same = refl
+  none-over None (Some own) same = absurd (cc)
+  none-over (Some zero) own same = refl
+
+  pub zeros-begun : KeepsZeros source (put_all (walked_of all) empty)
+  zeros-begun key =
+      ap (λ zero. option_or zero (walked_with source (own_starts source) key)) (all-begun key)
+      ∙ none-over (walked_with source no_starts key) (walked_with source (own_starts source) key)
+      (walked-named source distinct (own_starts source) key ∙ sym (walked-named source distinct no_starts key))
 
   module _ (was : CounterIndex) (none : (key : ℕ) → deeds_at was key ≡ None) (entries : List (ℕ × Option CounterDeeds)) (same : entries ≡ told_exchange [] all) where
     deeds-begun : (now : CounterIndex) → ((key : ℕ) → deeds_at now key ≡ after_exchange entries (deeds_at was) key) → KeepsDeeds (table source) style source.tree now

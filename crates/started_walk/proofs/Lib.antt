@@ -1,9 +1,11 @@
-pub mod AskingLemmas
 pub mod BringLemmas
 pub mod CountedLemmas
 pub mod CountingLemmas
 pub mod EditLemmas
+pub mod SavedLemmas
+pub mod SettledLemmas
 pub mod ToldKeys
 pub mod TurnedLemmas
 pub mod TwiceLemmas
+pub mod UnaskedLemmas
 pub mod WalkLemmas

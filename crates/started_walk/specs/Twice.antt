@@ -1,4 +1,4 @@
--- Both walks of an edit of a document that asks for starts: where they may begin, and what they find (our own, over CSS Lists 3, 4.4).
+-- Both walks of an edit: where they may begin, and what they find (our own, over CSS Lists 3, 4.4).
 use Rattle.std.specs.Prelude.{◌≡◌, ◌≢◌, ◌≤◌, ◌+◌, ◌&&◌, ◌⊎◌, ℕ, List, Option, is_some, length, not}
 use Rattle.plain_types.specs.declared.edit.Edit.{Edit}
 use Rattle.node_arena.specs.Nodes.{name_of}
@@ -39,28 +39,23 @@ pub record IsSomeEdit (from : Reading) (takes : List ℕ) (stops : List Stop) : 
   pub stops_are : stops ≡ edit_stops edit before after
   pub taken : (key : ℕ) → is_among takes key ≡ (is_some (name_of before.tree key) && not (is_some (name_of after.tree key)))
 
--- such an edit, and what is kept for both walks of the document before it
-pub record CountsBefore (from : Reading) (counting : Counting) (takes : List ℕ) (stops : List Stop) : Type 0 where
-  pub place : IsSomeEdit from takes stops
-  pub counts : Counts place.before counting
-
--- between one number of steps and another are no more than the first walk may take
-abbrev pub IsWithinFirst : Reading → Counting → (takes : List ℕ) → List Stop → (before now : ℕ) → Type 0
-IsWithinFirst from counting takes stops before now =
-    (stands : CountsBefore from counting takes stops) →
-    now ≤ before + budget (styled_evaluator (table stands.place.after)) root_surroundings root_surroundings (plain_merge stands.place.edit stands.place.before stands.place.after)
-
--- the same, and of each element of the document before the edit is kept what it is handed with this document's own starts, and what
--- is handed on behind its children
+-- such an edit; what is kept for both walks of the document before it; and of each element of that document is kept what it is handed
+-- with its own starts, and what is handed on behind its children
 pub record CanWalkTwice (from : Reading) (counting : Counting) (kept : ℕ → Option Walked) (takes : List ℕ) (stops : List Stop) : Type 0 where
   pub place : IsSomeEdit from takes stops
   pub counts : Counts place.before counting
   pub keeps : KeepsWalked place.before (own_starts place.before) kept
 
+-- between one number of steps and another are no more than the first walk may take
+abbrev pub IsWithinFirst : Reading → Counting → (ℕ → Option Walked) → (takes : List ℕ) → List Stop → (before now : ℕ) → Type 0
+IsWithinFirst from counting kept takes stops before now =
+    (stands : CanWalkTwice from counting kept takes stops)
+    → now ≤ before + budget (styled_evaluator (table stands.place.after)) root_surroundings root_surroundings (plain_merge stands.place.edit stands.place.before stands.place.after)
+
 -- Both walks.
 
--- Elements are turned, and these are the stops with the ways to them; this was told by the second walk, and between one number of
--- steps and another are no more than both may take, with one for each element of which it tells.
+-- Elements are turned, and these are the stops with the ways to them; this was told with the document's own starts, and between one
+-- number of steps and another are no more than both walks may take, with one for each element of which it was told.
 pub record IsWalkedTwice (edit : Edit) (before after : KeyedSource) (stops ways : List Stop) (told : List (ℕ × Told)) (were now : ℕ) : Type 0 where
   pub keys : List ℕ
   pub turned : AreTurned edit before after keys

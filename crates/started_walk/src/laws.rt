@@ -1,9 +1,9 @@
 //! Laws of what is kept for both walks. The functions do nothing: each contract is a law.
 
-ghost use Rattle.started_walk.specs.Laws.{IndexesTellWhoAsks};
+ghost use Rattle.started_walk.specs.Laws.{UnaskedAreOwn};
 
-/// The index of a document tells whether a box of it asks for the start of a reversed counter. Where none does, nothing is to be
-/// kept for the two walks.
-pub fn indexes_tell_who_asks()
-    ensures asks { IndexesTellWhoAsks }
+/// Where no box of a document asks for the start of a reversed counter, a walk with all starts 0 tells what a walk with the
+/// document's own tells: one walk is enough, and nothing is to be kept of it beside the board.
+pub fn unasked_are_own()
+    ensures same { UnaskedAreOwn }
 {}

@@ -11,12 +11,16 @@
 //! | [`zero_walks::ZeroWalks::reserve`] | takes all memory that keys below a room need |
 //! | [`zero_walks::walked_of`] | takes what is kept of elements from what a walk has told of them; this needs memory too |
 //! | [`zero_walks::ZeroWalks::bring`] | brings what is kept from before an edit to after it: some elements go, and others come or are told otherwise; without memory |
+//! | [`zero_walks::ZeroWalks::put_missing`] | keeps what is known of one element, where nothing is kept of it and there is room; without memory |
 //! | `walked`, of the trait [`document_walk::snapshot::Snapshots`] | what is kept of one element, as `document_walk::catch_up` reads it: one step |
+//! | [`zeros_over::ZerosOver`] | what is kept so over a board, as a walk reads it: of an element of which nothing is kept here, what the board keeps |
 //!
 //! So a caller takes all memory first, and what cannot fail comes last. Only reading is a step, of a [`steps::Steps`]: to
 //! put what a walk found costs no more than to find it, and the walk's steps are counted.
 //!
-//! Where nothing asks for a start a caller need keep nothing here: the board tells what it would.
+//! What is kept here need not be of each element: where nothing asks for a start, the board tells what would be kept, and so it does
+//! of an element that is handed the same with all starts 0 as with the document's own. A walk reads both by a
+//! [`zeros_over::ZerosOver`].
 //!
 //! # An example
 //!
@@ -48,7 +52,8 @@
 //!
 //! # What the layers above cite
 //!
-//! In contracts: `walked_of` (`specs/Told.antt`), and `Records`, `put_all` and `take_all` of `snapshot_board`. In proofs: the law
+//! In contracts: `walked_of` (`specs/Told.antt`), `put_missing` (`specs/Missing.antt`), and `Records`, `put_all` and `take_all` of
+//! `snapshot_board`. In proofs: the law
 //! `KeepsWhatIsTold` (`specs/Laws.antt`) by `proofs/LawLemmas.antt`, which leads from what was told before an edit to what is
 //! told after it, as `ChangesAreEnough` of `merged_walk` does for all that is told.
 #![tactic(auto)]
@@ -57,3 +62,4 @@ pub mod laws;
 #[cfg(test)]
 mod tests;
 pub mod zero_walks;
+pub mod zeros_over;

@@ -1,10 +1,11 @@
 //! What a walk with all starts 0 keeps of elements.
 
-ghost use Rattle.std.specs.Prelude.{◌≡◌, ◌<◌, ◌≤◌, ◌++◌, ℕ, IfOk, None, OnErr, OnOk, replicate};
+ghost use Rattle.std.specs.Prelude.{◌≡◌, ◌<◌, ◌≤◌, ◌++◌, ℕ, IfOk, None, OnErr, OnOk, option_copied, replicate};
 ghost use Rattle.std.specs.FinMap.{empty, get, insert, remove};
 ghost use Rattle.std.specs.List.{AllByRecursion};
 ghost use Rattle.surroundings.specs.declared.walked.Walked.{Walked};
 ghost use Rattle.snapshot_board.specs.Records.{put_all, take_all};
+ghost use Rattle.zero_walks.specs.Missing.{put_missing};
 ghost use Rattle.zero_walks.specs.Told.{walked_of};
 
 use document_walk::snapshot::Snapshots;
@@ -72,6 +73,27 @@ impl ZeroWalks {
         self.slots[key] = Some(walked);
     }
 
+    /// Keeps this of the element of a key, where something is given, nothing is kept of the element and there is room for it; in
+    /// constant time and without memory. It is no step.
+    pub fn put_missing(&mut self, key: usize, walked: Option<Walked>)
+        ensures held { self.new.held ≡ put_missing self.old.room key walked self.old.held }
+        ensures room { self.new.room ≡ self.old.room }
+    {
+        let Some(walked) = walked else {
+            return;
+        };
+        if key < self.slots.len() && self.get(key).is_none() {
+            self.put(key, walked);
+        }
+    }
+
+    /// What is kept of the element of a key, in constant time. It is no step.
+    pub fn get(&self, key: usize) -> Option<&Walked>
+        ensures kept { option_copied result ≡ get self.now.held key }
+    {
+        self.slots.get(key)?.as_ref()
+    }
+
     /// Keeps nothing of the element of a key any more, in constant time. It is no step.
     pub fn take(&mut self, key: usize)
         ensures held { self.new.held ≡ remove self.old.held key }
@@ -121,7 +143,7 @@ impl Snapshots for ZeroWalks {
 
     fn walked<L: Ledger>(&self, key: usize, steps: &mut Steps<L>) -> Option<&Walked> {
         steps.tick();
-        self.slots.get(key)?.as_ref()
+        self.get(key)
     }
 }
 

@@ -2,7 +2,7 @@ use Rattle.std.proofs.Common.{ℕ, List, subst}
 use Rattle.surroundings.specs.declared.walked.Walked.{Walked}
 use Rattle.kept_elements.specs.Changes.{AreBelow}
 use Rattle.started_walk.proofs.CountedLemmas.{below-more}
-use Rattle.started_walk.proofs.counted.zeros_of.Goals as goal
+use Rattle.started_walk.proofs.zeros.zeros_of.Goals as goal
 
 pub returns-clause-room : goal.returns-clause-room
 returns-clause-room c =
