@@ -10,19 +10,8 @@
 #   bench/book.sh [PROGRAM] [DOCUMENTS ELEMENTS EDITS]      the repository's program where none is named
 set -eu
 here=$(cd "$(dirname "$0")/.." && pwd)
-program=
-if [ $# -gt 0 ] && [[ ! $1 =~ ^[0-9]+$ ]]; then
-  program=$(realpath "$1")
-  shift
-fi
-if [ -z "$program" ]; then
-  "$here/marker" --build
-  program=$here/crates/marker/out/marker
-fi
-work=$(mktemp -d)
-trap 'rm -rf "$work"' EXIT
-cd "$work"
-PYTHONPATH=$here/bench python3 - "$program" "${@:-}" <<'PY'
+. "$here/bench/programs.sh"
+PYTHONPATH=$here/bench python3 - "${programs[0]}" "${@:-}" <<'PY'
 import sys
 from seconds import ratio, seconds
 from section_pages import SHEET

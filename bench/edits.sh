@@ -14,18 +14,7 @@ if [ "${1-}" = --plain ]; then
   sheets=(--plain)
   shift
 fi
-programs=()
-while [ $# -gt 0 ] && [[ ! $1 =~ ^[0-9]+$ ]]; do
-  programs+=("$(realpath "$1")")
-  shift
-done
-if [ ${#programs[@]} -eq 0 ]; then
-  "$here/marker" --build
-  programs=("$here/crates/marker/out/marker")
-fi
-work=$(mktemp -d)
-trap 'rm -rf "$work"' EXIT
-cd "$work"
+. "$here/bench/programs.sh"
 PYTHONPATH=$here/bench python3 - "${sheets[@]}" "${programs[@]}" "$@" <<'PY'
 import sys
 from seconds import seconds

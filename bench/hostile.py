@@ -376,25 +376,36 @@ def measured(words, bound):
     return Ended(process.returncode, read("out"), read("err")), taken, usage.ru_maxrss / 1024
 
 
+def figure(kind, size, bound):
+    """A kind of input at a size: the size in words, the processor time, and the memory."""
+    write_files(kind, size)
+    ended, taken, peak = measured(kind.words, bound)
+    fits = ended.status == kind.status and (kind.check is None or kind.check(size, ended.out))
+    tell(f"{kind.name}, {size}", ended, fits)
+    if taken < 1:
+        taken = min(taken, measured(kind.words, bound)[1])
+    longest = max(os.path.getsize(name) for name in kind.files(0)) / (1 << 20)
+    return f"{size} ({longest:.2f} MiB)", taken, peak
+
+
+def is_more_than_linear(once, twice):
+    (_, taken, peak), (_, taken_twice, peak_twice) = once, twice
+    return (ratio(taken_twice, taken) > 3.3 and taken_twice > 0.1) or peak_twice > 2.5 * peak + 8
+
+
 def grow(kind, sizes, bound):
     """A kind of input at a size and at twice that: what comes of it, and how much more time and memory it takes."""
     global wrong
-    figures = []
-    for size in sizes:
-        write_files(kind, size)
-        ended, taken, peak = measured(kind.words, bound)
-        fits = ended.status == kind.status and (kind.check is None or kind.check(size, ended.out))
-        tell(f"{kind.name}, {size}", ended, fits)
-        if taken < 1:
-            taken = min(taken, measured(kind.words, bound)[1])
-        longest = max(os.path.getsize(name) for name in kind.files(0)) / (1 << 20)
-        figures.append((f"{size} ({longest:.2f} MiB): {taken:.3f} s, {peak:.0f} MiB", taken, peak))
-    (once, taken, peak), (twice, taken_twice, peak_twice) = figures
-    times = ratio(taken_twice, taken)
-    line = f"  {kind.name}: {once}; {twice}; {times:.1f} times as long"
+    figures = [figure(kind, size, bound) for size in sizes]
+    if kind.grows == "linear" and is_more_than_linear(*figures):
+        # Other work on the machine can slow one of the runs: the least of two counts.
+        later = [figure(kind, size, bound) for size in sizes]
+        figures = [(size, min(taken, anew), peak) for (size, taken, peak), (_, anew, _) in zip(figures, later)]
+    told = "; ".join(f"{size}: {taken:.3f} s, {peak:.0f} MiB" for size, taken, peak in figures)
+    line = f"  {kind.name}: {told}; {ratio(figures[1][1], figures[0][1]):.1f} times as long"
     if kind.grows != "linear":
         line += f" ({kind.grows})"
-    elif (times > 3.3 and taken_twice > 0.1) or peak_twice > 2.5 * peak + 8:
+    elif is_more_than_linear(*figures):
         line += "  WRONG: more than linear"
         wrong += 1
     print(line, flush=True)

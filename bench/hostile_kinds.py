@@ -139,8 +139,11 @@ KINDS = [
     Kind("counters that one element sets", 50_000, of_sheet(wrapped("p{counter-set:", lambda k: f" c{k}", "}")), check=is_empty),
     Kind("resets of one counter in one value", 200_000, of_sheet(wrapped("p{counter-reset:", " c", "}")), check=is_empty),
     Kind("increments of one counter in one value", 200_000, of_sheet(wrapped("p{counter-increment:", " c", "}")), check=is_empty),
-    Kind("reversed counters of one element", 2_000, of_sheet(wrapped("p{counter-reset:", lambda k: f" reversed(c{k})", "}")),
-         grows="the square of the counters", check=is_empty),
+    Kind("reversed counters of one element", 100_000, of_sheet(wrapped("p{counter-reset:", lambda k: f" reversed(c{k})", "}")), check=is_empty),
+    # The start of each is told alone, by all that the element does.
+    Kind("reversed counters that their element increments", 2_000, of_sheet(lambda size: [
+        "p{counter-reset:", *many(lambda k: f" reversed(c{k})", size), ";counter-increment:", *many(lambda k: f" c{k}", size), "}",
+    ]), grows="the square of the counters", check=is_empty),
     Kind("counter styles that items name", 50_000, lambda size: {
         "d.xhtml": wrapped("<ol>", "<li/>", "</ol>")(size),
         "s.css": chained("li{list-style:z}", many(lambda k: f'@counter-style n{k}{{symbols:"x"}}', size), '@counter-style z{symbols:"y"}'),

@@ -5,19 +5,8 @@
 #   bench/kinds-of-edits.sh [PROGRAM] [ELEMENTS..]      the repository's program where none is named
 set -eu
 here=$(cd "$(dirname "$0")/.." && pwd)
-program=
-if [ $# -gt 0 ] && [[ ! $1 =~ ^[0-9]+$ ]]; then
-  program=$(realpath "$1")
-  shift
-fi
-if [ -z "$program" ]; then
-  "$here/marker" --build
-  program=$here/crates/marker/out/marker
-fi
-work=$(mktemp -d)
-trap 'rm -rf "$work"' EXIT
-cd "$work"
-PYTHONPATH=$here/bench python3 - "$program" "$@" <<'PY'
+. "$here/bench/programs.sh"
+PYTHONPATH=$here/bench python3 - "${programs[0]}" "$@" <<'PY'
 import sys
 from seconds import seconds
 
@@ -112,8 +101,8 @@ def counting_styles(place):
 
 
 def first_reversed(place):
-    """The one list of the document that counts down comes and goes: the first of the two edits makes the document ask for a
-    start, for which it is evaluated as a whole."""
+    """The one list of the document that counts down comes and goes: by the first of the two edits a box comes to ask for a start,
+    and by the second one none asks any more."""
     return f'insert /{place} 3 <ol reversed=""><li/></ol>', f"remove /{place}/3"
 
 

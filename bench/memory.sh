@@ -7,18 +7,7 @@
 #   bench/memory.sh [PROGRAM [OTHER]] [ELEMENTS..]      the repository's program where none is named
 set -eu
 here=$(cd "$(dirname "$0")/.." && pwd)
-programs=()
-while [ $# -gt 0 ] && [[ ! $1 =~ ^[0-9]+$ ]]; do
-  programs+=("$(realpath "$1")")
-  shift
-done
-if [ ${#programs[@]} -eq 0 ]; then
-  "$here/marker" --build
-  programs=("$here/crates/marker/out/marker")
-fi
-work=$(mktemp -d)
-trap 'rm -rf "$work"' EXIT
-cd "$work"
+. "$here/bench/programs.sh"
 PYTHONPATH=$here/bench python3 - "${programs[@]}" "$@" <<'PY'
 import sys
 from seconds import peak_mebibytes, ratio, seconds

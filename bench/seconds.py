@@ -2,6 +2,7 @@
 work on the machine changes little."""
 
 import os
+import shutil
 import subprocess
 import time
 
@@ -26,6 +27,15 @@ def peak_mebibytes(*words, statuses=(0,)):
     if process.returncode not in statuses:
         raise SystemExit(f"{' '.join(words)[:200]}: status {process.returncode}")
     return usage.ru_maxrss / 1024
+
+
+def peak_by_time(*words):
+    """The same, as GNU time tells it: of a process that holds much itself, `wait4` tells no less for those that it starts."""
+    time_program = shutil.which("time")
+    if time_program is None:
+        return "unknown memory (there is no GNU time here)"
+    told = subprocess.run([time_program, "-f", "%M", *words], capture_output=True, text=True, check=True)
+    return f"{int(told.stderr) // 1024} MiB at most"
 
 
 def one_run(words, statuses, most):

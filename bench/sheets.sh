@@ -9,10 +9,9 @@ work=$(mktemp -d)
 trap 'rm -rf "$work"' EXIT
 cd "$work"
 PYTHONPATH=$here/bench python3 - "$here/crates/benchmarks/out/benchmarks" "${1:-16777216}" <<'PY'
-import re
 import subprocess
 import sys
-from seconds import seconds, ratio
+from seconds import peak_by_time, ratio, seconds
 
 program, length = sys.argv[1], int(sys.argv[2])
 sheet = """/* house style */
@@ -50,10 +49,8 @@ for name, make in texts.items():
         with open("sheet.css", "w") as file:
             file.write(make(size))
         taken.append(seconds(program, "sheet", "sheet.css"))
-    told = subprocess.run(["/usr/bin/time", "-v", program, "sheet", "sheet.css"], capture_output=True, text=True)
-    found = re.search(r"Maximum resident set size \(kbytes\): (\d+)", told.stderr)
-    memory = f", {int(found[1]) // 1024} MiB at most" if found else ""
-    print(f"{name}, {length} bytes: {taken[1]:.3f} s{memory}; {ratio(taken[1], taken[0]):.2f} times that of half as many", flush=True)
+    memory = peak_by_time(program, "sheet", "sheet.css")
+    print(f"{name}, {length} bytes: {taken[1]:.3f} s, {memory}; {ratio(taken[1], taken[0]):.2f} times that of half as many", flush=True)
 
 with open("sheet.css", "w") as file:
     file.write("".join(f".c{i}::before{{content:counter(c{i})}}" for i in range(100000)))

@@ -9,10 +9,8 @@ work=$(mktemp -d)
 trap 'rm -rf "$work"' EXIT
 cd "$work"
 PYTHONPATH=$here/bench python3 - "$here/crates/benchmarks/out/benchmarks" "${1:-16777216}" <<'PY'
-import shutil
-import subprocess
 import sys
-from seconds import seconds, ratio
+from seconds import peak_by_time, ratio, seconds
 
 program, length = sys.argv[1], int(sys.argv[2])
 sheet = """/* house style */
@@ -21,17 +19,6 @@ body { counter-reset: sec fig; margin: 0 auto }
 h2::before { content: counter(sec, upper-roman) ". " }
 a.ref::after { content: " (Fig. " target-counter(attr(href), fig) ")" }
 """
-
-
-def most_memory(*words):
-    """The most memory that the command took, as GNU time tells it."""
-    time = shutil.which("time")
-    if time is None:
-        return "unknown memory (there is no GNU time here)"
-    told = subprocess.run([time, "-f", "%M", *words], capture_output=True, text=True, check=True)
-    return f"{int(told.stderr) // 1024} MiB"
-
-
 texts = {
     "brackets": lambda n: "(" * n,
     "one string": lambda n: '"' + "a" * (n - 2) + '"',
@@ -45,6 +32,6 @@ for name, make in texts.items():
         with open("sheet.css", "w") as file:
             file.write(make(size))
         taken.append(seconds(program, "tokens", "sheet.css"))
-    memory = f", {most_memory(program, 'tokens', 'sheet.css')} at most"
-    print(f"{name}, {length} bytes: {taken[1]:.3f} s{memory}; {ratio(taken[1], taken[0]):.2f} times that of half as many")
+    memory = peak_by_time(program, "tokens", "sheet.css")
+    print(f"{name}, {length} bytes: {taken[1]:.3f} s, {memory}; {ratio(taken[1], taken[0]):.2f} times that of half as many")
 PY

@@ -1,4 +1,3 @@
-pub mod AskLemmas
 pub mod BookLemmas
 pub mod CountedLemmas
 pub mod ExchangeLaws
@@ -19,13 +18,9 @@ pub mod ReferenceExchangeLemmas
 pub mod ReferenceLemmas
 pub mod SecondLemmas
 pub mod SettlingLemmas
-pub mod SomeWalk
 pub mod SplitLemmas
-pub mod StartLemmas
-pub mod StartedLemmas
 pub mod StyleElementLemmas
 pub mod StyleLemmas
 pub mod TakenLemmas
-pub mod UnstartedLemmas
 pub mod WalkLemmas
 pub mod WorkLemmas

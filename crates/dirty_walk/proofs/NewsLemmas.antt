@@ -42,7 +42,7 @@ use Rattle.dirty_walk.specs.Machinery.ReferenceExchanges.{ChangesReferences, IsW
 use Rattle.dirty_walk.specs.Machinery.SomeNews.{IsSomeNews}
 use Rattle.dirty_walk.proofs.ExchangeLaws.{takes_are}
 use Rattle.dirty_walk.proofs.KeptReferences.{changes_references}
-use Rattle.dirty_walk.proofs.PlaceLemmas.{its_table}
+use Rattle.dirty_walk.proofs.PlanLemmas.{its_table}
 
 -- Lists.
 

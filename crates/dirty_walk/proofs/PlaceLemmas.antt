@@ -1,9 +1,8 @@
--- A walk from the place of an edit finds what comes to a board.
-use Rattle.std.proofs.Common.{◌≡◌, ◌≢◌, ◌≤◌, ◌+◌, ℕ, true, false, List, ◌∷◌, Option, Some, None, refl, sym, ap, subst, ◌∙◌, unwrap_or}
-use Rattle.std.specs.Prelude.{Contains, option_map}
+-- Where walks from the place of an edit may begin.
+use Rattle.std.proofs.Common.{◌≡◌, ◌≢◌, ℕ, false, List, ◌∷◌, Option, Some, None, refl, sym, ap, subst, ◌∙◌, unwrap_or}
+use Rattle.std.specs.Prelude.{option_map}
 use Rattle.std.specs.FinMap.{FinMap, get}
 use Rattle.std.specs.Ordering.{nat_cmp}
-use Rattle.std.proofs.lemmas.List.Elements.{All-contains_itself, All-weaker}
 use Rattle.forest.specs.Forest.{Forest}
 use Rattle.forest.specs.Keys.{Keyed}
 use Rattle.plain_types.specs.declared.edit.Edit.{Edit}
@@ -15,37 +14,27 @@ use Rattle.plain_types.specs.declared.style.Style.{Style}
 use Rattle.mini_cascade.specs.Styles.{element_style}
 use Rattle.node_arena.specs.Edits.{edited_sheet}
 use Rattle.css_reader.specs.Sheets.{sheets}
-use Rattle.box_eval.specs.Evaluation.{StyledNode, styled}
 use Rattle.box_eval.specs.Starts.{no_starts}
-use Rattle.generated_texts.specs.Documents.{agent_sheet, counter_styles, document_style}
+use Rattle.generated_texts.specs.Documents.{agent_sheet, counter_styles}
 use Rattle.generated_texts.specs.References.{kept_at}
 use Rattle.generated_texts.specs.StyleElements.{author_sheet}
 use Rattle.merged_walk.specs.declared.stop.Stop.{Stop}
-use Rattle.merged_walk.specs.Entries.{Holds, first_at}
-use Rattle.merged_walk.specs.Evaluators.{told_all}
-use Rattle.merged_walk.specs.Laws.{Merges}
-use Rattle.merged_walk.specs.Merges.{Merge}
+use Rattle.merged_walk.specs.Entries.{first_at}
 use Rattle.surroundings.specs.declared.told.Told.{Told}
 use Rattle.surroundings.specs.declared.walked.Walked.{Walked}
-use Rattle.surroundings.specs.StyledEvaluators.{is_element, root_surroundings, styled_evaluator}
 use Rattle.document_walk.specs.Catching.{Reading}
-use Rattle.document_walk.specs.CatchingUp.{CanCatchUp, IsWithinBudget}
 use Rattle.edit_merge.specs.EditMerges.{inserted_key}
 use Rattle.edit_merge.specs.Laws.{IsDone}
-use Rattle.edit_merge.proofs.EditLaws.{edits_merge}
 use Rattle.style_reach.specs.Laws.{Edits}
 use Rattle.style_reach.specs.Reaches.{all_features, reach}
 use Rattle.style_reach.specs.TouchedSheets.{touches_sheet}
 use Rattle.style_reach.specs.declared.extent.Reach.{Reach}
 use Rattle.style_reach.specs.declared.extent.Reach.TheVariants.{All as Everywhere}
 use Rattle.style_reach.proofs.AuthorLaws.{sheet-stays, texts-stay, touches-not}
-use Rattle.styled_merge.specs.Laws.{looks_beside, style_beside}
-use Rattle.styled_merge.specs.Reached.{reached_merge}
+use Rattle.styled_merge.specs.Laws.{looks_beside}
 use Rattle.styled_merge.specs.ReachStops.{reach_stops}
-use Rattle.styled_merge.specs.StopLaws.{IsWalkable, stops_where}
-use Rattle.styled_merge.specs.StyledMerges.{styled_merge}
-use Rattle.styled_merge.proofs.LawLemmas.{documents_style_merges, starts_are_their_own}
-use Rattle.styled_merge.proofs.StopLemmas.{styled_reaches_are_walkable}
+use Rattle.styled_merge.specs.StopLaws.{stops_where}
+use Rattle.started_walk.specs.Twice.{reading_of}
 use Rattle.dirty_walk.specs.declared.document_styles.DocumentStyles.{DocumentStyles}
 use Rattle.kept_elements.specs.declared.kept.Kept.{Kept}
 use Rattle.dirty_walk.specs.declared.local_stops.LocalStops.{LocalStops}
@@ -53,15 +42,14 @@ use Rattle.dirty_walk.specs.declared.styled_arena.StyledArena.{StyledArena}
 use Rattle.dirty_walk.specs.DocumentStyles.{document_styles, read_styles}
 use Rattle.kept_elements.specs.Evaluations.{document_kept, document_told}
 use Rattle.kept_elements.specs.Renewals.{kept_in}
+use Rattle.dirty_walk.specs.Machinery.DocumentWalks.{source_of}
 use Rattle.dirty_walk.specs.Machinery.PlaceReadings.{read_of}
 use Rattle.dirty_walk.specs.PlaceStyles.{StandsBefore}
-use Rattle.dirty_walk.specs.Places.{IsLocalEdit, IsSomePlace, place_budget, place_merge, reading_of, walked_at}
-use Rattle.dirty_walk.specs.Unstarted.{is_unstarted}
-use Rattle.dirty_walk.proofs.AskLemmas.{unstarted_without_starts}
+use Rattle.dirty_walk.specs.Places.{IsLocalEdit}
+use Rattle.kept_elements.specs.Changes.{walked_at}
 use Rattle.kept_elements.proofs.KnownLemmas.{kept_mapped}
 use Rattle.dirty_walk.proofs.PlanLemmas.{its_author}
-use Rattle.kept_elements.proofs.RenewalLemmas.{at_first, once_there}
-use Rattle.kept_elements.proofs.ToldLemmas.{told_once}
+use Rattle.kept_elements.proofs.RenewalLemmas.{at_first}
 
 walked_of : (f : Told → Kept) → ((told : Told) → (f told).walked ≡ told.walked) → (o : Option Told) → option_map (λ (kept : Kept). kept.walked) (option_map f o) ≡ option_map (λ (told : Told). told.walked) o
 walked_of f same None = refl
@@ -103,63 +91,9 @@ module _ (edit : Edit) (text : List ℕ) (held : FinMap nat_cmp Kept) (old new :
       ∙ walked_of (kept_in (counter_styles (author_sheet text old)) old told_before) (λ told. refl) (kept_at told_before key)
       ∙ ap (option_map (λ (told : Told). told.walked)) (sym (at_first told_before key))
 
-  holds : Holds (first_at told_before) told_before
-  holds =
-      All-weaker (Contains told_before) (λ (one : ℕ × Told). first_at told_before one.0 ≡ Some one.1)
-      (λ one there. at_first told_before one.0 ∙ once_there told_before (told_once (author_sheet text old) old at.done.before.distinct) one there)
-      told_before (All-contains_itself told_before)
-
-  -- The merge of the walk.
-
-  abbrev whole : Merge Node
-  whole = reached_merge (looks_beside text old) edit old new
-
-  walkable : IsWalkable is_element (stops_where (looks_beside text old) edit old new) (place_merge edit text old new)
-  walkable = styled_reaches_are_walkable edit old new at.done (looks_beside text old) (style_beside text old) (style_beside text new) no_starts no_starts None
-
-  pub forests : Merges (place_merge edit text old new) (styled (style_beside text old) no_starts old) (styled (style_beside text new) no_starts new)
-  forests =
-      subst (λ (t : List ℕ). Merges (styled_merge (style_beside text old) (style_beside t new) no_starts no_starts None whole) (styled (style_beside text old) no_starts old) (styled (style_beside t new) no_starts new))
-      sheet_is
-      (documents_style_merges edit old new edits (edits_merge edit old new at.done) text no_starts no_starts (starts_are_their_own (style_beside (edited_sheet edit text) new) no_starts whole))
-
--- The walk may begin.
-module _ (text : List ℕ) (held : FinMap nat_cmp Kept) (stops : List Stop) (new : Forest (Keyed Node)) (place : IsSomePlace text held stops new) where
-  abbrev author : Sheet
-  author = author_sheet text place.old
-
-  abbrev merge : Merge StyledNode
-  merge = place_merge place.edit text place.old new
-
-  -- what is told of the document before
-  abbrev pub told_at : ℕ → Option Told
-  told_at = first_at (document_told author place.old)
-
-  -- what a walk reads under an author's sheet
-  abbrev under : Sheet → Reading
-  under a = record { table = counter_styles a; style = document_style a new; start = no_starts; tree = new }
-
-  pub can : CanCatchUp (reading_of text new) (walked_at held) stops merge told_at
-  can =
-      let stays = sheet_stays place.edit text held place.old new place.at in
-      let merges = forests place.edit text held place.old new place.at in
-      let ready = walkable place.edit text held place.old new place.at in
-      subst (λ (a : Sheet). CanCatchUp (under a) (walked_at held) stops merge told_at) (sym stays) (record {
-        new = merges.new ∙ ap (λ (a : Sheet). styled (document_style a new) no_starts new) stays;
-        holds = subst (λ (trees : Forest (Keyed StyledNode)). Holds told_at (told_all (styled_evaluator (counter_styles author)) root_surroundings trees)) (sym merges.old)
-            (subst (λ (told : List (ℕ × Told)). Holds told_at told) (sym (unstarted_without_starts (counter_styles author) (document_style author place.old) place.old place.unstarted))
-            (holds place.edit text held place.old new place.at));
-        read = walked_are place.edit text held place.old new place.at;
-        stops = place.stops_are ∙ ready.stops;
-        leaves = ready.leaves;
-        led = ready.led;
-      })
-
--- The same where a document and its styles are known, and some edit.
-
--- what a walk reads of a document and its styles
+-- what a walk with all starts 0 reads of a document and its styles
 pub reads : (document : StyledArena) → document.agent.now ≡ agent_sheet → document.styles.now ≡ document_styles document.styles.now.sheet document.arena.now.tree
-    → read_of document ≡ reading_of document.styles.now.sheet document.arena.now.tree
+    → read_of document ≡ reading_of (source_of document)
 unfolding read_styles
 reads document is_agent styles_are =
     let tree = document.arena.now.tree in
@@ -169,34 +103,6 @@ reads document is_agent styles_are =
   where
     reading_by : List CounterStyle → (ℕ → Option Style → ElementStyle) → Forest (Keyed Node) → Reading
     reading_by table style tree = record { table = table; style = style; start = no_starts; tree = tree }
-
-pub its_table : (styles : DocumentStyles) (text : List ℕ) (tree : Forest (Keyed Node)) → styles ≡ document_styles text tree → styles.table ≡ counter_styles (author_sheet text tree)
-unfolding read_styles
-its_table styles text tree are = ap (λ (s : DocumentStyles). s.table) are
-
-module _ (document : StyledArena) (is_agent : document.agent.now ≡ agent_sheet) (styles_are : document.styles.now ≡ document_styles document.styles.now.sheet document.arena.now.tree)
-    (held : FinMap nat_cmp Kept) (stops : List Stop) (place : IsSomePlace document.styles.now.sheet held stops document.arena.now.tree) where
-  abbrev text : List ℕ
-  text = document.styles.now.sheet
-
-  abbrev tree : Forest (Keyed Node)
-  tree = document.arena.now.tree
-
-  pub stands : (merge : Merge StyledNode) × ((told : ℕ → Option Told) × CanCatchUp (read_of document) (walked_at held) stops merge told)
-  stands = (
-    place_merge place.edit text place.old tree,
-    (
-      told_at text held stops tree place,
-      subst (λ (from : Reading). CanCatchUp from (walked_at held) stops (place_merge place.edit text place.old tree) (told_at text held stops tree place)) (sym (reads document is_agent styles_are))
-          (can text held stops tree place),
-    ),
-  )
-
-  -- the steps of a walk over the merge of the edit
-  pub walk_within : (before now : ℕ) → IsWithinBudget (read_of document) (walked_at held) stops before now → now ≤ before + place_budget place.edit text place.old tree
-  walk_within before now within =
-      let there : CanCatchUp (reading_of text tree) (walked_at held) stops (place_merge place.edit text place.old tree) (told_at text held stops tree place) = can text held stops tree place in
-      (subst (λ (from : Reading). IsWithinBudget from (walked_at held) stops before now) (reads document is_agent styles_are) within) _ _ there
 
 -- A book before its edit is evaluated.
 
@@ -220,9 +126,6 @@ module _ (edit : Edit) (styles : DocumentStyles) (held : FinMap nat_cmp Kept) (l
     pub its_stops : named ≡ stops_where (looks_beside styles.sheet there.old) edit there.old new
     its_stops = names there.old there.stops_are ∙ ap (λ (extent : Reach). reach_stops extent edit (inserted_key edit new) there.old) there.extent_is
 
-    abbrev pub some_place : is_unstarted (author_sheet styles.sheet there.old) there.old ≡ true → IsSomePlace styles.sheet held named new
-    some_place unstarted = record { edit = edit; old = there.old; at = there.at; stops_are = its_stops; unstarted = unstarted }
-
 -- its edit reaches as far as its document's sheets say
 pub its_reach : (edit : Edit) (agent : Sheet) (styles : DocumentStyles) (old : Forest (Keyed Node)) → agent ≡ agent_sheet → styles ≡ document_styles styles.sheet old
     → reach (all_features agent styles.author) old edit ≡ reach (looks_beside styles.sheet old) old edit
@@ -232,7 +135,7 @@ its_reach edit agent styles old is_agent styles_are =
 
 module _ (edit : Edit) (styles : DocumentStyles) (held : FinMap nat_cmp Kept) (old new : Forest (Keyed Node)) (styles_are : styles ≡ document_styles styles.sheet old) (finished : IsDone edit old new)
     (kept : (key : ℕ) → get held key ≡ kept_at (document_kept (author_sheet styles.sheet old) old) key) where
-  -- where the edit's walk may begin, before the edit is done
+  -- where the edit's walks may begin, before the edit is done
   abbrev pub stands_there : (local : LocalStops) → local.extent ≡ reach (looks_beside styles.sheet old) old edit → local.extent ≢ Everywhere
       → local.stops.items ≡ reach_stops local.extent edit 0 old → StandsBefore edit styles held local new
   stands_there local extent other stops_are = record {

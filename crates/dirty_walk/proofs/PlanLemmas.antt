@@ -21,10 +21,11 @@ use Rattle.dirty_walk.specs.declared.document_styles.DocumentStyles.{DocumentSty
 use Rattle.dirty_walk.specs.DocumentStyles.{document_styles, read_styles}
 use Rattle.snapshot_board.specs.Records.{Records}
 use Rattle.started_walk.specs.declared.counting.Counting.{Counting}
+use Rattle.started_walk.specs.Countings.{Counts}
 use Rattle.target_index.specs.declared.index.Index.{Index}
 use Rattle.target_index.specs.Holders.{is_holder, is_reference}
 use Rattle.referring_elements.specs.Indexes.{IsIndexOf, holds_id}
-use Rattle.dirty_walk.specs.Countings.{IsCounted, StaysCounted}
+use Rattle.dirty_walk.specs.Countings.{StaysCounted}
 use Rattle.dirty_walk.specs.Books.{StyledDocument, fresh_kept, HasRoomFor, IsBook, KeepsAll, UsesItsKeys}
 use Rattle.dirty_walk.proofs.ReferenceLemmas.{refers_where}
 
@@ -98,9 +99,9 @@ pub index_where : (tree other : Forest (Keyed Node)) (index new : Index) → oth
 index_where tree other index new same answers indexed id key = answers id key ∙ indexed id key ∙ ap (λ (t : Forest (Keyed Node)). holds_id t id key) (sym same)
 
 -- what is kept for both walks of its edits
-pub counted_where : (tree other : Forest (Keyed Node)) (text : List ℕ) (counting : Option Counting) → other ≡ tree → IsCounted (record { tree = tree; sheet = text }) counting
-    → IsCounted (record { tree = other; sheet = text }) counting
-counted_where tree other text counting same counted = subst (λ (t : Forest (Keyed Node)). IsCounted (record { tree = t; sheet = text }) counting) (sym same) counted
+pub counts_where : (tree other : Forest (Keyed Node)) (text : List ℕ) (counting : Counting) → other ≡ tree → Counts (record { tree = tree; sheet = text }) counting
+    → Counts (record { tree = other; sheet = text }) counting
+counts_where tree other text counting same counts = subst (λ (t : Forest (Keyed Node)). Counts (record { tree = t; sheet = text }) counting) (sym same) counts
 
 -- and its room, or more
 pub room_where : (tree other : Forest (Keyed Node)) (room more : ℕ) → other ≡ tree → room ≤ more → HasRoomFor room tree → HasRoomFor more other
@@ -110,7 +111,7 @@ room_where tree other room more same grown has key named =
 
 -- Where no edit is planned, a book may have another arena of the same document, which uses its keys alone, another board
 -- that holds the same and has as much room, another index of the same answers, and what else is kept of it for both walks.
-pub same_document : (old new : Document) (agent : Sheet) (styles : DocumentStyles) (planned : Option Reversal) (board other : Records Kept) (index changed : Index) (counting again : Option Counting)
+pub same_document : (old new : Document) (agent : Sheet) (styles : DocumentStyles) (planned : Option Reversal) (board other : Records Kept) (index changed : Index) (counting again : Counting)
     → is_none planned ≡ true → new.tree ≡ old.tree → (IsSettled old → IsSettled new)
     → other.held ≡ board.held → board.room ≤ other.room → ((id : List ℕ) (key : ℕ) → is_holder changed id key ≡ is_holder index id key)
     → ((id : List ℕ) (key : ℕ) → is_reference changed id key ≡ is_reference index id key)
@@ -125,7 +126,7 @@ same_document old new agent styles None board other index changed counting again
   room = room_where old.tree new.tree board.room other.room same grown book.room;
   indexed = index_where old.tree new.tree index changed same answers book.indexed;
   refers = refers_where old.tree new.tree styles.sheet index changed same references book.refers;
-  counted = counted_where old.tree new.tree styles.sheet again same (stays (record { tree = old.tree; sheet = styles.sheet }) book.counted);
+  counts = counts_where old.tree new.tree styles.sheet again same (stays (record { tree = old.tree; sheet = styles.sheet }) book.counts);
   back = tt;
   keys = still book.keys;
 }

@@ -10,6 +10,7 @@ use Rattle.plain_types.specs.declared.sheet.Sheet.{Sheet}
 use Rattle.generated_texts.specs.StyleElements.{author_sheet}
 use Rattle.edit_work.specs.KeyedSources.{KeyedSource}
 use Rattle.started_walk.specs.declared.counting.Counting.{Counting}
+use Rattle.started_walk.specs.Countings.{Counts}
 use Rattle.node_arena.specs.declared.reversal.Reversal.{Reversal}
 use Rattle.node_arena.specs.Document.{Document}
 use Rattle.node_arena.specs.Nodes.{name_of}
@@ -23,7 +24,6 @@ use Rattle.target_index.specs.declared.index.Index.{Index}
 use Rattle.dirty_walk.specs.declared.document_styles.DocumentStyles.{DocumentStyles}
 use Rattle.kept_elements.specs.declared.kept.Kept.{Kept}
 use Rattle.kept_elements.specs.Changes.{entry_at}
-use Rattle.dirty_walk.specs.Countings.{IsCounted}
 use Rattle.dirty_walk.specs.DocumentStyles.{document_styles}
 use Rattle.kept_elements.specs.Evaluations.{document_kept, evaluated_document}
 use Rattle.referring_elements.specs.Indexes.{IsIndexOf, TellsReferences}
@@ -76,15 +76,15 @@ HasRoomFor room document = (key : ℕ) → IsSome (name_of document key) → key
 
 -- A book stands for its arena's tree, its sheet's text, what its board holds, and whether no edit is planned. It has the
 -- user agent's sheet, that document's styles and the index of its ids and references, room for what is kept of its elements,
--- and, where one of these asks for the start of a reversed counter, what is kept for the two walks of an edit. A settled one keeps
--- what a fresh evaluation does, and uses the keys of its nodes alone; an edit that is planned can be taken back.
-pub record IsBook (arena : Document) (agent : Sheet) (styles : DocumentStyles) (board : Records Kept) (index : Index) (counting : Option Counting) (planned : Option Reversal) (styled : StyledDocument) : Type 0 where
+-- and what is kept for the two walks of an edit. A settled one keeps what a fresh evaluation does, and uses the keys of its nodes
+-- alone; an edit that is planned can be taken back.
+pub record IsBook (arena : Document) (agent : Sheet) (styles : DocumentStyles) (board : Records Kept) (index : Index) (counting : Counting) (planned : Option Reversal) (styled : StyledDocument) : Type 0 where
   pub agent_is : agent ≡ agent_sheet
   pub styles_are : styles ≡ document_styles styled.sheet styled.tree
   pub kept : styled.settled ≡ true → KeepsAll styled
   pub room : HasRoomFor board.room styled.tree
   pub indexed : IsIndexOf index styled.tree
   pub refers : TellsReferences index (evaluated_document (author_sheet styled.sheet styled.tree) styled.tree)
-  pub counted : IsCounted (keyed_source styled) counting
+  pub counts : Counts (keyed_source styled) counting
   pub back : IfSome planned (λ reversal. IsReversal arena reversal)
   pub keys : UsesItsKeys arena planned

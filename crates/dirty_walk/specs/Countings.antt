@@ -1,5 +1,5 @@
 -- What a book keeps for the two walks of an edit (our own, over CSS Lists 3, 4.4).
-use Rattle.std.specs.Prelude.{◌≡◌, ℕ, true, false, List, None, Option, IfSome}
+use Rattle.std.specs.Prelude.{◌≡◌, ℕ, List}
 use Rattle.std.specs.FinMap.{FinMap}
 use Rattle.std.specs.Ordering.{nat_cmp}
 use Rattle.forest.specs.Forest.{Forest}
@@ -10,7 +10,7 @@ use Rattle.generated_texts.specs.StyleElements.{author_sheet}
 use Rattle.merged_walk.specs.declared.stop.Stop.{Stop}
 use Rattle.styled_merge.specs.Laws.{looks_beside}
 use Rattle.styled_merge.specs.StopLaws.{stops_where}
-use Rattle.edit_work.specs.KeyedSources.{KeyedSource, author}
+use Rattle.edit_work.specs.KeyedSources.{KeyedSource}
 use Rattle.started_walk.specs.declared.counting.Counting.{Counting}
 use Rattle.started_walk.specs.Countings.{Counts}
 use Rattle.target_index.specs.declared.index.Index.{Index}
@@ -20,25 +20,19 @@ use Rattle.dirty_walk.specs.declared.local_stops.LocalStops.{LocalStops}
 use Rattle.dirty_walk.specs.declared.read_ahead.ReadAhead.{ReadAhead}
 use Rattle.dirty_walk.specs.Places.{IsLocalEdit}
 use Rattle.dirty_walk.specs.ReadAhead.{StandsRead, WasReadOf}
-use Rattle.dirty_walk.specs.Unstarted.{is_unstarted}
-
--- Of a document in which a box asks for the start of a reversed counter the two walks have what is kept for them, and else nothing.
-pub record IsCounted (source : KeyedSource) (counting : Option Counting) : Type 0 where
-  pub none : counting ≡ None → is_unstarted (author source) source.tree ≡ true
-  pub some : IfSome counting (λ (counting : Counting). (is_unstarted (author source) source.tree ≡ false) × Counts source counting)
 
 -- Whatever document it was kept of, it is still.
-abbrev pub StaysCounted : (old new : Option Counting) → Type 0
-StaysCounted old new = (source : KeyedSource) → IsCounted source old → IsCounted source new
+abbrev pub StaysCounted : (old new : Counting) → Type 0
+StaysCounted old new = (source : KeyedSource) → Counts source old → Counts source new
 
--- A book stands where the edit's walk may begin, this was read before the edit, and this was kept for both walks.
-pub record StandsCounted (edit : Edit) (styles : DocumentStyles) (held : FinMap nat_cmp Kept) (local : LocalStops) (new : Forest (Keyed Node)) (ahead : ReadAhead) (index : Index) (counting : Option Counting) : Type 0 where
+-- A book stands where the edit's walks may begin, this was read before the edit, and this was kept for both walks.
+pub record StandsCounted (edit : Edit) (styles : DocumentStyles) (held : FinMap nat_cmp Kept) (local : LocalStops) (new : Forest (Keyed Node)) (ahead : ReadAhead) (index : Index) (counting : Counting) : Type 0 where
   pub stands : StandsRead edit styles held local new ahead index
-  pub counted : IsCounted (record { tree = stands.before.old; sheet = styles.sheet }) counting
+  pub counts : Counts (record { tree = stands.before.old; sheet = styles.sheet }) counting
 
 -- Some edit that does not change styles everywhere has made this document, of which these are the stops; this was read before it, and
--- this was kept of the document then.
-pub record IsSomeStartedEdit (text : List ℕ) (held : FinMap nat_cmp Kept) (stops : List Stop) (new : Forest (Keyed Node)) (ahead : ReadAhead) (index : Index) (counting : Counting) : Type 0 where
+-- this was kept for both walks of the document then.
+pub record IsSomeCountedEdit (text : List ℕ) (held : FinMap nat_cmp Kept) (stops : List Stop) (new : Forest (Keyed Node)) (ahead : ReadAhead) (index : Index) (counting : Counting) : Type 0 where
   pub edit : Edit
   pub old : Forest (Keyed Node)
   pub at : IsLocalEdit edit text held old new

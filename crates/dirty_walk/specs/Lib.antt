@@ -10,5 +10,4 @@ pub mod Places
 pub mod PlannedEntries
 pub mod Plans
 pub mod ReadAhead
-pub mod Unstarted
 pub mod WorkBounds

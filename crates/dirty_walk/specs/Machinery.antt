@@ -3,12 +3,10 @@ pub mod FormerLists
 pub mod KeptPieces
 pub mod ReferenceLists
 pub mod ReferenceExchanges
-pub mod StartedSteps
 pub mod PlaceReadings
 pub mod EditedArenas
 pub mod NamedElements
 pub mod DocumentWalks
 pub mod SecondWalks
 pub mod CountedEdits
-pub mod PlaceNews
 pub mod SomeNews

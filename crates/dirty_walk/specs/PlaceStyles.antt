@@ -1,4 +1,4 @@
--- Where a book stands while an edit is evaluated, whose walk may begin at its place (our own).
+-- Where a book stands while an edit is evaluated, whose walks may begin at its place (our own).
 use Rattle.std.specs.Prelude.{◌≡◌}
 use Rattle.std.specs.FinMap.{FinMap}
 use Rattle.std.specs.Ordering.{nat_cmp}

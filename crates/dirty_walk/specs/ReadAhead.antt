@@ -1,5 +1,5 @@
 -- What is read of a document before an edit of it is done (our own).
-use Rattle.std.specs.Prelude.{◌≡◌, ℕ, List}
+use Rattle.std.specs.Prelude.{◌≡◌}
 use Rattle.std.specs.FinMap.{FinMap}
 use Rattle.std.specs.Ordering.{nat_cmp}
 use Rattle.forest.specs.Forest.{Forest}
@@ -8,7 +8,6 @@ use Rattle.plain_types.specs.declared.edit.Edit.{Edit}
 use Rattle.plain_types.specs.declared.node.Node.{Node}
 use Rattle.plain_types.specs.declared.sheet.Sheet.{Sheet}
 use Rattle.generated_texts.specs.StyleElements.{author_sheet}
-use Rattle.merged_walk.specs.declared.stop.Stop.{Stop}
 use Rattle.target_index.specs.declared.index.Index.{Index}
 use Rattle.referring_elements.specs.Indexes.{TellsReferences}
 use Rattle.kept_elements.specs.declared.kept.Kept.{Kept}
@@ -18,7 +17,6 @@ use Rattle.dirty_walk.specs.declared.local_stops.LocalStops.{LocalStops}
 use Rattle.dirty_walk.specs.declared.read_ahead.ReadAhead.{ReadAhead}
 use Rattle.dirty_walk.specs.Exchanges.{elements_in, leaving, taken_keys}
 use Rattle.dirty_walk.specs.FormerTargets.{AreFormerTargetsOf}
-use Rattle.dirty_walk.specs.Places.{IsSomePlace}
 use Rattle.dirty_walk.specs.PlaceStyles.{StandsBefore}
 
 -- this was read of a document under the author's sheet before this edit, and the index tells its references
@@ -27,12 +25,7 @@ pub record WasReadOf (edit : Edit) (author : Sheet) (old : Forest (Keyed Node)) 
   pub former : AreFormerTargetsOf edit old ahead.former.now
   pub tells : TellsReferences index (evaluated_document author old)
 
--- some edit has made this document, of which these are the stops, and this was read before it
-pub record IsSomePlaceRead (text : List ℕ) (held : FinMap nat_cmp Kept) (stops : List Stop) (new : Forest (Keyed Node)) (ahead : ReadAhead) (index : Index) : Type 0 where
-  pub place : IsSomePlace text held stops new
-  pub read : WasReadOf place.edit (author_sheet text place.old) place.old ahead index
-
--- the book stands where the edit's walk may begin, and this was read before the edit
+-- the book stands where the edit's walks may begin, and this was read before the edit
 pub record StandsRead (edit : Edit) (styles : DocumentStyles) (held : FinMap nat_cmp Kept) (local : LocalStops) (new : Forest (Keyed Node)) (ahead : ReadAhead) (index : Index) : Type 0 where
   pub before : StandsBefore edit styles held local new
   pub read : WasReadOf edit (author_sheet styles.sheet before.old) before.old ahead index

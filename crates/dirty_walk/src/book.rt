@@ -76,8 +76,8 @@ pub struct Book {
     board: Board<Kept>,
     /// The index of the ids and the references of its elements.
     index: Index,
-    /// What is kept for the two walks of an edit, where a box of the document asks for the start of a reversed counter.
-    counting: Option<Counting>,
+    /// What is kept for the two walks of an edit.
+    counting: Counting,
     /// The way back from an edit that is planned.
     planned: Option<Reversal>,
 }
@@ -226,14 +226,12 @@ impl Book {
     ///
     /// Only what the edit touches is evaluated, and the elements whose styles it can change; and the texts are made again of the
     /// elements that refer to any of these, or to an id that names another element now, and of those that refer to such ones. Where
-    /// a box of the document asks for the start of a reversed counter before the edit, two walks do this: one with all starts 0, and
-    /// one with the starts of the edited document, which also goes to the elements whose starts are others. Where the edit can
-    /// change all styles, and where no box asked for a start before it and one does after it, the edited document is evaluated
-    /// whole, which costs what `begin` costs, and comes on top of the walk that found such a box; where the texts of the sheet and
-    /// of the style elements are as before, none is read. Beside that come the arena's `prepare` and `commit`.
+    /// a box of the document asks for the start of a reversed counter, before the edit or after it, two walks do this: one with all
+    /// starts 0, and one with the starts of the edited document, which also goes to the elements whose starts are others. Where the
+    /// edit can change all styles, the edited document is evaluated whole, which costs what `begin` costs; where the texts of the
+    /// sheet and of the style elements are as before, none is read. Beside that come the arena's `prepare` and `commit`.
     /// What is as before stays where it is, and with it what it has in memory. With those of `commit`, and with one more for each
-    /// entry that comes, its steps are bounded by the work of the edit, except where by the edit a document begins to ask for starts
-    /// and the edit can't change all styles; so are its own where it answers `Memory`.
+    /// entry that comes, its steps are bounded by the work of the edit; so are its own where it answers `Memory`.
     pub fn plan<L: Ledger>(
         &mut self,
         alloc: Global,

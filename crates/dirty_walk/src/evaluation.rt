@@ -10,14 +10,13 @@ ghost use Rattle.kept_elements.specs.Changes.{AreBelow, AreChanges};
 ghost use Rattle.kept_elements.specs.Evaluations.{all_kept_of, document_told};
 ghost use Rattle.referring_elements.specs.References.{said_of};
 ghost use Rattle.referring_elements.specs.Indexes.{IsIndexOf};
+ghost use Rattle.started_walk.specs.Countings.{Counts};
 ghost use Rattle.kept_elements.specs.Known.{IsKeptIn, all_flat_texts_of, known_by};
-ghost use Rattle.dirty_walk.specs.Countings.{IsCounted};
 ghost use Rattle.dirty_walk.specs.Machinery.DocumentWalks.{told_by_index, told_without_starts};
 
 use crate::named_elements::NamedElements;
 use crate::styled_arena::StyledArena;
 use crate::targets::DocumentTargets;
-use crate::unstarted::are_unstarted;
 use box_eval::starts::NoStarts;
 use content_eval::laws::no_reference_is_circular;
 use counter_index::index::CounterIndex;
@@ -47,8 +46,7 @@ use target_index::index::Index;
 pub(crate) struct ToldDocument {
     /// What is told of each element, under its key.
     pub(crate) told: List<(usize, Told)>,
-    /// Where a box asks for the start of a reversed counter.
-    pub(crate) counting: Option<Counting>,
+    pub(crate) counting: Counting,
 }
 
 /// What a walk with all starts 0 tells of a document's elements.
@@ -92,23 +90,6 @@ fn told_by_index<L: Ledger>(
     Ok(told)
 }
 
-/// What is to be kept for both walks of an edit, of a document of whose elements a walk with all starts 0 has told this: nothing
-/// where none of them asks for the start of a reversed counter.
-fn counting_of(
-    alloc: Global,
-    document: &StyledArena,
-    told: &[(usize, Told)],
-) -> Result<Option<Counting>, Memory>
-    requires told { told.now ≡ told_without_starts document.now }
-    ensures counted { IfOk result (λ counting. IsCounted (record { tree = document.now.arena.now.tree; sheet = document.now.styles.now.sheet }) counting) }
-{
-    if are_unstarted(told) {
-        return Ok(None);
-    }
-    let counting = Counting::of(alloc, document.arena, told)?;
-    Ok(Some(counting))
-}
-
 /// What the evaluation tells of a document's elements. One walk, with every start at 0, tells it where no box asks for the
 /// start of a reversed counter. Else that walk tells the starts, and a second one goes with them.
 pub(crate) fn document_told<L: Ledger>(
@@ -118,25 +99,22 @@ pub(crate) fn document_told<L: Ledger>(
 ) -> Result<ToldDocument, Memory>
     ensures told { IfOk result (λ made. made.told ≡ document_told (author_sheet document.now.styles.now.sheet document.now.arena.now.tree) document.now.arena.now.tree) }
     ensures count { IfOk result (λ made. length made.told ≡ element_count (without_keys document.now.arena.now.tree)) }
-    ensures counted { IfOk result (λ made. IsCounted (record { tree = document.now.arena.now.tree; sheet = document.now.styles.now.sheet }) made.counting) }
+    ensures counts { IfOk result (λ made. Counts (record { tree = document.now.arena.now.tree; sheet = document.now.styles.now.sheet }) made.counting) }
     ensures steps { steps.new ≤ steps.old + 6 * element_count (without_keys document.now.arena.now.tree) }
 {
     arena_holds_document(document.arena);
     let first = told_without_starts(alloc, document, steps)?;
-    let records = first.as_slice();
-    let Some(counting) = counting_of(alloc, document, records)? else {
+    let counting = Counting::of(alloc, document.arena, first.as_slice())?;
+    if !counting.index.asks() {
         return Ok(ToldDocument {
             told: first,
-            counting: None,
+            counting,
         });
-    };
+    }
     // What the first walk told is let go before the second one tells it anew.
     drop(first);
     let told = told_by_index(alloc, document, &counting.index, steps)?;
-    Ok(ToldDocument {
-        told,
-        counting: Some(counting),
-    })
+    Ok(ToldDocument { told, counting })
 }
 
 /// The flat texts of a document's elements, of which this is told.

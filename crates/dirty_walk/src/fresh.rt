@@ -6,7 +6,7 @@ ghost use Rattle.generated_texts.specs.Documents.{agent_sheet};
 ghost use Rattle.generated_texts.specs.StyleElements.{author_sheet};
 ghost use Rattle.document_walk.specs.Elements.{element_count};
 ghost use Rattle.dirty_walk.specs.Books.{HasRoomFor, KeepsAll};
-ghost use Rattle.dirty_walk.specs.Countings.{IsCounted};
+ghost use Rattle.started_walk.specs.Countings.{Counts};
 ghost use Rattle.kept_elements.specs.Changes.{AreBelow, Renews};
 ghost use Rattle.dirty_walk.specs.DocumentStyles.{document_styles};
 ghost use Rattle.kept_elements.specs.Evaluations.{document_kept, evaluated_document};
@@ -46,8 +46,8 @@ pub(crate) struct Fresh<K> {
     pub(crate) kept: K,
     /// The index of their ids and references.
     pub(crate) index: Index,
-    /// What is kept for the two walks of an edit, where a box asks for the start of a reversed counter.
-    pub(crate) counting: Option<Counting>,
+    /// What is kept for the two walks of an edit.
+    pub(crate) counting: Counting,
 }
 
 /// A board with what is kept of a document's elements, and the index. One walk evaluates the document, and where a box
@@ -66,7 +66,7 @@ pub(crate) fn fresh_board<L: Ledger>(
     ensures room { IfOk result (λ made. HasRoomFor made.kept.room arena.now.tree) }
     ensures indexed { IfOk result (λ made. IsIndexOf made.index arena.now.tree) }
     ensures refers { IfOk result (λ made. TellsReferences made.index (evaluated_document (author_sheet styles.now.sheet arena.now.tree) arena.now.tree)) }
-    ensures counted { IfOk result (λ made. IsCounted (record { tree = arena.now.tree; sheet = styles.now.sheet }) made.counting) }
+    ensures counts { IfOk result (λ made. Counts (record { tree = arena.now.tree; sheet = styles.now.sheet }) made.counting) }
     ensures steps { steps.new ≤ steps.old + 7 * element_count (without_keys arena.now.tree) }
 {
     arena_holds_document(arena);
@@ -108,7 +108,7 @@ pub(crate) fn fresh_changes<L: Ledger>(
     ensures changes { IfOk result (λ made. Renews board.old.held (document_kept (author_sheet document.now.styles.now.sheet document.now.arena.now.tree) document.now.arena.now.tree) made.kept.items) }
     ensures indexed { IfOk result (λ made. IsIndexOf made.index document.now.arena.now.tree) }
     ensures refers { IfOk result (λ made. TellsReferences made.index (evaluated_document (author_sheet document.now.styles.now.sheet document.now.arena.now.tree) document.now.arena.now.tree)) }
-    ensures counted { IfOk result (λ made. IsCounted (record { tree = document.now.arena.now.tree; sheet = document.now.styles.now.sheet }) made.counting) }
+    ensures counts { IfOk result (λ made. Counts (record { tree = document.now.arena.now.tree; sheet = document.now.styles.now.sheet }) made.counting) }
     ensures room { IfOk result (λ made. AreBelow board.new.room made.kept.items) }
     ensures held { board.new.held ≡ board.old.held }
     ensures grown { board.old.room ≤ board.new.room }

@@ -1,6 +1,6 @@
 //! What an edit makes of a book, once its document is the edited one.
 
-ghost use Rattle.std.specs.Prelude.{◌≡◌, ◌≤◌, ◌+◌, ◌*◌, ℕ, List, None, false, true, is_some, length, unwrap_or, IfNone, IfOk, IfSome, OnErr, OnOk};
+ghost use Rattle.std.specs.Prelude.{◌≡◌, ◌≤◌, ◌+◌, ◌*◌, ℕ, List, None, true, is_some, length, unwrap_or, IfNone, IfOk, IfSome, OnErr, OnOk};
 ghost use Rattle.forest.specs.Forest.{Forest};
 ghost use Rattle.forest.specs.Keys.{Keyed, without_keys};
 ghost use Rattle.plain_types.specs.declared.node.Node.{Node};
@@ -8,10 +8,11 @@ ghost use Rattle.node_arena.specs.Edits.{edited_sheet};
 ghost use Rattle.document_walk.specs.Elements.{element_count};
 ghost use Rattle.target_index.specs.Holders.{is_holder, is_reference};
 ghost use Rattle.kept_elements.specs.Changes.{AreBelow, Renews};
+ghost use Rattle.started_walk.specs.Countings.{Counts};
 ghost use Rattle.dirty_walk.specs.Machinery.CountedEdits.{IsWithinEdit, IsWithinEditElements};
-ghost use Rattle.dirty_walk.specs.Countings.{IsCounted, StandsCounted, StaysCounted};
+ghost use Rattle.dirty_walk.specs.Countings.{StandsCounted, StaysCounted};
 ghost use Rattle.dirty_walk.specs.DocumentStyles.{document_styles, read_styles};
-ghost use Rattle.dirty_walk.specs.Machinery.EditedArenas.{evaluated_after, is_unstarted_after, kept_after, source_after, styles_after};
+ghost use Rattle.dirty_walk.specs.Machinery.EditedArenas.{evaluated_after, kept_after, source_after, styles_after};
 ghost use Rattle.dirty_walk.specs.Exchanges.{IsIndexBefore};
 ghost use Rattle.referring_elements.specs.Indexes.{IsIndexOf, TellsReferences};
 ghost use Rattle.dirty_walk.specs.Machinery.ReferenceExchanges.{HoldersStayReserved};
@@ -77,45 +78,37 @@ pub(crate) struct Renewal {
     pub(crate) changes: Vec<(usize, KeptChange)>,
 }
 
-/// What an edit makes of a book by walks from the stops of the edit, where the key of what it put in is known now: none where there
-/// are no such stops, or where no box asked for the start of a reversed counter and one does now. What the sheets say stays.
+/// What an edit makes of a book by walks from the stops of the edit, where the key of what it put in is known now. What the sheets say
+/// stays.
 fn from_place<L: Ledger>(
     alloc: Global,
     document: &EditedArena,
     ahead: &ReadAhead,
     index: &mut Index,
     board: &mut Board<Kept>,
-    counting: &mut Option<Counting>,
-    stops: Option<LocalStops>,
+    counting: &mut Counting,
+    local: LocalStops,
     steps: &mut Steps<L>,
-) -> Result<Option<Renewal>, Memory>
-    requires place { IfSome stops (λ local. StandsCounted document.now.edit.now document.now.styles.now board.old.held local document.now.arena.now.tree ahead.now index.old counting.old) }
+) -> Result<Renewal, Memory>
+    requires place { StandsCounted document.now.edit.now document.now.styles.now board.old.held local document.now.arena.now.tree ahead.now index.old counting.old }
     requires indexed { IsIndexOf index.old document.now.arena.now.tree }
-    ensures styles { IfOk result (λ found. IfSome found (λ made. unwrap_or made.styles document.now.styles.now ≡ styles_after document.now)) }
-    ensures changes { IfOk result (λ found. IfSome found (λ made. Renews board.old.held (kept_after document.now) made.changes.items)) }
-    ensures counted { IfOk result (λ found. IfSome found (λ _. IsCounted (source_after document.now) counting.new)) }
+    ensures styles { IfOk result (λ made. unwrap_or made.styles document.now.styles.now ≡ styles_after document.now) }
+    ensures changes { IfOk result (λ made. Renews board.old.held (kept_after document.now) made.changes.items) }
+    ensures counts { OnOk result (Counts (source_after document.now) counting.new) }
     ensures stays_counted { OnErr result (StaysCounted counting.old counting.new) }
-    ensures same { IfOk result (λ found. IfNone found (counting.new ≡ counting.old)) }
-    ensures index { IfOk result (λ found. IfSome found (λ made. made.index ≡ None)) }
-    ensures refers { IfOk result (λ found. IfSome found (λ _. TellsReferences index.new (evaluated_after document.now))) }
-    ensures unmoved { IfOk result (λ found. IfNone found ((id : List ℕ) (key : ℕ) → is_reference index.new id key ≡ is_reference index.old id key)) }
+    ensures index { IfOk result (λ made. made.index ≡ None) }
+    ensures refers { OnOk result (TellsReferences index.new (evaluated_after document.now)) }
     ensures err { OnErr result ((id : List ℕ) (key : ℕ) → is_reference index.new id key ≡ is_reference index.old id key) }
     ensures holders { (id : List ℕ) (key : ℕ) → is_holder index.new id key ≡ is_holder index.old id key }
     ensures stay { HoldersStayReserved index.old index.new }
-    ensures starts { IfOk result (λ found. IfNone found (IfSome stops (λ _. is_unstarted_after document.now ≡ false))) }
-    ensures uncounted { IfOk result (λ found. IfNone found (IfSome stops (λ _. counting.old ≡ None))) }
-    ensures room { IfOk result (λ found. IfSome found (λ made. AreBelow board.new.room made.changes.items)) }
+    ensures room { IfOk result (λ made. AreBelow board.new.room made.changes.items) }
     ensures held { board.new.held ≡ board.old.held }
     ensures grown { board.old.room ≤ board.new.room }
-    ensures few { IfOk result (λ found. IfSome found (λ made. IfSome stops (λ local. IsWithinEdit document.now.edit.now document.now.styles.now board.old.held local document.now.arena.now.tree ahead.now index.old counting.old steps.old (steps.new + 2 * length made.changes.items)))) }
-    ensures most { IfSome stops (λ local. IsWithinEdit document.now.edit.now document.now.styles.now board.old.held local document.now.arena.now.tree ahead.now index.old counting.old steps.old steps.new) }
-    ensures walk { IfOk result (λ found. IfNone found (steps.new ≤ steps.old + 4 * element_count (without_keys document.now.arena.now.tree))) }
-    ensures steps { IfSome stops (λ local. IsWithinEditElements document.now.edit.now document.now.styles.now board.old.held local document.now.arena.now.tree ahead.now index.old counting.old steps.old steps.new) }
-    ensures still { IfNone stops (steps.new ≡ steps.old) }
+    ensures few { IfOk result (λ made. IsWithinEdit document.now.edit.now document.now.styles.now board.old.held local document.now.arena.now.tree ahead.now index.old counting.old steps.old (steps.new + 2 * length made.changes.items)) }
+    ensures most { IsWithinEdit document.now.edit.now document.now.styles.now board.old.held local document.now.arena.now.tree ahead.now index.old counting.old steps.old steps.new }
+    ensures steps { IsWithinEditElements document.now.edit.now document.now.styles.now board.old.held local document.now.arena.now.tree ahead.now index.old counting.old steps.old steps.new }
 {
-    let Some(LocalStops { extent, mut stops }) = stops else {
-        return Ok(None);
-    };
+    let LocalStops { extent, mut stops } = local;
     name_inserted_root(document.arena, document.edit, extent, &mut stops);
     let styled = StyledArena {
         arena: document.arena,
@@ -123,14 +116,12 @@ fn from_place<L: Ledger>(
         styles: document.styles,
     };
     let stops = stops.as_slice();
-    match changes_at_place(alloc, &styled, ahead, index, board, counting, stops, steps)? {
-        Some(changes) => Ok(Some(Renewal {
-            styles: None,
-            index: None,
-            changes,
-        })),
-        None => Ok(None),
-    }
+    let changes = changes_at_place(alloc, &styled, ahead, index, board, counting, stops, steps)?;
+    Ok(Renewal {
+        styles: None,
+        index: None,
+        changes,
+    })
 }
 
 /// What an edit makes of a book where the whole document is evaluated. What is kept for both walks is made anew.
@@ -138,12 +129,12 @@ fn from_whole<L: Ledger>(
     alloc: Global,
     document: &EditedArena,
     board: &mut Board<Kept>,
-    counting: &mut Option<Counting>,
+    counting: &mut Counting,
     steps: &mut Steps<L>,
 ) -> Result<Renewal, Memory>
     ensures styles { IfOk result (λ made. unwrap_or made.styles document.now.styles.now ≡ styles_after document.now) }
     ensures changes { IfOk result (λ made. Renews board.old.held (kept_after document.now) made.changes.items) }
-    ensures counted { OnOk result (IsCounted (source_after document.now) counting.new) }
+    ensures counts { OnOk result (Counts (source_after document.now) counting.new) }
     ensures same { OnErr result (counting.new ≡ counting.old) }
     ensures index { IfOk result (λ made. IfSome made.index (λ index. IsIndexOf index document.now.arena.now.tree × TellsReferences index (evaluated_after document.now))) }
     ensures some { IfOk result (λ made. is_some made.index ≡ true) }
@@ -171,14 +162,14 @@ fn from_whole<L: Ledger>(
     })
 }
 
-/// What an edit makes of a book: by walks from its stops, where these tell it, and else by the whole document.
+/// What an edit makes of a book: by walks from its stops, or by the whole document where it has none.
 fn renewed<L: Ledger>(
     alloc: Global,
     document: &EditedArena,
     ahead: &ReadAhead,
     index: &mut Index,
     board: &mut Board<Kept>,
-    counting: &mut Option<Counting>,
+    counting: &mut Counting,
     stops: Option<LocalStops>,
     steps: &mut Steps<L>,
 ) -> Result<Renewal, Memory>
@@ -186,7 +177,7 @@ fn renewed<L: Ledger>(
     requires indexed { IsIndexOf index.old document.now.arena.now.tree }
     ensures styles { IfOk result (λ made. unwrap_or made.styles document.now.styles.now ≡ styles_after document.now) }
     ensures changes { IfOk result (λ made. Renews board.old.held (kept_after document.now) made.changes.items) }
-    ensures counted { OnOk result (IsCounted (source_after document.now) counting.new) }
+    ensures counts { OnOk result (Counts (source_after document.now) counting.new) }
     ensures stays_counted { OnErr result (StaysCounted counting.old counting.new) }
     ensures index { IfOk result (λ made. IfSome made.index (λ index. IsIndexOf index document.now.arena.now.tree × TellsReferences index (evaluated_after document.now))) }
     ensures refers { IfOk result (λ made. IfNone made.index (TellsReferences index.new (evaluated_after document.now))) }
@@ -201,8 +192,8 @@ fn renewed<L: Ledger>(
     ensures steps { IfSome stops (λ local. IsWithinEditElements document.now.edit.now document.now.styles.now board.old.held local document.now.arena.now.tree ahead.now index.old counting.old steps.old steps.new) }
     ensures whole { IfNone stops (steps.new ≤ steps.old + 7 * element_count (without_keys document.now.arena.now.tree)) }
 {
-    match from_place(alloc, document, ahead, index, board, counting, stops, steps)? {
-        Some(made) => Ok(made),
+    match stops {
+        Some(local) => from_place(alloc, document, ahead, index, board, counting, local, steps),
         None => from_whole(alloc, document, board, counting, steps),
     }
 }
@@ -216,7 +207,7 @@ pub(crate) fn evaluated<L: Ledger>(
     ahead: &ReadAhead,
     index: &mut Index,
     board: &mut Board<Kept>,
-    counting: &mut Option<Counting>,
+    counting: &mut Counting,
     gone: &[ElementId],
     stops: Option<LocalStops>,
     steps: &mut Steps<L>,
@@ -225,7 +216,7 @@ pub(crate) fn evaluated<L: Ledger>(
     requires place { IfSome stops (λ local. StandsCounted document.now.edit.now document.now.styles.now board.old.held local document.now.arena.now.tree ahead.now index.old counting.old) }
     ensures styles { IfOk result (λ made. unwrap_or made.styles document.now.styles.now ≡ styles_after document.now) }
     ensures changes { IfOk result (λ made. Renews board.old.held (kept_after document.now) made.changes.items) }
-    ensures counted { OnOk result (IsCounted (source_after document.now) counting.new) }
+    ensures counts { OnOk result (Counts (source_after document.now) counting.new) }
     ensures stays_counted { OnErr result (StaysCounted counting.old counting.new) }
     ensures indexed { IfOk result (λ made. IsIndexOf (unwrap_or made.index index.new) document.now.arena.now.tree) }
     ensures refers { IfOk result (λ made. TellsReferences (unwrap_or made.index index.new) (evaluated_after document.now)) }

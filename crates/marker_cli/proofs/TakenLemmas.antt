@@ -150,7 +150,7 @@ taken_next files depth commands place command versions source taken below is tak
 
 bounds_by : (edit : Edit) (before after : KeyedSource) (old new : ℕ) → IsWithinWork edit before after old new → new ≤ old + change_steps (keyless before) (keyless after)
     → IsWithinBounds edit before after (new - old)
-bounds_by edit before after old new paid sized = record { by_work = λ is. (let within = paid is in omega (arith, within)); by_size = omega (arith, sized) }
+bounds_by edit before after old new paid sized = record { by_work = omega (arith, paid); by_size = omega (arith, sized) }
 
 applied : (edit : Edit) (before after : KeyedSource) (old new : ℕ) → Leads edit before after → IsWithinWork edit before after old new
     → new ≤ old + change_steps (keyless before) (version_after edit (keyless before)) → Applies edit before after old new

@@ -31,8 +31,7 @@ keyless source = record { document = without_keys source.tree; sheet = source.sh
 
 -- What one call takes.
 
--- An edit takes no more than its work allows, where it is one whose work pays for its steps: 24 for each unit, and 24 more. And
--- every edit takes no more than the sizes of both documents allow.
+-- An edit takes no more than its work allows, 24 for each unit and 24 more, and no more than the sizes of both documents allow.
 pub record IsWithinBounds (edit : Edit) (before after : KeyedSource) (steps : ℕ) : Type 0 where
   pub by_work : IsWithinWork edit before after 0 steps
   pub by_size : steps ≤ change_steps (keyless before) (keyless after)

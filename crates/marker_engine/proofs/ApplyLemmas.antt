@@ -38,7 +38,7 @@ allowed_by edit old told bound allowed view within =
 
 -- fewer steps are within the work of an edit too
 pub fewer_within_work : (edit : Edit) (before after : KeyedSource) (from now more : ℕ) → now ≤ more → IsWithinWork edit before after from more → IsWithinWork edit before after from now
-fewer_within_work edit before after from now more few within paid = omega (arith, few, within paid)
+fewer_within_work edit before after from now more few within = omega (arith, few, within)
 
 -- the plan of an edit that is allowed is that of the edit
 pub planned_from : (edit : Edit) (old book : StyledDocument) (plan : Plan) (before after : Forest (Keyed Node)) → IsKeyedDocument before → before ≡ old.tree → IsKeyedDocument after → after ≡ book.tree

@@ -96,12 +96,10 @@ impl Engine {
     /// counts no step.
     ///
     /// Only what the edit touches is evaluated anew, and the elements whose styles it can change; and the texts of what refers
-    /// to these are made again. Where an element asks for a start before the edit, two walks do this, and the elements are
-    /// evaluated too whose starts are others than before. Where the edit can change styles everywhere, and where no element
-    /// asked for a start before it and one does after it, the edited document is evaluated whole, as `start` does it; in the
-    /// second case that comes on top of the walk that found such an element. The work of the edit bounds its steps, after `Memory`
-    /// too, but in that second case. Beside that come the calls of the arena by which
-    /// the edit is done. An entry that is another is put, and one whose element goes is taken.
+    /// to these are made again. Where an element asks for a start, before the edit or after it, two walks do this, and the elements
+    /// are evaluated too whose starts are others than before. Where the edit can change styles everywhere, the edited document is
+    /// evaluated whole, as `start` does it. The work of the edit bounds its steps, after `Memory` too. Beside that come the calls of
+    /// the arena by which the edit is done. An entry that is another is put, and one whose element goes is taken.
     pub fn apply<L: Ledger>(
         &mut self,
         alloc: Global,
@@ -133,10 +131,9 @@ impl Engine {
     ///
     /// Telling takes one step at most for each changed line, on top of what `apply` promises: one for each element that has
     /// such lines, and none for an element of which only counters are other. So it is one more at most for each element of the
-    /// edited document; and where the edit's work bounds the steps of `apply`, the same bound holds with telling. Where a line
-    /// is changed, it takes memory linear in the number of the entries that come and in the lines; and time linear in the nodes
-    /// from the first element to the last that has a changed line, in the texts of these elements, and for each of them in the
-    /// greatest depth of any.
+    /// edited document; and the work of the edit bounds its steps with telling too. Where a line is changed, it takes memory
+    /// linear in the number of the entries that come and in the lines; and time linear in the nodes from the first element to the
+    /// last that has a changed line, in the texts of these elements, and for each of them in the greatest depth of any.
     pub fn apply_and_tell<L: Ledger>(
         &mut self,
         alloc: Global,

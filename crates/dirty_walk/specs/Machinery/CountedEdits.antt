@@ -1,41 +1,25 @@
 -- What an edit takes that is evaluated from its place, by one walk or by two (our own).
-use Rattle.std.specs.Prelude.{◌≡◌, ◌≤◌, ◌+◌, ◌*◌, ℕ, true, List, Option, length}
+use Rattle.std.specs.Prelude.{◌≤◌, ◌+◌, ◌*◌, ℕ, List, length}
 use Rattle.std.specs.FinMap.{FinMap}
 use Rattle.std.specs.Ordering.{nat_cmp}
 use Rattle.forest.specs.Forest.{Forest}
 use Rattle.forest.specs.Keys.{Keyed, without_keys}
 use Rattle.plain_types.specs.declared.edit.Edit.{Edit}
 use Rattle.plain_types.specs.declared.node.Node.{Node}
-use Rattle.node_arena.specs.Edits.{edited_sheet}
-use Rattle.generated_texts.specs.StyleElements.{author_sheet}
 use Rattle.document_walk.specs.Elements.{element_count}
 use Rattle.merged_walk.specs.declared.stop.Stop.{Stop}
-use Rattle.styled_merge.specs.Laws.{looks_beside}
-use Rattle.styled_merge.specs.StopLaws.{stops_where}
 use Rattle.started_walk.specs.declared.counting.Counting.{Counting}
 use Rattle.target_index.specs.declared.index.Index.{Index}
 use Rattle.kept_elements.specs.declared.kept.Kept.{Kept}
 use Rattle.dirty_walk.specs.declared.document_styles.DocumentStyles.{DocumentStyles}
 use Rattle.dirty_walk.specs.declared.local_stops.LocalStops.{LocalStops}
 use Rattle.dirty_walk.specs.declared.read_ahead.ReadAhead.{ReadAhead}
-use Rattle.dirty_walk.specs.Countings.{IsCounted, StandsCounted}
-use Rattle.dirty_walk.specs.Places.{IsLocalEdit, place_work}
-use Rattle.dirty_walk.specs.ReadAhead.{WasReadOf}
-use Rattle.dirty_walk.specs.Unstarted.{is_unstarted}
+use Rattle.dirty_walk.specs.Countings.{IsSomeCountedEdit, StandsCounted}
+use Rattle.dirty_walk.specs.Places.{place_work}
 
--- Some edit that does not change styles everywhere has made this document, of which these are the stops; this was read before it, and
--- this was kept for both walks of the document then, or nothing where no box asked for the start of a reversed counter.
-pub record IsSomeCountedEdit (text : List ℕ) (held : FinMap nat_cmp Kept) (stops : List Stop) (new : Forest (Keyed Node)) (ahead : ReadAhead) (index : Index) (counting : Option Counting) : Type 0 where
-  pub edit : Edit
-  pub old : Forest (Keyed Node)
-  pub at : IsLocalEdit edit text held old new
-  pub stops_are : stops ≡ stops_where (looks_beside text old) edit old new
-  pub read : WasReadOf edit (author_sheet text old) old ahead index
-  pub counted : IsCounted (record { tree = old; sheet = text }) counting
+-- Each is said of every edit by which the document can have become this one.
 
--- Steps. Each is said of every edit by which the document can have become this one.
-
-module _ (text : List ℕ) (held : FinMap nat_cmp Kept) (stops : List Stop) (new : Forest (Keyed Node)) (ahead : ReadAhead) (index : Index) (counting : Option Counting) where
+module _ (text : List ℕ) (held : FinMap nat_cmp Kept) (stops : List Stop) (new : Forest (Keyed Node)) (ahead : ReadAhead) (index : Index) (counting : Counting) where
   -- Between one number of steps and another, with one for each element that goes, are no more than 24 for each unit of the work of
   -- such an edit, and 24 more.
   abbrev pub IsWithinCounted : (before now : ℕ) → Type 0
@@ -49,12 +33,10 @@ module _ (text : List ℕ) (held : FinMap nat_cmp Kept) (stops : List Stop) (new
 
 -- The same of this edit, where the book stands.
 
-module _ (edit : Edit) (styles : DocumentStyles) (held : FinMap nat_cmp Kept) (local : LocalStops) (new : Forest (Keyed Node)) (ahead : ReadAhead) (index : Index) (counting : Option Counting) where
-  -- Of edits by which a document begins to ask for starts it says nothing.
+module _ (edit : Edit) (styles : DocumentStyles) (held : FinMap nat_cmp Kept) (local : LocalStops) (new : Forest (Keyed Node)) (ahead : ReadAhead) (index : Index) (counting : Counting) where
   abbrev pub IsWithinEdit : (before now : ℕ) → Type 0
   IsWithinEdit before now =
       (there : StandsCounted edit styles held local new ahead index counting)
-      → (is_unstarted (author_sheet styles.sheet there.stands.before.old) there.stands.before.old ≡ true → is_unstarted (author_sheet (edited_sheet edit styles.sheet) new) new ≡ true)
       → (now + length ahead.takes.now) ≤ before + 24 * (place_work edit styles.sheet there.stands.before.old new + 1)
 
   abbrev pub IsWithinEditElements : (before now : ℕ) → Type 0

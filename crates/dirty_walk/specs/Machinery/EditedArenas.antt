@@ -1,5 +1,5 @@
 -- What an edit has made of a document and its sheet (our own).
-use Rattle.std.specs.Prelude.{ℕ, Bool, List}
+use Rattle.std.specs.Prelude.{ℕ, List}
 use Rattle.plain_types.specs.declared.sheet.Sheet.{Sheet}
 use Rattle.node_arena.specs.Edits.{edited_sheet}
 use Rattle.generated_texts.specs.StyleElements.{author_sheet}
@@ -10,7 +10,6 @@ use Rattle.kept_elements.specs.declared.kept.Kept.{Kept}
 use Rattle.dirty_walk.specs.DocumentStyles.{document_styles}
 use Rattle.kept_elements.specs.Evaluations.{document_kept, evaluated_document}
 use Rattle.reference_reach.specs.ChangedTargets.{Evaluated}
-use Rattle.dirty_walk.specs.Unstarted.{is_unstarted}
 
 module _ (document : EditedArena) where
   -- the text of the sheet
@@ -33,7 +32,3 @@ module _ (document : EditedArena) where
   -- and what it says of them
   abbrev pub evaluated_after : Evaluated
   evaluated_after = evaluated_document author_after document.arena.now.tree
-
-  -- none of them asks for the start of a reversed counter
-  abbrev pub is_unstarted_after : Bool
-  is_unstarted_after = is_unstarted author_after document.arena.now.tree

@@ -1,5 +1,5 @@
--- What the second walk of an edit tells of a document in which boxes ask for the starts of reversed counters, and what it takes to
--- bring a board to that document by it (our own).
+-- What the second walk of an edit tells of a document, and what it takes to bring a board to that document by it. Where no box asks
+-- for the start of a reversed counter, the first one is the second one too (our own).
 use Rattle.std.specs.Prelude.{◌≡◌, ◌≤◌, ◌+◌, ◌*◌, ℕ, List, length}
 use Rattle.std.specs.FinMap.{FinMap}
 use Rattle.std.specs.Ordering.{nat_cmp}

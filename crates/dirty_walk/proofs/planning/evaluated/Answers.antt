@@ -22,7 +22,7 @@ use Rattle.dirty_walk.specs.Countings.{StandsCounted}
 use Rattle.dirty_walk.specs.Exchanges.{IsIndexBefore, coming, elements_in, exchanges}
 use Rattle.referring_elements.specs.Indexes.{IsIndexOf, TellsReferences}
 use Rattle.started_walk.specs.declared.counting.Counting.{Counting}
-use Rattle.dirty_walk.proofs.CountedLemmas.{paid_by_work}
+use Rattle.dirty_walk.proofs.CountedLemmas.{paid_first}
 use Rattle.dirty_walk.proofs.ExchangeLaws.{index_after, index_back}
 use Rattle.dirty_walk.proofs.ReferenceExchangeLemmas.{ids_add_no_references}
 use Rattle.dirty_walk.proofs.ReferenceLemmas.{exchanges_keep, of_index}
@@ -48,13 +48,13 @@ module _ (edit : Edit) (gone : List ElementId) (before after : Index) (new : For
       ∙ sym (was.indexed id key)
 
 -- before the walks no step is taken
-none_taken : (edit : Edit) (styles : DocumentStyles) (held : FinMap nat_cmp Kept) (new : Forest (Keyed Node)) (ahead : ReadAhead) (index : Index) (counting : Option Counting) (now : ℕ) (stops : Option LocalStops)
+none_taken : (edit : Edit) (styles : DocumentStyles) (held : FinMap nat_cmp Kept) (new : Forest (Keyed Node)) (ahead : ReadAhead) (index : Index) (counting : Counting) (now : ℕ) (stops : Option LocalStops)
     → IfSome stops (λ local. IsWithinEdit edit styles held local new ahead index counting now now)
 none_taken edit styles held new ahead index counting now None = tt
-none_taken edit styles held new ahead index counting now (Some local) = λ there begins.
-    paid_by_work edit styles.sheet held there.stands.before.old new there.stands.before.at ahead index there.stands.read now now (omega arith)
+none_taken edit styles held new ahead index counting now (Some local) = λ there.
+    paid_first edit styles.sheet held there.stands.before.old new there.stands.before.at ahead.takes.now there.stands.read.takes now now (omega arith)
 
-none_of_elements : (edit : Edit) (styles : DocumentStyles) (held : FinMap nat_cmp Kept) (new : Forest (Keyed Node)) (ahead : ReadAhead) (index : Index) (counting : Option Counting) (now : ℕ) (stops : Option LocalStops)
+none_of_elements : (edit : Edit) (styles : DocumentStyles) (held : FinMap nat_cmp Kept) (new : Forest (Keyed Node)) (ahead : ReadAhead) (index : Index) (counting : Counting) (now : ℕ) (stops : Option LocalStops)
     → IfSome stops (λ local. IsWithinEditElements edit styles held local new ahead index counting now now)
 none_of_elements edit styles held new ahead index counting now None = tt
 none_of_elements edit styles held new ahead index counting now (Some local) = λ there. omega arith
@@ -72,7 +72,7 @@ its_references None document index some none = none
 its_references (Some new) document index some none = some
 
 -- before the exchange of ids the document was read
-module _ (edit : Edit) (styles : DocumentStyles) (held : FinMap nat_cmp Kept) (new : Forest (Keyed Node)) (ahead : ReadAhead) (index after : Index) (counting : Option Counting)
+module _ (edit : Edit) (styles : DocumentStyles) (held : FinMap nat_cmp Kept) (new : Forest (Keyed Node)) (ahead : ReadAhead) (index after : Index) (counting : Counting)
     (same : (id : List ℕ) (key : ℕ) → is_reference after id key ≡ is_reference index id key) where
   abbrev still_there : (local : LocalStops) → StandsCounted edit styles held local new ahead index counting → StandsCounted edit styles held local new ahead after counting
   still_there local there = record {
@@ -84,7 +84,7 @@ module _ (edit : Edit) (styles : DocumentStyles) (held : FinMap nat_cmp Kept) (n
         tells = λ id key. same id key ∙ there.stands.read.tells id key;
       };
     };
-    counted = there.counted;
+    counts = there.counts;
   }
 
   still_stands : (stops : Option LocalStops) → IfSome stops (λ local. StandsCounted edit styles held local new ahead index counting)
@@ -95,7 +95,7 @@ module _ (edit : Edit) (styles : DocumentStyles) (held : FinMap nat_cmp Kept) (n
   still_within : (before now : ℕ) (stops : Option LocalStops) → IfSome stops (λ local. IsWithinEdit edit styles held local new ahead after counting before now)
       → IfSome stops (λ local. IsWithinEdit edit styles held local new ahead index counting before now)
   still_within before now None within = tt
-  still_within before now (Some local) within = λ there begins. within (still_there local there) begins
+  still_within before now (Some local) within = λ there. within (still_there local there)
 
   still_within_elements : (before now : ℕ) (stops : Option LocalStops) → IfSome stops (λ local. IsWithinEditElements edit styles held local new ahead after counting before now)
       → IfSome stops (λ local. IsWithinEditElements edit styles held local new ahead index counting before now)

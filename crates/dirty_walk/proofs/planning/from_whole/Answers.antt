@@ -7,7 +7,7 @@ use Rattle.generated_texts.specs.StyleElements.{author_sheet, style_texts}
 use Rattle.node_arena.specs.Edits.{edited_sheet}
 use Rattle.dirty_walk.specs.declared.document_styles.DocumentStyles.{DocumentStyles}
 use Rattle.kept_elements.specs.Changes.{Renews}
-use Rattle.dirty_walk.specs.Countings.{IsCounted}
+use Rattle.started_walk.specs.Countings.{Counts}
 use Rattle.dirty_walk.specs.DocumentStyles.{document_styles}
 use Rattle.referring_elements.specs.Indexes.{TellsReferences}
 use Rattle.kept_elements.specs.Evaluations.{document_kept, evaluated_document}
@@ -37,12 +37,12 @@ returns-clause-changes g c =
     (its_text c.unwrap_or.result.now text (style_texts tree) are)
     c.in_ok-kept.ensures.changes
 
-pub returns-clause-counted : goal.returns-clause-counted
-returns-clause-counted g c =
+pub returns-clause-counts : goal.returns-clause-counts
+returns-clause-counts g c =
     let text = edited_sheet c.args.document.now.edit.now c.args.document.now.styles.now.sheet in
     let tree = c.args.document.now.arena.now.tree in
     let are = chosen c.in_ok-new.new c.as_ref.result c.args.document.now.styles c.unwrap_or.result text tree c.unwrap_or.ensures c.as_ref.ensures.value c.in_ok-new.ensures.styles in
-    subst (λ (text : List ℕ). IsCounted (record { tree = tree; sheet = text }) c.in_ok-kept.field-0.counting) (its_text c.unwrap_or.result.now text (style_texts tree) are) c.in_ok-kept.ensures.counted
+    subst (λ (text : List ℕ). Counts (record { tree = tree; sheet = text }) c.in_ok-kept.field-0.counting) (its_text c.unwrap_or.result.now text (style_texts tree) are) c.in_ok-kept.ensures.counts
 
 pub returns-clause-index : goal.returns-clause-index
 returns-clause-index g c =

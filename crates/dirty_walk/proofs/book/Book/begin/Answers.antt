@@ -3,7 +3,7 @@ use Rattle.std.specs.Str.{chars}
 use Rattle.forest.specs.Keys.{without_keys}
 use Rattle.document_walk.specs.Elements.{element_count}
 use Rattle.generated_texts.specs.StyleElements.{style_texts}
-use Rattle.dirty_walk.proofs.PlanLemmas.{counted_where, its_text, kept_where, under_its_text}
+use Rattle.dirty_walk.proofs.PlanLemmas.{counts_where, its_text, kept_where, under_its_text}
 use Rattle.dirty_walk.proofs.ReferenceLemmas.{refers_where}
 use Rattle.dirty_walk.proofs.BookLemmas.{keeps_entries}
 use Rattle.dirty_walk.proofs.book.Book.begin.Goals as goal
@@ -26,7 +26,7 @@ invariant_of-result g c = record {
   indexed = c.in_ok-board.ensures.indexed;
   refers =
       refers_where c.in_ok-arena.arena.tree c.in_ok-arena.arena.tree c.in_ok-styles.styles.sheet c.in_ok-board.field-0.index c.in_ok-board.field-0.index refl (λ id key. refl) c.in_ok-board.ensures.refers;
-  counted = counted_where c.in_ok-arena.arena.tree c.in_ok-arena.arena.tree c.in_ok-styles.styles.sheet c.in_ok-board.field-0.counting refl c.in_ok-board.ensures.counted;
+  counts = counts_where c.in_ok-arena.arena.tree c.in_ok-arena.arena.tree c.in_ok-styles.styles.sheet c.in_ok-board.field-0.counting refl c.in_ok-board.ensures.counts;
   back = tt;
   keys = c.in_ok-arena.ensures.settled;
 }

@@ -11,7 +11,7 @@ use Rattle.kept_elements.specs.Changes.{puts_of}
 use Rattle.dirty_walk.specs.Books.{StyledDocument, HasRoomFor, UsesItsKeys}
 use Rattle.dirty_walk.specs.DocumentStyles.{document_styles}
 use Rattle.dirty_walk.specs.Plans.{IsPlannedBy, settled_after}
-use Rattle.dirty_walk.proofs.PlanLemmas.{counted_where, index_where, is_settled, kept_where, room_where}
+use Rattle.dirty_walk.proofs.PlanLemmas.{counts_where, index_where, is_settled, kept_where, room_where}
 use Rattle.dirty_walk.proofs.ReferenceLemmas.{refers_where}
 use Rattle.dirty_walk.proofs.SettlingLemmas.{below_of}
 use Rattle.dirty_walk.proofs.BookLemmas.{keeps_entries}
@@ -48,7 +48,7 @@ invariant_of-self g c =
           room_where c.self.inside.arena.tree c.settle.new.self.tree c.self.inside.board.room c.put_changes.new.board.room same grown c.self.invariant.room;
       indexed = index_where c.self.inside.arena.tree c.settle.new.self.tree c.self.inside.index c.self.inside.index same (λ id key. refl) c.self.invariant.indexed;
       refers = refers_where c.self.inside.arena.tree c.settle.new.self.tree c.self.inside.styles.sheet c.self.inside.index c.self.inside.index same (λ id key. refl) c.self.invariant.refers;
-      counted = counted_where c.self.inside.arena.tree c.settle.new.self.tree c.self.inside.styles.sheet c.self.inside.counting same c.self.invariant.counted;
+      counts = counts_where c.self.inside.arena.tree c.settle.new.self.tree c.self.inside.styles.sheet c.self.inside.counting same c.self.invariant.counts;
       back = subst (λ (planned : Option Reversal). IfSome planned (λ reversal. IsReversal c.settle.new.self reversal)) (sym c.take.ensures.after) tt;
       keys =
           let was : c.self.inside.planned ≡ Some c.in-Some.reversal = sym c.take.ensures.value ∙ c.in-Some.is in
@@ -79,7 +79,7 @@ invariant_of-self-in_default g c =
           room_where c.self.inside.arena.tree c.self.inside.arena.tree c.self.inside.board.room c.put_changes.new.board.room refl grown c.self.invariant.room;
       indexed = c.self.invariant.indexed;
       refers = c.self.invariant.refers;
-      counted = c.self.invariant.counted;
+      counts = c.self.invariant.counts;
       back = subst (λ (planned : Option Reversal). IfSome planned (λ reversal. IsReversal c.self.inside.arena reversal)) (sym c.take.ensures.after) tt;
       keys =
           let was : c.self.inside.planned ≡ None = sym c.take.ensures.value ∙ c.in_default.is in

@@ -16,7 +16,7 @@ use Rattle.document_walk.specs.Elements.{element_count}
 use Rattle.snapshot_board.specs.Records.{put_all, take_all}
 use Rattle.kept_elements.specs.declared.kept.Kept.{Kept}
 use Rattle.dirty_walk.specs.Books.{StyledDocument, keyed_source}
-use Rattle.dirty_walk.specs.Countings.{IsCounted}
+use Rattle.started_walk.specs.Countings.{Counts}
 use Rattle.kept_elements.specs.Changes.{AreOthers, TellShown, puts_of}
 use Rattle.kept_elements.specs.Evaluations.{document_kept, evaluated_document}
 use Rattle.target_index.specs.declared.index.Index.{Index}
@@ -85,7 +85,7 @@ evaluated-requires-clause-place g c =
     (edited_sheet c.args.edit.now c.self.inside.styles.sheet) refl ahead c.self.inside.index
     (was_read c.args.edit.now _ c.args.self.now c.self.view_is ahead c.self.inside.index (c.as_slice.ensures.items ∙ c.in_ok-gone.ensures.takes)
     (subst (λ (former : List FormerTarget). AreFormerTargetsOf c.args.edit.now c.args.self.now.tree former) (sym c.as_slice-2.ensures.items) c.in_ok-gone.ensures.former) c.self.invariant.refers)
-    c.self.inside.counting c.self.invariant.counted
+    c.self.inside.counting c.self.invariant.counts
     (ahead_of (λ styled. IfSome c.in_ok-gone.field-0.stops (λ local. local.extent ≡ reach (looks_beside styled.sheet styled.tree) styled.tree c.args.edit.now)) _ _ c.self.view_is c.in_ok-gone.ensures.extent)
     c.in_ok-gone.ensures.local
     (ahead_of (λ styled. IfSome c.in_ok-gone.field-0.stops (λ local. local.stops.items ≡ reach_stops local.extent c.args.edit.now 0 styled.tree)) _ _ c.self.view_is c.in_ok-gone.ensures.stops)
@@ -93,7 +93,7 @@ evaluated-requires-clause-place g c =
 pub invariant_of-self : goal.invariant_of-self
 invariant_of-self g c =
     let none : is_none c.self.inside.planned ≡ true = ap (λ (styled : StyledDocument). styled.settled) c.self.view_is ∙ c.requires.settled in
-    same_document _ _ _ _ _ _ _ _ _ _ _ none c.prepare.ensures.tree (λ were. still_settled _ _ were c.prepare.ensures.tree c.in_err-prepared.ensures.err) refl (omega arith) (λ id key. refl) (λ id key. refl) (λ source counted. counted) c.self.invariant
+    same_document _ _ _ _ _ _ _ _ _ _ _ none c.prepare.ensures.tree (λ were. still_settled _ _ were c.prepare.ensures.tree c.in_err-prepared.ensures.err) refl (omega arith) (λ id key. refl) (λ id key. refl) (λ source counts. counts) c.self.invariant
 
 pub invariant_of-self-in-Ok : goal.invariant_of-self-in-Ok
 invariant_of-self-in-Ok g c =
@@ -117,10 +117,10 @@ invariant_of-self-in-Ok g c =
           (subst (λ (t : List ℕ). TellsReferences (unwrap_or c.in-Ok.made.index c.evaluated.new.index) (evaluated_document (author_sheet t tree) tree))
           (sym (its_text c.replace_styles.new.styles text (style_texts tree) (c.replace_styles.ensures ∙ c.in-Ok.ensures.styles)))
           c.in-Ok.ensures.refers);
-      counted =
-          subst (λ (t : List ℕ). IsCounted (record { tree = tree; sheet = t }) c.evaluated.new.counting)
+      counts =
+          subst (λ (t : List ℕ). Counts (record { tree = tree; sheet = t }) c.evaluated.new.counting)
           (sym (its_text c.replace_styles.new.styles text (style_texts tree) (c.replace_styles.ensures ∙ c.in-Ok.ensures.styles)))
-          c.in-Ok.ensures.counted;
+          c.in-Ok.ensures.counts;
       back = c.commit-reversal.ensures.reversal;
       keys =
           committed _ _ _ _ _ (its_keys c.self.inside.arena c.self.inside.planned none c.self.invariant.keys) c.prepare.ensures.tree c.in_ok-prepared.ensures.reserves
@@ -199,7 +199,7 @@ returns-in-Ok-clause-steps g c =
     (edited_sheet c.args.edit.now c.self.inside.styles.sheet) refl ahead c.self.inside.index
     (was_read c.args.edit.now _ c.args.self.now c.self.view_is ahead c.self.inside.index (c.as_slice.ensures.items ∙ c.in_ok-gone.ensures.takes)
     (subst (λ (former : List FormerTarget). AreFormerTargetsOf c.args.edit.now c.args.self.now.tree former) (sym c.as_slice-2.ensures.items) c.in_ok-gone.ensures.former) c.self.invariant.refers)
-    c.self.inside.counting c.self.invariant.counted
+    c.self.inside.counting c.self.invariant.counts
     (ahead_of (λ styled. IfSome c.in_ok-gone.field-0.stops (λ local. local.extent ≡ reach (looks_beside styled.sheet styled.tree) styled.tree c.args.edit.now)) _ _ c.self.view_is c.in_ok-gone.ensures.extent)
     c.in_ok-gone.ensures.local
     (ahead_of (λ styled. IfSome c.in_ok-gone.field-0.stops (λ local. local.stops.items ≡ reach_stops local.extent c.args.edit.now 0 styled.tree)) _ _ c.self.view_is c.in_ok-gone.ensures.stops)
@@ -266,7 +266,7 @@ returns-clause-steps g c =
     (edited_sheet c.args.edit.now c.self.inside.styles.sheet) refl ahead c.self.inside.index
     (was_read c.args.edit.now _ c.args.self.now c.self.view_is ahead c.self.inside.index (c.as_slice.ensures.items ∙ c.in_ok-gone.ensures.takes)
     (subst (λ (former : List FormerTarget). AreFormerTargetsOf c.args.edit.now c.args.self.now.tree former) (sym c.as_slice-2.ensures.items) c.in_ok-gone.ensures.former) c.self.invariant.refers)
-    c.self.inside.counting c.self.invariant.counted
+    c.self.inside.counting c.self.invariant.counts
     (ahead_of (λ styled. IfSome c.in_ok-gone.field-0.stops (λ local. local.extent ≡ reach (looks_beside styled.sheet styled.tree) styled.tree c.args.edit.now)) _ _ c.self.view_is c.in_ok-gone.ensures.extent)
     c.in_ok-gone.ensures.local
     (ahead_of (λ styled. IfSome c.in_ok-gone.field-0.stops (λ local. local.stops.items ≡ reach_stops local.extent c.args.edit.now 0 styled.tree)) _ _ c.self.view_is c.in_ok-gone.ensures.stops)
@@ -294,7 +294,7 @@ returns-in-Ok-clause-within_work g c =
     text refl ahead c.self.inside.index
     (was_read c.args.edit.now _ c.args.self.now c.self.view_is ahead c.self.inside.index (c.as_slice.ensures.items ∙ c.in_ok-gone.ensures.takes)
     (subst (λ (former : List FormerTarget). AreFormerTargetsOf c.args.edit.now c.args.self.now.tree former) (sym c.as_slice-2.ensures.items) c.in_ok-gone.ensures.former) c.self.invariant.refers)
-    c.self.inside.counting c.self.invariant.counted
+    c.self.inside.counting c.self.invariant.counts
     (ahead_of (λ styled. IfSome c.in_ok-gone.field-0.stops (λ local. local.extent ≡ reach (looks_beside styled.sheet styled.tree) styled.tree c.args.edit.now)) _ _ c.self.view_is c.in_ok-gone.ensures.extent)
     c.in_ok-gone.ensures.local
     (ahead_of (λ styled. IfSome c.in_ok-gone.field-0.stops (λ local. local.stops.items ≡ reach_stops local.extent c.args.edit.now 0 styled.tree)) _ _ c.self.view_is c.in_ok-gone.ensures.stops)
@@ -307,7 +307,7 @@ returns-in-Ok-clause-within_work g c =
     c.replace_styles.new.styles.sheet (its_text c.replace_styles.new.styles text (style_texts tree) (c.replace_styles.ensures ∙ c.in-Ok.ensures.styles)) ahead c.self.inside.index
     (was_read c.args.edit.now _ c.args.self.now c.self.view_is ahead c.self.inside.index (c.as_slice.ensures.items ∙ c.in_ok-gone.ensures.takes)
     (subst (λ (former : List FormerTarget). AreFormerTargetsOf c.args.edit.now c.args.self.now.tree former) (sym c.as_slice-2.ensures.items) c.in_ok-gone.ensures.former) c.self.invariant.refers)
-    c.self.inside.counting c.self.invariant.counted
+    c.self.inside.counting c.self.invariant.counts
     (ahead_of (λ styled. IfSome c.in_ok-gone.field-0.stops (λ local. local.extent ≡ reach (looks_beside styled.sheet styled.tree) styled.tree c.args.edit.now)) _ _ c.self.view_is c.in_ok-gone.ensures.extent)
     c.in_ok-gone.ensures.local
     (ahead_of (λ styled. IfSome c.in_ok-gone.field-0.stops (λ local. local.stops.items ≡ reach_stops local.extent c.args.edit.now 0 styled.tree)) _ _ c.self.view_is c.in_ok-gone.ensures.stops)
@@ -334,7 +334,7 @@ returns-clause-stops_within_work g c =
     text refl ahead c.self.inside.index
     (was_read c.args.edit.now _ c.args.self.now c.self.view_is ahead c.self.inside.index (c.as_slice.ensures.items ∙ c.in_ok-gone.ensures.takes)
     (subst (λ (former : List FormerTarget). AreFormerTargetsOf c.args.edit.now c.args.self.now.tree former) (sym c.as_slice-2.ensures.items) c.in_ok-gone.ensures.former) c.self.invariant.refers)
-    c.self.inside.counting c.self.invariant.counted
+    c.self.inside.counting c.self.invariant.counts
     (ahead_of (λ styled. IfSome c.in_ok-gone.field-0.stops (λ local. local.extent ≡ reach (looks_beside styled.sheet styled.tree) styled.tree c.args.edit.now)) _ _ c.self.view_is c.in_ok-gone.ensures.extent)
     c.in_ok-gone.ensures.local
     (ahead_of (λ styled. IfSome c.in_ok-gone.field-0.stops (λ local. local.stops.items ≡ reach_stops local.extent c.args.edit.now 0 styled.tree)) _ _ c.self.view_is c.in_ok-gone.ensures.stops)
@@ -347,7 +347,7 @@ returns-clause-stops_within_work g c =
           text refl ahead c.self.inside.index
           (was_read c.args.edit.now _ c.args.self.now c.self.view_is ahead c.self.inside.index (c.as_slice.ensures.items ∙ c.in_ok-gone.ensures.takes)
           (subst (λ (former : List FormerTarget). AreFormerTargetsOf c.args.edit.now c.args.self.now.tree former) (sym c.as_slice-2.ensures.items) c.in_ok-gone.ensures.former) c.self.invariant.refers)
-          c.self.inside.counting c.self.invariant.counted
+          c.self.inside.counting c.self.invariant.counts
           (ahead_of (λ styled. IfSome c.in_ok-gone.field-0.stops (λ local. local.extent ≡ reach (looks_beside styled.sheet styled.tree) styled.tree c.args.edit.now)) _ _ c.self.view_is c.in_ok-gone.ensures.extent)
           c.in_ok-gone.ensures.local
           (ahead_of (λ styled. IfSome c.in_ok-gone.field-0.stops (λ local. local.stops.items ≡ reach_stops local.extent c.args.edit.now 0 styled.tree)) _ _ c.self.view_is c.in_ok-gone.ensures.stops)

@@ -6,7 +6,7 @@ use Rattle.kept_elements.specs.News.{is_news}
 use Rattle.dirty_walk.specs.Machinery.SecondWalks.{IsWithinSecond}
 use Rattle.dirty_walk.specs.Machinery.SomeNews.{IsWithinNews}
 use Rattle.dirty_walk.proofs.SecondLemmas.{links, news_read, passed_and_taken, some_news}
-use Rattle.dirty_walk.proofs.started.second_changes.Goals as goal
+use Rattle.dirty_walk.proofs.counted.second_changes.Goals as goal
 
 pub news_of-requires : goal.news_of-requires
 news_of-requires g c =
