@@ -320,6 +320,7 @@ TOO_LARGE = {
     "why, of what stands behind counted siblings", "edits that are undone", "a script of sheets", "a script of shows",
     "elements that come at the end, one after the other", "counters of the root and of its first child, at every element",
     "elements of one id that go at once", "elements of one id that come at once", "elements of one id that move at once",
+    "counters that every element increments", "counters that every element resets, which the root resets too",
 }
 LARGEST = [kind for kind in KINDS if kind.grows == "linear" and kind.name not in TOO_LARGE]
 
