@@ -11,4 +11,4 @@ pub exchange-requires : goal.exchange-requires
 exchange-requires c =
     let room : ℕ = c.args.index.now.deeds.room in
     let item : 2 < room = c.requires.room in
-    record { room = All-cons (IsBelow room) _ _ (omega (arith, item)) (All-cons (IsBelow room) _ [] item (All-nil (IsBelow room))) }
+    record { room = All-cons (IsBelow room) _ (_ ∷ []) (omega (arith, item)) (All-cons (IsBelow room) _ [] item (All-nil (IsBelow room))) }
